@@ -1,0 +1,4 @@
+pub mod Texts
+pub mod Kinds
+pub mod Fault
+pub mod View

@@ -1,0 +1,9 @@
+pub mod Part
+pub mod Kept
+pub mod Numbers
+pub mod Texts
+pub mod Reads
+pub mod LebNumbers
+pub mod Many
+pub mod Answers
+pub mod Languages
