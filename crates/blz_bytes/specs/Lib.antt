@@ -1,0 +1,3 @@
+pub mod Joined
+pub mod PathBytes
+pub mod ToldPlaces
