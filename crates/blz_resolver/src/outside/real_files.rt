@@ -1,0 +1,117 @@
+//! The files of the system.
+ghost use Rattle.std.specs.Prelude.{◌≢◌, Err, None};
+ghost use Rattle.blz_resolver.specs.FilesAnswers.{HasFilesCause};
+
+use crate::files::{Files, FilesFault, Stamp};
+use std::alloc::Global;
+use std::io::Read;
+use std::time::UNIX_EPOCH;
+use std::{fs, io, rt};
+
+const MOST_BYTES: usize = 4_294_967_295;
+
+const CHUNK_BYTES: usize = 65_536;
+
+/// The files that a runtime has. It does not tell what they hold, and follows no links.
+#[derive(Drop)]
+pub struct RealFiles<'r, R> {
+    rt: &'r R,
+    faults: u64,
+}
+
+impl<'r, R: rt::Files> RealFiles<'r, R> {
+    /// The files of this runtime.
+    pub fn new(rt: &'r R) -> RealFiles<'r, R> {
+        RealFiles { rt, faults: 0 }
+    }
+
+    // Counts a failure, and answers it.
+    fn failure<T>(&mut self, kind: io::ErrorKind) -> Result<T, FilesFault>
+        ensures cause { HasFilesCause self.old.faults self.new.faults result }
+        ensures never { (result ≢ Err FilesFault.NotFound) × (result ≢ Err FilesFault.Memory) }
+    {
+        self.faults = self.faults.saturating_add(1);
+        match kind {
+            io::ErrorKind::PermissionDenied => Err(FilesFault::Denied),
+            _ => Err(FilesFault::Failed),
+        }
+    }
+}
+
+fn read_whole<R: rt::Files>(rt: &R, alloc: Global, path: &str) -> io::Result<Vec<u8>> {
+    let mut file = fs::open(rt, path)?;
+    let mut bytes = Vec::new(alloc);
+    let mut chunk = [0u8; CHUNK_BYTES];
+    for _ in 0..u64::MAX {
+        match file.read(&mut chunk) {
+            Ok(0) => return Ok(bytes),
+            Ok(count) => {
+                if bytes.len() > MOST_BYTES - count {
+                    break;
+                }
+                bytes.extend_from_slice(&chunk[..count])?;
+            }
+            // a signal came: the read is tried again
+            Err(error) if error.kind() == io::ErrorKind::Interrupted => {}
+            Err(error) => return Err(error),
+        }
+    }
+    Err(io::Error::from(io::ErrorKind::FileTooLarge))
+}
+
+fn seconds_of(metadata: &fs::Metadata) -> u64 {
+    match metadata.modified() {
+        Ok(time) => match time.duration_since(UNIX_EPOCH) {
+            Ok(since) => since.as_secs(),
+            Err(_) => 0,
+        },
+        Err(_) => 0,
+    }
+}
+
+impl<'r, R: rt::Files> Files for RealFiles<'r, R> {
+    ghost contents = { λ _. None };
+
+    ghost stamps = { λ _. None };
+
+    ghost faults = { λ f. f.faults };
+
+    fn read(&mut self, alloc: Global, path: &str) -> Result<Vec<u8>, FilesFault> {
+        match read_whole(self.rt, alloc, path) {
+            Ok(bytes) => Ok(bytes),
+            Err(error) => match error.kind() {
+                io::ErrorKind::NotFound => Err(FilesFault::NotFound),
+                io::ErrorKind::OutOfMemory => Err(FilesFault::Memory),
+                kind => self.failure(kind),
+            },
+        }
+    }
+
+    fn exists(&mut self, path: &str) -> Result<bool, FilesFault> {
+        match fs::exists(self.rt, path) {
+            Ok(found) => Ok(found),
+            Err(error) => self.failure(error.kind()),
+        }
+    }
+
+    fn canonical(&mut self, alloc: Global, path: &str) -> Result<Option<String>, FilesFault> {
+        if self.exists(path)? {
+            Ok(Some(String::from_str(alloc, path)?))
+        } else {
+            Ok(None)
+        }
+    }
+
+    fn stamp(&mut self, path: &str) -> Result<Stamp, FilesFault> {
+        match fs::metadata(self.rt, path) {
+            Ok(metadata) => Ok(Stamp {
+                size: metadata.len(),
+                changed: seconds_of(&metadata),
+            }),
+            Err(error) => match error.kind() {
+                io::ErrorKind::NotFound => Err(FilesFault::NotFound),
+                kind => self.failure(kind),
+            },
+        }
+    }
+}
