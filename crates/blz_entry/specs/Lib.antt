@@ -1,0 +1,5 @@
+pub mod TextParts
+pub mod Relocated
+pub mod Contents
+pub mod Forms
+pub mod Headers

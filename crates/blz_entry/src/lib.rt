@@ -1,0 +1,27 @@
+//! The entries of DWARF debugging information: units, abbreviations, forms, strings, addresses and ranges.
+#![tactic(auto)]
+
+mod encoding;
+mod field;
+mod form;
+mod place;
+mod ranges;
+mod relocation;
+mod root;
+mod section;
+mod span;
+mod text;
+mod units;
+mod value;
+
+pub use encoding::Encoding;
+pub use field::{address_at, fixed_at, offset_at};
+pub use form::{Field, Form, Makes, Width};
+pub use ranges::RangeAttributes;
+pub use relocation::{Relocation, RelocationMap};
+pub use root::UnitRoot;
+pub use section::{Section, Sections};
+pub use span::Span;
+pub use text::{StrBase, StrPart, StrPlace, Texts};
+pub use units::{UnitHeader, UnitKind};
+pub use value::{AttrValue, form_value};
