@@ -1,3 +1,5 @@
+pub mod CursorValue
 pub mod Joined
 pub mod PathBytes
+pub mod Pieces
 pub mod ToldPlaces

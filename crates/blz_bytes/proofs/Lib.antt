@@ -1,0 +1,3 @@
+pub mod LebLoop
+pub mod NumberLoop
+pub mod ZeroEnded

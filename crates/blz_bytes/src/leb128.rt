@@ -1,0 +1,71 @@
+//! LEB128 numbers (DWARF 5 section 7.6).
+ghost use Rattle.std.specs.Prelude.{◌≡◌, ◌≤◌, ◌<◌, ◌^◌, IfSome, length};
+ghost use Rattle.blz_model.specs.LebNumbers.{leb_in, uleb, sleb};
+
+use blz_model::Leb;
+
+/// The seven-bit groups of a number of at most ten bytes.
+fn leb_at(bytes: &[u8], at: usize) -> Option<(Leb, usize)>
+    ensures value { result ≡ leb_in 10 bytes.now at }
+    ensures within { IfSome result (λ r. (at < r.1) × (r.1 ≤ length bytes.now)) }
+    ensures small { IfSome result (λ r. (r.0.value < r.0.weight) × (r.0.weight ≤ 2 ^ 70)) }
+{
+    if at > bytes.len() {
+        return None;
+    }
+    let mut value: u128 = 0;
+    let mut factor: u128 = 1;
+    for i in 0..10 {
+        if bytes.len() - at <= i {
+            return None;
+        }
+        let byte = bytes[at + i];
+        let low = u128::from(byte % 128);
+        value += low * factor;
+        factor *= 128;
+        if byte < 128 {
+            let leb = Leb {
+                value,
+                weight: factor,
+                negative: byte >= 64,
+            };
+            return Some((leb, at + i + 1));
+        }
+    }
+    None
+}
+
+/// An unsigned number; none where it does not end within ten bytes or the slice, or is 2 ^ 64 or more.
+#[tactic(auto, unfolding(blz_model::specs::LebNumbers::uleb))]
+pub fn uleb_at(bytes: &[u8], at: usize) -> Option<(u64, usize)>
+    ensures value { result ≡ uleb bytes.now at }
+    ensures within { IfSome result (λ r. (at < r.1) × (r.1 ≤ length bytes.now)) }
+{
+    // most numbers have one byte
+    if at < bytes.len() && bytes[at] < 128 {
+        return Some((u64::from(bytes[at]), at + 1));
+    }
+    let (leb, next) = leb_at(bytes, at)?;
+    if leb.value >= 1 << 64 {
+        return None;
+    }
+    Some((leb.value as u64, next))
+}
+
+/// A signed number; none where it does not end within ten bytes or the slice, or does not fit.
+#[tactic(auto, unfolding(blz_model::specs::LebNumbers::sleb))]
+pub fn sleb_at(bytes: &[u8], at: usize) -> Option<(i64, usize)>
+    ensures value { result ≡ sleb bytes.now at }
+    ensures within { IfSome result (λ r. (at < r.1) × (r.1 ≤ length bytes.now)) }
+{
+    let (leb, next) = leb_at(bytes, at)?;
+    let value = if leb.negative {
+        leb.value as i128 - leb.weight as i128
+    } else {
+        leb.value as i128
+    };
+    if value < -(1 << 63) || value >= 1 << 63 {
+        return None;
+    }
+    Some((value as i64, next))
+}
