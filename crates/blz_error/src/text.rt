@@ -54,3 +54,28 @@ impl Str {
         }
     }
 }
+
+/// What serves as the text of an error; takes no memory.
+pub trait IntoCowStr {
+    ghost text_of: { Self → List ℕ };
+
+    /// The same text, as an error keeps it.
+    fn into_cow_str(self) -> Str
+        ensures { result ≡ text_of self };
+}
+
+impl IntoCowStr for &'static str {
+    ghost text_of = { λ text. text.now };
+
+    fn into_cow_str(self) -> Str {
+        Str::fixed(self)
+    }
+}
+
+impl IntoCowStr for String {
+    ghost text_of = { λ text. string_bytes text };
+
+    fn into_cow_str(self) -> Str {
+        Str::owned(self)
+    }
+}
