@@ -1,0 +1,9 @@
+use Rattle.std.proofs.Common.{◌≡◌, ℕ, ◌<◌, ◌≤◌, get_or}
+use Rattle.blz_model.specs.Part.{Good}
+use Rattle.blz_model.specs.Texts.{name_at}
+use Rattle.blz_elf.specs.Images as model
+use Rattle.blz_elf.specs.Names.{name_in}
+use Rattle.blz_elf.proofs.image.check_names.Given as goal
+
+abbrev pub invariant-loop-i : goal.invariant-loop-i
+invariant-loop-i l = (k : ℕ) (d : model.Section) → 1 ≤ k → k < l.i → name_at l.texts (get_or l.sections k d).name_offset ≡ Good (name_in l.texts (get_or l.sections k d))

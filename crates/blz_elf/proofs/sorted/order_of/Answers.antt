@@ -1,0 +1,10 @@
+use Rattle.std.proofs.Common.{map, refl}
+use Rattle.blz_elf.specs.Views.{symbol_view}
+use Rattle.blz_elf.proofs.Search.{accepted}
+use Rattle.blz_elf.proofs.sorted.order_of.Goals as goal
+
+pub returns-then-check_pairs : goal.returns-then-check_pairs
+returns-then-check_pairs g c =
+    rw (← c.deref-3.ensures.value) (accepted c.deref-2.result.now (map symbol_view c.args.typed.now) c.deref-3.result.now
+    (rw (c.deref-2.ensures.value) c.in_ok-keys.ensures)
+    (c.if-check_pairs.ensures.told refl))

@@ -1,0 +1,8 @@
+use Rattle.std.proofs.Common.{◌≡◌, take, filter}
+use Rattle.std.specs.Option.{option_map}
+use Rattle.blz_elf.specs.SymbolRule.{largest, answers}
+use Rattle.blz_elf.specs.Views.{symbol_view}
+use Rattle.blz_elf.proofs.symbols.Symbols.covering.Given as goal
+
+abbrev pub invariant-loop-i : goal.invariant-loop-i
+invariant-loop-i l = option_map symbol_view l.best ≡ largest (filter (answers l.addr l.greatest) (take l.i l.self))

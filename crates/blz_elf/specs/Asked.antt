@@ -1,0 +1,14 @@
+-- What the options of a question ask.
+use Rattle.std.specs.Prelude.{Bool, true, false}
+use Rattle.blz_elf.specs.declared.opts.FindSymOpts.{FindSymOpts}
+use Rattle.blz_elf.specs.declared.opts.FindSymOpts.TheVariants as opts
+
+abbrev pub asks_code_info : FindSymOpts → Bool
+asks_code_info opts.Basic = false
+asks_code_info opts.CodeInfo = true
+asks_code_info opts.CodeInfoAndInlined = true
+
+abbrev pub asks_inlined_fns : FindSymOpts → Bool
+asks_inlined_fns opts.Basic = false
+asks_inlined_fns opts.CodeInfo = false
+asks_inlined_fns opts.CodeInfoAndInlined = true

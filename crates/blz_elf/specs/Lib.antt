@@ -1,0 +1,13 @@
+pub mod Images
+pub mod SymbolRule
+pub mod Names
+pub mod Places
+pub mod Views
+pub mod Frames
+pub mod Accepted
+pub mod Tables
+pub mod CallViews
+pub mod AnswerView
+pub mod Warm
+pub mod Sources
+pub mod Asked

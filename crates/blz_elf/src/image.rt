@@ -1,0 +1,153 @@
+//! An image whose header, section table and section names were read.
+ghost use Rattle.std.specs.Prelude.{◌≡◌, IfOk};
+ghost use Rattle.std.specs.Option.{option_map};
+ghost use Rattle.blz_elf.specs.Images.{elf_of, names_of, section_named, section_called, data_named, holds_bytes, is_relocatable};
+ghost use Rattle.blz_elf.specs.Names.{names_in};
+ghost use Rattle.blz_elf.specs.Views.{section_view};
+ghost use Rattle.blz_model.specs.Part.{Good};
+ghost use Rattle.blz_elf.specs.Images.{header_of, sections_of};
+ghost use Rattle.blz_elf.specs.Views.{header_view};
+ghost use Rattle.blz_elf.specs.Places.{RowsFit, sections_in};
+ghost use Rattle.blz_model.specs.Part.{Exactly};
+ghost use Rattle.blz_elf.specs.Frames.{FrameFits, frame_view};
+
+use crate::header::{Header, RELOCATABLE};
+use crate::section::{NOBITS, Section, SectionTable, data, names};
+use crate::span::{Rows, Span};
+use crate::text::{bytes_at, name};
+use blz_error::Result;
+use std::marker::Model;
+
+/// What stands at the head of an image, as places and numbers.
+#[derive(Clone, Copy)]
+pub struct Frame {
+    pub header: Header,
+    pub sections: Rows,
+    pub texts: Span,
+}
+
+#[derive(Drop)]
+pub struct Image<'b> {
+    bytes: &'b [u8],
+    header: Header,
+    sections: SectionTable<'b>,
+    texts: &'b [u8],
+}
+
+impl<'b> Model for Image<'b> {
+    ghost use Rattle.std.specs.Prelude.{◌≡◌};
+    ghost use Rattle.blz_elf.specs.Images.{Elf, names_of};
+    ghost use Rattle.blz_model.specs.Part.{Good};
+    ghost use Rattle.blz_elf.specs.Views.{header_view};
+    ghost use Rattle.blz_elf.specs.Names.{names_in};
+
+    ghost Value = { Elf };
+
+    ghost view = { λ a. record { image = a.bytes.now; header = header_view a.header; sections = a.sections; names = names_in a.texts.now a.sections } };
+
+    ghost invariant = { λ a. names_of a.texts.now a.sections ≡ Good (names_in a.texts.now a.sections) };
+}
+
+/// Reads each name, so that the first bad one is met.
+fn check_names(texts: &[u8], sections: &SectionTable<'_>) -> Result<()>
+    ensures { Exactly (λ _. names_in texts.now sections.now) result (names_of texts.now sections.now) }
+{
+    for i in 1..sections.len() {
+        name(texts, sections.at(i).name)?;
+    }
+    Ok(())
+}
+
+/// What stands at the head of an image whose header and section table were read.
+#[tactic(auto, unfolding(crate::specs::Images::elf_of))]
+pub fn read_frame(image: &[u8], header: Header, rows: Rows) -> Result<Frame>
+    requires header { header_of image.now ≡ Good (header_view header) }
+    requires rows { sections_of image.now (header_view header) ≡ Good (sections_in image.now rows) }
+    requires fits { RowsFit 64 image.now rows }
+    ensures value { Exactly (frame_view image.now) result (elf_of image.now) }
+    ensures fits { IfOk result (FrameFits image.now) }
+{
+    let sections = SectionTable::open(image, rows);
+    let texts = names(image, &header, &sections)?;
+    check_names(&image[texts.at..texts.at + texts.len], &sections)?;
+    Ok(Frame {
+        header,
+        sections: rows,
+        texts,
+    })
+}
+
+impl<'b> Image<'b> {
+    /// The image of a frame.
+    pub fn open(bytes: &'b [u8], frame: Frame) -> Image<'b>
+        requires { FrameFits bytes.now frame }
+        ensures { result ≡ frame_view bytes.now frame }
+    {
+        Image {
+            bytes,
+            header: frame.header,
+            sections: SectionTable::open(bytes, frame.sections),
+            texts: &bytes[frame.texts.at..frame.texts.at + frame.texts.len],
+        }
+    }
+
+    /// The first section of that name, from 1 up.
+    pub fn find(&self, name: &str) -> Option<usize>
+        ensures { result ≡ section_named self.now name.now }
+    {
+        for i in 1..self.sections.len() {
+            if let Some(text) = bytes_at(self.texts, self.sections.at(i).name) {
+                if text == name.as_bytes() {
+                    return Some(i);
+                }
+            }
+        }
+        None
+    }
+
+    pub fn bytes(&self) -> &'b [u8]
+        ensures { result.now ≡ self.now.image }
+    {
+        self.bytes
+    }
+
+    #[tactic(auto, unfolding(crate::specs::Images::section_called))]
+    pub fn section_called(&self, name: &str) -> Option<Section>
+        ensures { option_map section_view result ≡ section_called self.now name.now }
+    {
+        let index = self.find(name)?;
+        if index < self.sections.len() {
+            Some(self.sections.at(index))
+        } else {
+            None
+        }
+    }
+
+    /// The data of the first section of that name, nothing where there is none.
+    #[tactic(auto, unfolding(crate::specs::Images::data_named))]
+    pub fn data_named(&self, name: &str) -> Result<&'b [u8]>
+        ensures { Exactly (λ d. d.now) result (data_named self.now name.now) }
+    {
+        match self.section_called(name) {
+            Some(section) => data(self.bytes, &section),
+            None => Ok(&[]),
+        }
+    }
+
+    /// Whether a section of that name is there, not NOBITS, and of a size that is not 0.
+    pub fn holds_bytes(&self, name: &str) -> bool
+        ensures { result ≡ holds_bytes self.now name.now }
+    {
+        match self.section_called(name) {
+            Some(section) => section.kind != NOBITS && section.size != 0,
+            None => false,
+        }
+    }
+
+    /// Whether the image is a relocatable file.
+    pub fn is_relocatable(&self) -> bool
+        ensures { result ≡ is_relocatable self.now }
+    {
+        self.header.file_type == RELOCATABLE
+    }
+}

@@ -1,0 +1,24 @@
+//! An ELF image: its sections, and the symbols of its addresses.
+#![tactic(auto)]
+
+mod answer;
+mod fill;
+mod header;
+mod image;
+mod lookup;
+mod number;
+mod opts;
+mod parser;
+mod section;
+mod sorted;
+mod span;
+mod symbols;
+mod table;
+mod text;
+mod warm;
+
+pub use answer::{Answer, CodeInfo, InlinedFn, InlinedFns, ResolvedSym};
+pub use blz_model::{Reason, SrcLang};
+pub use opts::FindSymOpts;
+pub use parser::ElfParser;
+pub use warm::ElfWarm;

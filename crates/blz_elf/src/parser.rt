@@ -1,0 +1,318 @@
+//! One image, as it is asked.
+ghost use Rattle.std.specs.Prelude.{◌≡◌, true, false, IfOk, IfErr};
+ghost use Rattle.std.specs.Option.{option_map};
+ghost use Rattle.blz_model.specs.Part.{Part, Gives};
+ghost use Rattle.blz_elf.specs.Images.{header_of, elf_of, image_sections, image_section, image_section_data, image_data_named, image_holds_bytes, image_is_relocatable};
+ghost use Rattle.blz_elf.specs.SymbolRule.{image_symbol};
+ghost use Rattle.blz_model.specs.Kept.{Kept, is_kept};
+ghost use Rattle.blz_elf.specs.AnswerView.{answer_view};
+ghost use Rattle.blz_elf.specs.SymbolRule.{symtab_of, symbol_for, SymbolTable};
+ghost use Rattle.blz_elf.specs.Warm.{Fits, is_sorted, warm_prepared};
+ghost use Rattle.blz_elf.specs.Places.{RowsFit, sections_in};
+ghost use Rattle.blz_model.specs.Part.{Exactly};
+ghost use Rattle.blz_elf.specs.Tables.{table_of, TableFits, table_view};
+ghost use Rattle.blz_elf.specs.Views.{header_view};
+ghost use Rattle.blz_elf.specs.Frames.{FrameFits, frame_view};
+
+use crate::answer::Answer;
+use crate::fill::{fill, fill_table, look, sort_table};
+use crate::header::{Header, read_header};
+use crate::image::{Frame, Image, read_frame};
+use crate::opts::FindSymOpts;
+use crate::section::{SectionTable, data, sections};
+use crate::span::Rows;
+use crate::warm::ElfWarm;
+use blz_bytes::Orders;
+use blz_error::{Error, ErrorKind, Result, Str};
+use blz_model::Cache;
+use std::alloc::{AllocError, Global};
+use std::marker::Model;
+
+/// One ELF image: its sections, and the symbols of its addresses. What was read is kept.
+#[derive(Drop)]
+pub struct ElfParser<'b> {
+    image: &'b [u8],
+    module: Option<&'b str>,
+    warm: ElfWarm,
+}
+
+impl<'b> Model for ElfParser<'b> {
+    ghost use Rattle.std.specs.Option.{option_map};
+    ghost use Rattle.blz_elf.specs.Sources.{Source};
+    ghost use Rattle.blz_elf.specs.Warm.{Fits};
+
+    ghost Value = { Source };
+
+    ghost view = { λ p. record { image = p.image.now; module_name = option_map (λ m. m.now) p.module; prepared = p.warm.prepared } };
+
+    ghost invariant = { λ p. Fits p.image.now p.warm };
+}
+
+impl<'b> ElfParser<'b> {
+    /// A parser of an image, named `module` in its answers; reads nothing.
+    pub fn from_mem(alloc: Global, image: &'b [u8], module: Option<&'b str>) -> ElfParser<'b>
+        ensures image { result.image ≡ image.now }
+        ensures module_name { result.module_name ≡ option_map (λ m. m.now) «module».entry }
+        ensures prepared { result.prepared ≡ false }
+    {
+        let warm = ElfWarm {
+            header: Cache::Empty,
+            sections: Cache::Empty,
+            frame: Cache::Empty,
+            table: Cache::Empty,
+            prepared: false,
+            alloc,
+        };
+        ElfParser {
+            image,
+            module,
+            warm,
+        }
+    }
+
+    /// The name of the image in its answers.
+    pub fn module(&self) -> Option<&'b str>
+        ensures { option_map (λ m. m.now) result ≡ self.now.module_name }
+    {
+        self.module
+    }
+
+    /// The bytes of the image.
+    pub fn image(&self) -> &'b [u8]
+        ensures { result.now ≡ self.now.image }
+    {
+        self.image
+    }
+
+    /// Whether `prepare` has filled each cache.
+    pub fn is_prepared(&self) -> bool
+        ensures { result ≡ self.now.prepared }
+    {
+        self.warm.prepared
+    }
+
+    /// The header.
+    fn header(&mut self) -> Result<Header>
+        ensures value { Exactly header_view result (header_of self.old.image) }
+        ensures same { self.new ≡ self.old }
+    {
+        match &self.warm.header {
+            Cache::Value(header) => Ok(*header),
+            Cache::Mark(kind) => Err(Error::new(*kind, Str::fixed("header"))),
+            Cache::Empty => match read_header(self.image) {
+                Ok(header) => {
+                    self.warm.header = Cache::Value(header);
+                    Ok(header)
+                },
+                Err(e) => {
+                    self.warm.header = Cache::Mark(e.kind());
+                    Err(e)
+                },
+            },
+        }
+    }
+
+    #[tactic(auto, unfolding(crate::specs::Images::image_sections))]
+    fn rows(&mut self) -> Result<Rows>
+        ensures value { Exactly (sections_in self.old.image) result (image_sections self.old.image) }
+        ensures fits { IfOk result (RowsFit 64 self.old.image) }
+        ensures same { self.new ≡ self.old }
+    {
+        match &self.warm.sections {
+            Cache::Value(rows) => Ok(*rows),
+            Cache::Mark(kind) => Err(Error::new(*kind, Str::fixed("section table"))),
+            Cache::Empty => {
+                let header = self.header();
+                let read = match &header {
+                    Ok(header) => sections(self.image, header),
+                    Err(e) => Err(Error::new(e.kind(), Str::fixed("header"))),
+                };
+                match read {
+                    Ok(rows) => {
+                        self.warm.sections = Cache::Value(rows);
+                        Ok(rows)
+                    },
+                    Err(e) => {
+                        self.warm.sections = Cache::Mark(e.kind());
+                        Err(e)
+                    },
+                }
+            },
+        }
+    }
+
+    #[tactic(auto, unfolding(crate::specs::Images::elf_of, crate::specs::Images::image_sections))]
+    fn read_frame(&mut self) -> Result<Frame>
+        ensures value { Exactly (frame_view self.old.image) result (elf_of self.old.image) }
+        ensures fits { IfOk result (FrameFits self.old.image) }
+        ensures same { self.new ≡ self.old }
+    {
+        let header = self.header()?;
+        let rows = self.rows()?;
+        read_frame(self.image, header, rows)
+    }
+
+    fn frame(&mut self) -> Result<Frame>
+        ensures value { Exactly (frame_view self.old.image) result (elf_of self.old.image) }
+        ensures fits { IfOk result (FrameFits self.old.image) }
+        ensures same { self.new ≡ self.old }
+    {
+        match &self.warm.frame {
+            Cache::Value(frame) => Ok(*frame),
+            Cache::Mark(kind) => Err(Error::new(*kind, Str::fixed("names"))),
+            Cache::Empty => match self.read_frame() {
+                Ok(frame) => {
+                    self.warm.frame = Cache::Value(frame);
+                    Ok(frame)
+                },
+                Err(e) => {
+                    self.warm.frame = Cache::Mark(e.kind());
+                    Err(e)
+                },
+            },
+        }
+    }
+
+    /// The image as it was read, with its names.
+    fn parts(&mut self) -> Result<Image<'b>>
+        ensures value { Exactly (λ e. e) result (elf_of self.old.image) }
+        ensures bytes { IfOk result (λ e. e.image ≡ self.old.image) }
+        ensures same { self.new ≡ self.old }
+    {
+        let frame = self.frame()?;
+        Ok(Image::open(self.image, frame))
+    }
+
+    /// The index of the first section of that name, from 1 up (ELF gABI, Sections). Refused by the first mark of
+    /// header, section table and section names: InvalidData, InvalidInput or Unsupported.
+    #[tactic(auto, unfolding(crate::specs::Images::image_section))]
+    pub fn find_section(&mut self, name: &str) -> Result<Option<usize>>
+        ensures value { Exactly (λ i. i) result (image_section self.old.image name.now) }
+        ensures same { self.new ≡ self.old }
+    {
+        let parts = self.parts()?;
+        Ok(parts.find(name))
+    }
+
+    /// The data of the section at an index (ELF gABI, Sections), nothing of a NOBITS one. InvalidInput where the index
+    /// lies outside the table, InvalidData where the bytes lie past the image, Unsupported where they are compressed.
+    #[tactic(auto, unfolding(crate::specs::Images::image_section_data))]
+    pub fn section_data(&mut self, idx: usize) -> Result<&'b [u8]>
+        ensures value { Exactly (λ d. d.now) result (image_section_data self.old.image idx) }
+        ensures same { self.new ≡ self.old }
+    {
+        let rows = self.rows()?;
+        let sections = SectionTable::open(self.image, rows);
+        if idx >= sections.len() {
+            return Err(Error::new(ErrorKind::InvalidInput, Str::fixed("section index")));
+        }
+        data(self.image, &sections.at(idx))
+    }
+
+    /// The data of the first section of that name, nothing where there is none; refused as `find_section` and
+    /// `section_data` are.
+    #[tactic(auto, unfolding(crate::specs::Images::image_data_named))]
+    pub fn data_named(&mut self, name: &str) -> Result<&'b [u8]>
+        ensures value { Exactly (λ d. d.now) result (image_data_named self.old.image name.now) }
+        ensures same { self.new ≡ self.old }
+    {
+        self.parts()?.data_named(name)
+    }
+
+    /// Whether a section of that name is there, not NOBITS, and of a size that is not 0; refused as `find_section` is.
+    #[tactic(auto, unfolding(crate::specs::Images::image_holds_bytes))]
+    pub fn holds_bytes(&mut self, name: &str) -> Result<bool>
+        ensures value { Exactly (λ b. b) result (image_holds_bytes self.old.image name.now) }
+        ensures same { self.new ≡ self.old }
+    {
+        Ok(self.parts()?.holds_bytes(name))
+    }
+
+    /// Whether the image is a relocatable file; refused as `find_section` is.
+    #[tactic(auto, unfolding(crate::specs::Images::image_is_relocatable))]
+    pub fn is_relocatable(&mut self) -> Result<bool>
+        ensures value { Exactly (λ b. b) result (image_is_relocatable self.old.image) }
+        ensures same { self.new ≡ self.old }
+    {
+        Ok(self.parts()?.is_relocatable())
+    }
+
+    /// The symbol of an address: of the symbols with the greatest value up to it, the largest that is defined and covers
+    /// it (ELF gABI, Symbol Table). Refused as `find_section` is, and by a broken table or name of that symbol.
+    #[tactic(auto, unfolding(crate::specs::SymbolRule::image_symbol, crate::specs::SymbolRule::symbol_for, crate::specs::Tables::table_of))]
+    pub fn find_sym<O: Orders>(
+        &mut self,
+        alloc: Global,
+        orders: &mut O,
+        addr: u64,
+        opts: &FindSymOpts,
+    ) -> Result<Answer<'b>>
+        ensures value { Gives answer_view result (image_symbol self.old.image self.old.module_name addr) }
+        ensures same { self.new ≡ self.old }
+    {
+        let parts = self.parts()?;
+        fill_table(&mut self.warm.table, &parts);
+        sort_table(alloc, orders, self.image, &mut self.warm.table)?;
+        look(alloc, self.module, &parts, &self.warm.table, addr)
+    }
+
+    /// Puts each part into a cache, as its value or its mark's kind, for `find_sym_prepared`.
+    #[tactic(auto, unfolding(crate::specs::Tables::table_of))]
+    pub fn prepare<O: Orders>(
+        &mut self,
+        alloc: Global,
+        orders: &mut O,
+    ) -> std::result::Result<(), AllocError>
+        ensures image { self.new.image ≡ self.old.image }
+        ensures module_name { self.new.module_name ≡ self.old.module_name }
+        ensures prepared { IfOk result (λ _. self.new.prepared ≡ true) }
+        ensures refused { IfErr result (λ _. self.new.prepared ≡ self.old.prepared) }
+    {
+        let read = self.frame();
+        fill(&mut self.warm, self.image, read);
+        sort_table(alloc, orders, self.image, &mut self.warm.table)?;
+        self.warm.prepared = true;
+        Ok(())
+    }
+
+    /// The symbol of an address, as `find_sym` has it, from what is kept: it takes no memory.
+    #[tactic(auto, unfolding(crate::specs::SymbolRule::image_symbol, crate::specs::SymbolRule::symbol_for, crate::specs::Tables::table_of))]
+    pub fn find_sym_prepared(&self, addr: u64) -> Result<Answer<'b>>
+        requires { self.now.prepared ≡ true }
+        ensures { Exactly answer_view result (image_symbol self.now.image self.now.module_name addr) }
+    {
+        match &self.warm.frame {
+            Cache::Value(frame) => look(
+                self.warm.alloc,
+                self.module,
+                &Image::open(self.image, *frame),
+                &self.warm.table,
+                addr,
+            ),
+            Cache::Mark(kind) => Err(Error::new(*kind, Str::fixed("names"))),
+            Cache::Empty => unreachable!(),
+        }
+    }
+
+    /// What is kept, without the image.
+    pub fn into_warm(self) -> ElfWarm
+        ensures fits { Fits self.entry.image result }
+        ensures prepared { warm_prepared result ≡ self.entry.prepared }
+    {
+        self.warm
+    }
+
+    /// A parser of the image that the kept parts fit.
+    pub fn from_warm(image: &'b [u8], module: Option<&'b str>, warm: ElfWarm) -> ElfParser<'b>
+        requires { Fits image.now warm }
+        ensures image { result.image ≡ image.now }
+        ensures module_name { result.module_name ≡ option_map (λ m. m.now) «module».entry }
+        ensures prepared { result.prepared ≡ warm_prepared warm }
+    {
+        ElfParser {
+            image,
+            module,
+            warm,
+        }
+    }
+}

@@ -1,0 +1,205 @@
+//! The symbols of the asked types, in order.
+ghost use Rattle.std.specs.Prelude.{◌≡◌, ℕ, ◌<◌, ◌≤◌, true, List, length, map, filter, get_or, IfOk, IfSome};
+ghost use Rattle.std.specs.Option.{option_map};
+ghost use Rattle.blz_elf.specs.SymbolRule as model;
+ghost use Rattle.blz_elf.specs.Views.{symbol_view};
+ghost use Rattle.blz_elf.specs.Tables.{Sorts};
+ghost use Rattle.blz_bytes.specs.ToldPlaces.{counting};
+ghost use Rattle.blz_elf.specs.Accepted.{AreKeys, is_typed, no_symbol, at_place, IsAccepted, KeyBefore, PairsRise, SplitsAt, SplitsBelow, may_answer};
+
+use crate::symbols::{Symbol, Symbols, covers};
+use blz_bytes::{Key, Orders};
+use std::alloc::{AllocError, Global};
+
+/// The symbols of the asked types, and an order of them that was accepted.
+#[derive(Drop)]
+pub struct Sorted {
+    pub typed: Vec<Symbol>,
+    pub order: Option<Vec<usize>>,
+}
+
+fn before(a: &Key, i: usize, b: &Key, j: usize) -> bool
+    ensures told { result ≡ true → KeyBefore a.now i b.now j }
+    ensures exact { KeyBefore a.now i b.now j → result ≡ true }
+{
+    a.first < b.first
+        || a.first == b.first && (a.second < b.second || a.second == b.second && i < j)
+}
+
+/// Whether the places are as many as the keys, and (first, second, place) rises from each to the next.
+pub fn check_pairs(keys: &[Key], places: &[usize]) -> bool
+    ensures told { result ≡ true → PairsRise keys.now places.now }
+    ensures exact { PairsRise keys.now places.now → result ≡ true }
+{
+    if places.len() != keys.len() {
+        return false;
+    }
+    for k in 0..places.len() {
+        if places[k] >= keys.len() {
+            return false;
+        }
+        if k > 0
+            && !before(
+                &keys[places[k - 1]],
+                places[k - 1],
+                &keys[places[k]],
+                places[k],
+            )
+        {
+            return false;
+        }
+    }
+    true
+}
+
+/// The symbol at the k-th place.
+fn symbol_at_place(typed: &[Symbol], places: &[usize], k: usize) -> Symbol
+    requires accepted { IsAccepted (map symbol_view typed.now) places.now }
+    requires inside { k < length places.now }
+    ensures { symbol_view result ≡ at_place (map symbol_view typed.now) places.now k }
+{
+    typed[places[k]]
+}
+
+/// How many places have a value up to an address.
+fn count_up_to(typed: &[Symbol], places: &[usize], addr: u64) -> usize
+    requires accepted { IsAccepted (map symbol_view typed.now) places.now }
+    ensures { SplitsAt (map symbol_view typed.now) places.now result addr }
+{
+    let mut low = 0;
+    let mut high = places.len();
+    while low < high {
+        let middle = low + (high - low) / 2;
+        if symbol_at_place(typed, places, middle).value <= addr {
+            low = middle + 1;
+        } else {
+            high = middle;
+        }
+    }
+    low
+}
+
+/// How many places have a value below another.
+fn count_below(typed: &[Symbol], places: &[usize], value: u64) -> usize
+    requires accepted { IsAccepted (map symbol_view typed.now) places.now }
+    ensures { SplitsBelow (map symbol_view typed.now) places.now result value }
+{
+    if value == 0 {
+        return 0;
+    }
+    count_up_to(typed, places, value - 1)
+}
+
+fn may_answer(symbol: &Symbol, addr: u64) -> bool
+    ensures { result ≡ may_answer addr (symbol_view symbol.now) }
+{
+    symbol.section != 0 && covers(symbol, addr)
+}
+
+/// The symbol that covers an address, by an order.
+fn search(typed: &[Symbol], places: &[usize], addr: u64) -> Option<Symbol>
+    requires accepted { IsAccepted (map symbol_view typed.now) places.now }
+    requires typed { (i : ℕ) → i < length (map symbol_view typed.now) → is_typed (get_or (map symbol_view typed.now) i no_symbol) ≡ true }
+    ensures { option_map symbol_view result ≡ model.covering (map symbol_view typed.now) addr }
+{
+    let end = count_up_to(typed, places, addr);
+    if end == 0 {
+        return None;
+    }
+    let greatest = symbol_at_place(typed, places, end - 1).value;
+    let begin = count_below(typed, places, greatest);
+    for k in begin..end {
+        let symbol = symbol_at_place(typed, places, k);
+        if may_answer(&symbol, addr) {
+            return Some(symbol);
+        }
+    }
+    None
+}
+
+fn is_typed(symbol: &Symbol) -> bool
+    ensures { result ≡ is_typed (symbol_view symbol.now) }
+{
+    matches!(symbol.kind, 0 | 1 | 2 | 10)
+}
+
+fn typed_of(alloc: Global, symbols: &Symbols<'_>) -> Result<Vec<Symbol>, AllocError>
+    ensures { IfOk result (λ v. map symbol_view v.items ≡ filter is_typed symbols.now) }
+{
+    let mut typed = Vec::new(alloc);
+    for i in 0..symbols.len() {
+        let symbol = symbols.at(i);
+        if is_typed(&symbol) {
+            typed.push(symbol)?;
+        }
+    }
+    Ok(typed)
+}
+
+/// What each symbol is sorted by: its value, then its size downwards.
+fn keys_of(alloc: Global, typed: &[Symbol]) -> Result<Vec<Key>, AllocError>
+    ensures { IfOk result (λ v. AreKeys v.items (map symbol_view typed.now)) }
+{
+    let mut keys = Vec::new(alloc);
+    for symbol in typed {
+        keys.push(Key {
+            first: symbol.value,
+            second: u64::MAX - symbol.size,
+        })?;
+    }
+    Ok(keys)
+}
+
+/// The places 0, 1, 2 and so on.
+fn first_places(alloc: Global, count: usize) -> Result<Vec<usize>, AllocError>
+    ensures { IfOk result (λ v. v.items ≡ counting count) }
+{
+    let mut places = Vec::with_capacity(alloc, count)?;
+    for place in 0..count {
+        places.push(place)?;
+    }
+    Ok(places)
+}
+
+/// An order, if the one that was handed in passes the check.
+fn order_of<O: Orders>(
+    alloc: Global,
+    orders: &mut O,
+    typed: &[Symbol],
+) -> Result<Option<Vec<usize>>, AllocError>
+    ensures { IfOk result (λ o. IfSome o (λ o. IsAccepted (map symbol_view typed.now) o.items)) }
+{
+    let keys = keys_of(alloc, typed)?;
+    let mut places = first_places(alloc, keys.len())?;
+    orders.by_pair(&keys, &mut places);
+    if check_pairs(&keys, &places) {
+        Ok(Some(places))
+    } else {
+        Ok(None)
+    }
+}
+
+impl Sorted {
+    pub fn read<O: Orders>(
+        alloc: Global,
+        orders: &mut O,
+        symbols: &Symbols<'_>,
+    ) -> Result<Sorted, AllocError>
+        ensures { IfOk result (Sorts symbols.now) }
+    {
+        let typed = typed_of(alloc, symbols)?;
+        let order = order_of(alloc, orders, &typed)?;
+        Ok(Sorted { typed, order })
+    }
+
+    /// The symbol that covers an address: by the order, or by a scan.
+    pub fn covering(&self, symbols: &Symbols<'_>, addr: u64) -> Option<Symbol>
+        requires { Sorts symbols.now self.now }
+        ensures { option_map symbol_view result ≡ model.covering symbols.now addr }
+    {
+        match &self.order {
+            Some(places) => search(&self.typed, places, addr),
+            None => symbols.covering(addr),
+        }
+    }
+}

@@ -1,0 +1,35 @@
+//! Texts that end in a zero byte.
+ghost use Rattle.std.specs.Prelude.{◌≡◌};
+ghost use Rattle.blz_model.specs.Part.{Exactly};
+ghost use Rattle.blz_model.specs.Texts.{name_at, text_at};
+ghost use Rattle.std.specs.Option.{option_map};
+
+use blz_error::{Error, ErrorKind, Result, Str};
+use memchr::memchr;
+
+/// The bytes from a place up to the next zero.
+pub fn bytes_at(table: &[u8], at: u32) -> Option<&[u8]>
+    ensures { option_map (λ t. t.now) result ≡ text_at table.now at }
+{
+    let at = at as usize;
+    if at > table.len() {
+        return None;
+    }
+    let rest = &table[at..];
+    let len = memchr(0, rest)?;
+    Some(&rest[..len])
+}
+
+/// The name at a place of a table.
+#[tactic(auto, unfolding(blz_model::specs::Texts::name_at))]
+pub fn name(table: &[u8], at: u32) -> Result<&str>
+    ensures { Exactly (λ t. t.now) result (name_at table.now at) }
+{
+    let Some(bytes) = bytes_at(table, at) else {
+        return Err(Error::new(ErrorKind::InvalidInput, Str::fixed("invalid string table")));
+    };
+    match str::from_utf8(bytes) {
+        Ok(name) => Ok(name),
+        Err(_) => Err(Error::new(ErrorKind::InvalidData, Str::fixed("invalid name"))),
+    }
+}

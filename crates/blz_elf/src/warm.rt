@@ -1,0 +1,18 @@
+//! What is kept of an image.
+use crate::header::Header;
+use crate::image::Frame;
+use crate::span::Rows;
+use crate::table::Table;
+use blz_model::Cache;
+use std::alloc::Global;
+
+/// The parts of an image that were read, as places and numbers.
+#[derive(Drop)]
+pub struct ElfWarm {
+    pub(crate) header: Cache<Header>,
+    pub(crate) sections: Cache<Rows>,
+    pub(crate) frame: Cache<Frame>,
+    pub(crate) table: Cache<Table>,
+    pub(crate) prepared: bool,
+    pub(crate) alloc: Global,
+}
