@@ -11,3 +11,4 @@ pub mod AnswerView
 pub mod Warm
 pub mod Sources
 pub mod Asked
+pub mod Relocations
