@@ -15,6 +15,8 @@ mod sorted;
 mod span;
 mod symbols;
 mod table;
+#[cfg(test)]
+mod tests;
 mod text;
 mod warm;
 
