@@ -1,0 +1,55 @@
+-- One more opcode of a program.
+use Rattle.std.proofs.Common.{◌≡◌, ℕ, suc, ◌<◌, ◌≤◌, length, List, Option, Some, None, refl}
+use Rattle.std.proofs.lemmas.Bool.{lt-ltb, le-ltb}
+use Rattle.blz_error.specs.declared.kind.ErrorKind.{ErrorKind}
+use Rattle.blz_error.specs.declared.kind.ErrorKind.TheVariants.{InvalidDwarf}
+use Rattle.blz_model.specs.Part.{Fails, or_mark}
+use Rattle.blz_model.specs.LebNumbers.{uleb}
+use Rattle.blz_model.specs.Reads.{◌>>=◌}
+use Rattle.blz_entry.specs.Contents.{Contents}
+use Rattle.blz_line.specs.declared.rules.Rules.{Rules}
+use Rattle.blz_line.specs.declared.opcode.Op.{Op}
+use Rattle.blz_line.specs.Opcodes.{ulebs_passed, op_at}
+use Rattle.blz_line.specs.Program.{State, step, run_in}
+
+pub ulebs_more : (m n : ℕ) (bytes : List ℕ) (at u next : ℕ) → m ≡ suc n → uleb bytes at ≡ Some (u, next) → ulebs_passed m bytes at ≡ ulebs_passed n bytes next
+unfolding ulebs_passed
+ulebs_more m n bytes at u next e h = rw (e, h) refl
+
+pub ulebs_none : (m n : ℕ) (bytes : List ℕ) (at : ℕ) → m ≡ suc n → uleb bytes at ≡ None → ulebs_passed m bytes at ≡ None
+unfolding ulebs_passed
+ulebs_none m n bytes at e h = rw (e, h) refl
+
+pub ulebs_end : (m : ℕ) (bytes : List ℕ) (at : ℕ) → m ≡ 0 → ulebs_passed m bytes at ≡ Some at
+unfolding ulebs_passed
+ulebs_end m bytes at e = rw e refl
+
+pub run_more : (r : Rules) (counts : List ℕ) (s : Contents) (m n at next : ℕ) (op : Op) (old new : State) → m ≡ suc n → at < length s.bytes → op_at r counts s at ≡ Some (op, next) → step r old op ≡ Some new → run_in r counts s m old at ≡ run_in r counts s n new next
+unfolding run_in
+run_more r counts s m n at next op old new e lt h k = let t = lt-ltb at (length s.bytes) lt in rw (e, t, h, k) refl
+
+pub run_none : (r : Rules) (counts : List ℕ) (s : Contents) (m n at : ℕ) (old : State) → m ≡ suc n → at < length s.bytes → op_at r counts s at ≡ None → run_in r counts s m old at ≡ None
+unfolding run_in
+run_none r counts s m n at old e lt h = let t = lt-ltb at (length s.bytes) lt in rw (e, t, h) refl
+
+stopped : (o : Option State) (k : ErrorKind) → Fails k (or_mark o InvalidDwarf) → (rest : State → Option State) → Fails k (or_mark (o >>= rest) InvalidDwarf)
+stopped None k h rest = h
+stopped (Some s) k h rest = λ ne. let e = h ne in absurd cc
+
+-- no value is the mark InvalidDwarf
+pub fails_none : {A : Type 0} (o : Option A) (k : ErrorKind) → k ≡ InvalidDwarf → o ≡ None → Fails k (or_mark o InvalidDwarf)
+fails_none o k e h = λ ne. rw (h, e) refl
+
+pub run_fails : (r : Rules) (counts : List ℕ) (s : Contents) (m n at next : ℕ) (op : Op) (old : State) (k : ErrorKind) (total : Option State) → m ≡ suc n → at < length s.bytes → op_at r counts s at ≡ Some (op, next) → Fails k (or_mark (step r old op) InvalidDwarf) → run_in r counts s m old at ≡ total → Fails k (or_mark total InvalidDwarf)
+unfolding run_in
+run_fails r counts s m n at next op old k total em lt h fails so =
+    let t = lt-ltb at (length s.bytes) lt in
+    rw (← so, em, t, h) (stopped (step r old op) k fails (λ next-state. run_in r counts s n next-state next))
+
+pub run_done : (r : Rules) (counts : List ℕ) (s : Contents) (m n at : ℕ) (old : State) → m ≡ suc n → length s.bytes ≤ at → run_in r counts s m old at ≡ Some old
+unfolding run_in
+run_done r counts s m n at old e le = let f = le-ltb at (length s.bytes) le in rw (e, f) refl
+
+pub run_out : (r : Rules) (counts : List ℕ) (s : Contents) (m at : ℕ) (old : State) → m ≡ 0 → run_in r counts s m old at ≡ None
+unfolding run_in
+run_out r counts s m at old e = rw e refl

@@ -1,0 +1,10 @@
+use Rattle.std.proofs.Common.{◌≡◌, ◌≤◌, ◌-◌, length}
+use Rattle.blz_line.specs.Opcodes.{ulebs_passed}
+use Rattle.blz_line.proofs.opcode.ulebs_passed.Given as goal
+
+abbrev pub invariant-loop : goal.invariant-loop
+invariant-loop l = record {
+  ahead : l.at ≤ l.place;
+  within : l.place ≤ length l.bytes;
+  rest : ulebs_passed (l.count - l.counter) l.bytes l.place ≡ ulebs_passed l.count l.bytes l.at;
+}

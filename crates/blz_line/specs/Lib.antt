@@ -1,0 +1,5 @@
+pub mod Tables
+pub mod Opcodes
+pub mod Registers
+pub mod Sequences
+pub mod Program

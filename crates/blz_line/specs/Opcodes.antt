@@ -1,0 +1,76 @@
+-- Opcodes and their operands in the bytes of a line number program (DWARF 5 sections 6.2.5 and 7.22).
+use Rattle.std.specs.Prelude.{ℕ, zero, suc, ◌+◌, ◌-◌, ◌||◌, ◌&&◌, List, length, take, slice_index, Option, Some, None, ◌==◌, nat_lt, nat_le, if◌then◌else◌}
+use Rattle.blz_model.specs.Reads.{Read, ◌>>=◌, number}
+use Rattle.blz_model.specs.LebNumbers.{uleb, sleb}
+use Rattle.blz_bytes.specs.Pieces.{byte, zero_ended}
+use Rattle.blz_entry.specs.Contents.{Contents, address_at}
+use Rattle.blz_entry.specs.declared.value.AttrValue.{AttrValue}
+use Rattle.blz_entry.specs.declared.value.AttrValue.TheVariants.{Text}
+use Rattle.blz_entry.specs.declared.text.StrPart.TheVariants.{Line}
+use Rattle.blz_line.specs.declared.rules.Rules.{Rules}
+use Rattle.blz_line.specs.declared.file_entry.FileEntry.{FileEntry}
+use Rattle.blz_line.specs.declared.opcode.Op.{Op}
+use Rattle.blz_line.specs.declared.opcode.Op.TheVariants.{Special, Copy, AdvancePc, AdvanceLine, SetFile, SetColumn, Nothing, ConstAddPc, FixedAdvancePc, EndSequence, SetAddress, DefineFile}
+
+-- a text that stands here, by its place
+abbrev pub text_place : ℕ → List ℕ → AttrValue
+text_place at text = Text (record { part = Line; start = at; len = length text })
+
+-- what follows the path of a file in versions 2 to 4: its directory, its time and its size
+unfoldable pub file_numbers : AttrValue → List ℕ → ℕ → Read FileEntry
+file_numbers path bytes at = do
+  directory ← uleb bytes at
+  time ← uleb bytes directory.1
+  size ← uleb bytes time.1
+  Some (record { path = path; directory = directory.0 }, size.1)
+
+-- a file in versions 2 to 4
+unfoldable pub file_at : List ℕ → ℕ → Read FileEntry
+file_at bytes at = do
+  path ← zero_ended bytes at
+  file_numbers (text_place at path.0) bytes path.1
+
+-- n unsigned LEB128 numbers that are passed over
+unfoldable pub ulebs_passed : ℕ → List ℕ → ℕ → Option ℕ
+ulebs_passed zero bytes at = Some at
+ulebs_passed (suc n) bytes at = do
+  u ← uleb bytes at
+  ulebs_passed n bytes u.1
+
+-- an extended opcode, whose operands are the bytes up to the end
+unfoldable pub extended_op : Rules → Contents → ℕ → ℕ → Option Op
+extended_op r s code at =
+    if code == 1 then Some EndSequence else (
+    if code == 2 then (address_at r.address_size s at >>= λ a. Some (SetAddress a.0)) else (
+    if code == 3 && nat_le r.version 4 then (file_at s.bytes at >>= λ f. Some (DefineFile f.0)) else
+    Some Nothing))
+
+-- an extended opcode behind its 0: its length, which is not 0, and as many bytes; what is left of them is passed over
+unfoldable pub extended_at : Rules → Contents → ℕ → Read Op
+extended_at r s at = do
+  len ← uleb s.bytes at
+  if len.0 == 0 || nat_lt (length s.bytes) (len.1 + len.0) then None else (do
+    code ← byte s.bytes len.1
+    op ← extended_op r (record s { bytes = take (len.1 + len.0) s.bytes }) code.0 code.1
+    Some (op, len.1 + len.0))
+
+-- The table of standard opcodes and their operands. One that it does not have takes as many numbers as the header says.
+unfoldable pub standard_at : Rules → List ℕ → Contents → ℕ → ℕ → Read Op
+standard_at r counts s code at =
+    if code == 0 then extended_at r s at else (
+    if code == 1 then Some (Copy, at) else (
+    if code == 2 then (uleb s.bytes at >>= λ n. Some (AdvancePc n.0, n.1)) else (
+    if code == 3 then (sleb s.bytes at >>= λ n. Some (AdvanceLine n.0, n.1)) else (
+    if code == 4 then (uleb s.bytes at >>= λ n. Some (SetFile n.0, n.1)) else (
+    if code == 5 then (uleb s.bytes at >>= λ n. Some (SetColumn n.0, n.1)) else (
+    if (code == 6 || code == 7) || (code == 10 || code == 11) then Some (Nothing, at) else (
+    if code == 8 then Some (ConstAddPc, at) else (
+    if code == 9 then (number s.order 2 s.bytes at >>= λ n. Some (FixedAdvancePc n.0, n.1)) else (
+    if code == 12 then (uleb s.bytes at >>= λ n. Some (Nothing, n.1)) else
+    (ulebs_passed (slice_index counts (code - 1)) s.bytes at >>= λ next. Some (Nothing, next)))))))))))
+
+-- the opcode at a place; from `opcode_base` up it is special, also where the table of standard opcodes has it
+unfoldable pub op_at : Rules → List ℕ → Contents → ℕ → Read Op
+op_at r counts s at = do
+  code ← byte s.bytes at
+  if nat_le r.opcode_base code.0 then Some (Special (code.0 - r.opcode_base), code.1) else standard_at r counts s code.0 code.1

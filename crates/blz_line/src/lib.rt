@@ -1,0 +1,13 @@
+//! Line number programs of DWARF 2 to 5: the rows of a unit, the sequences that they form, and the files that they name
+//! (DWARF 5 section 6.2).
+#![tactic(auto)]
+
+mod file_entry;
+mod opcode;
+mod program;
+mod registers;
+mod row;
+mod rules;
+mod table;
+
+pub use row::{LineRow, LineSequence};

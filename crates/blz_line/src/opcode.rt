@@ -1,0 +1,178 @@
+//! Opcodes and their operands.
+ghost use Rattle.std.specs.Prelude.{◌≡◌, ◌≤◌, ◌<◌, ◌+◌, length, IfSome};
+ghost use Rattle.blz_entry.specs.Contents.{section_view};
+ghost use Rattle.blz_line.specs.Opcodes.{text_place, file_numbers, file_at, ulebs_passed, extended_op, extended_at, standard_at, op_at};
+
+use crate::file_entry::FileEntry;
+use crate::rules::Rules;
+use blz_bytes::{sleb_at, u8_at, u16_at, uleb_at, zero_ended_at};
+use blz_entry::{AttrValue, Section, StrPart, StrPlace, address_at};
+
+/// An opcode with its operands (DWARF 5 section 6.2.5).
+#[derive(Clone, Copy)]
+pub enum Op {
+    /// A special opcode, by its distance from the first one.
+    Special(u8),
+    Copy,
+    AdvancePc(u64),
+    AdvanceLine(i64),
+    SetFile(u64),
+    SetColumn(u64),
+    /// One that changes nothing that rows are made of.
+    Nothing,
+    ConstAddPc,
+    FixedAdvancePc(u16),
+    EndSequence,
+    SetAddress(u64),
+    DefineFile(FileEntry),
+}
+
+fn text_place(start: usize, text: &[u8]) -> AttrValue
+    ensures { result ≡ text_place start text.now }
+{
+    AttrValue::Text(StrPlace {
+        part: StrPart::Line,
+        start,
+        len: text.len(),
+    })
+}
+
+#[tactic(auto, unfolding(crate::specs::Opcodes::file_numbers))]
+pub fn file_numbers(path: AttrValue, bytes: &[u8], at: usize) -> Option<(FileEntry, usize)>
+    ensures value { result ≡ file_numbers path bytes.now at }
+    ensures within { IfSome result (λ r. (at < r.1) × (r.1 ≤ length bytes.now)) }
+{
+    let (directory, next) = uleb_at(bytes, at)?;
+    let (_, next) = uleb_at(bytes, next)?;
+    let (_, next) = uleb_at(bytes, next)?;
+    Some((FileEntry { path, directory }, next))
+}
+
+/// A file of versions 2 to 4: a text, and the numbers of its directory, time and size.
+#[tactic(auto, unfolding(crate::specs::Opcodes::file_at))]
+fn file_at(bytes: &[u8], at: usize) -> Option<(FileEntry, usize)>
+    ensures { result ≡ file_at bytes.now at }
+{
+    let (path, next) = zero_ended_at(bytes, at)?;
+    file_numbers(text_place(at, path), bytes, next)
+}
+
+fn ulebs_passed(count: u8, bytes: &[u8], at: usize) -> Option<usize>
+    requires { at ≤ length bytes.now }
+    ensures value { result ≡ ulebs_passed count bytes.now at }
+    ensures within { IfSome result (λ n. (at ≤ n) × (n ≤ length bytes.now)) }
+{
+    let mut place = at;
+    for _ in 0..count {
+        let (_, next) = uleb_at(bytes, place)?;
+        place = next;
+    }
+    Some(place)
+}
+
+#[tactic(auto, unfolding(crate::specs::Opcodes::extended_op))]
+fn extended_op(rules: Rules, section: &Section<'_, '_>, code: u8, at: usize) -> Option<Op>
+    ensures { result ≡ extended_op rules (section_view section.now) code at }
+{
+    match code {
+        1 => Some(Op::EndSequence),
+        2 => {
+            let (address, _) = address_at(rules.address_size, section, at)?;
+            Some(Op::SetAddress(address))
+        }
+        3 if rules.version <= 4 => {
+            let (file, _) = file_at(section.bytes, at)?;
+            Some(Op::DefineFile(file))
+        }
+        _ => Some(Op::Nothing),
+    }
+}
+
+#[tactic(auto, unfolding(crate::specs::Opcodes::extended_at))]
+fn extended_at(rules: Rules, section: &Section<'_, '_>, at: usize) -> Option<(Op, usize)>
+    ensures value { result ≡ extended_at rules (section_view section.now) at }
+    ensures within { IfSome result (λ r. (at ≤ r.1) × (r.1 ≤ length section.now.bytes.now)) }
+{
+    let (len, start) = uleb_at(section.bytes, at)?;
+    if len == 0 || ((section.bytes.len() - start) as u64) < len {
+        return None;
+    }
+    let end = start + len as usize;
+    let (code, operands) = u8_at(section.bytes, start)?;
+    let inside = Section {
+        bytes: &section.bytes[..end],
+        ..*section
+    };
+    let op = extended_op(rules, &inside, code, operands)?;
+    Some((op, end))
+}
+
+#[tactic(auto, unfolding(crate::specs::Opcodes::standard_at))]
+fn standard_at(
+    rules: Rules,
+    counts: &[u8],
+    section: &Section<'_, '_>,
+    code: u8,
+    at: usize,
+) -> Option<(Op, usize)>
+    requires within { at ≤ length section.now.bytes.now }
+    requires counted { code ≤ length counts.now }
+    ensures value { result ≡ standard_at rules counts.now (section_view section.now) code at }
+    ensures within { IfSome result (λ r. (at ≤ r.1) × (r.1 ≤ length section.now.bytes.now)) }
+{
+    let bytes = section.bytes;
+    match code {
+        0 => extended_at(rules, section, at),
+        1 => Some((Op::Copy, at)),
+        2 => {
+            let (count, next) = uleb_at(bytes, at)?;
+            Some((Op::AdvancePc(count), next))
+        }
+        3 => {
+            let (by, next) = sleb_at(bytes, at)?;
+            Some((Op::AdvanceLine(by), next))
+        }
+        4 => {
+            let (file, next) = uleb_at(bytes, at)?;
+            Some((Op::SetFile(file), next))
+        }
+        5 => {
+            let (column, next) = uleb_at(bytes, at)?;
+            Some((Op::SetColumn(column), next))
+        }
+        6 | 7 | 10 | 11 => Some((Op::Nothing, at)),
+        8 => Some((Op::ConstAddPc, at)),
+        9 => {
+            let (by, next) = u16_at(bytes, at, section.order)?;
+            Some((Op::FixedAdvancePc(by), next))
+        }
+        12 => {
+            let (_, next) = uleb_at(bytes, at)?;
+            Some((Op::Nothing, next))
+        }
+        _ => {
+            let next = ulebs_passed(counts[code as usize - 1], bytes, at)?;
+            Some((Op::Nothing, next))
+        }
+    }
+}
+
+/// The opcode at a place, and the next place; None where its bytes are not whole. `counts` has the number of operands of
+/// each standard opcode.
+#[tactic(auto, unfolding(crate::specs::Opcodes::op_at))]
+pub fn op_at(
+    rules: Rules,
+    counts: &[u8],
+    section: &Section<'_, '_>,
+    at: usize,
+) -> Option<(Op, usize)>
+    requires { rules.opcode_base ≤ length counts.now + 1 }
+    ensures value { result ≡ op_at rules counts.now (section_view section.now) at }
+    ensures within { IfSome result (λ r. (at < r.1) × (r.1 ≤ length section.now.bytes.now)) }
+{
+    let (code, next) = u8_at(section.bytes, at)?;
+    if code >= rules.opcode_base {
+        return Some((Op::Special(code - rules.opcode_base), next));
+    }
+    standard_at(rules, counts, section, code, next)
+}
