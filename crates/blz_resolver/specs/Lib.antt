@@ -4,3 +4,9 @@ pub mod FilesAnswers
 pub mod FilesKinds
 pub mod MemoryPuts
 pub mod SinkPuts
+pub mod Images
+pub mod BundleViews
+pub mod OwnedViews
+pub mod Scan
+pub mod Opening
+pub mod Resolver

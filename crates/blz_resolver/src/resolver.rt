@@ -1,0 +1,126 @@
+//! One bundle, as it is asked.
+ghost use Rattle.std.specs.Prelude.{◌≡◌, ◌⊎◌, ◌≤◌, Some, IfOk, IfErr};
+ghost use Rattle.blz_model.specs.Part.{Gives, Good, Broken};
+ghost use Rattle.blz_elf.specs.AnswerView.{answer_view};
+ghost use Rattle.blz_resolver.specs.BundleViews.{bundle_view};
+ghost use Rattle.blz_resolver.specs.Counts.{Rose};
+ghost use Rattle.blz_resolver.specs.Opening.{Opens, HasKindCause, has_section, has_link, opened_from};
+ghost use Rattle.blz_resolver.specs.Scan.{frame_of, answer_of};
+
+use crate::files::Files;
+use crate::frame::read_frame;
+use crate::owned_bundle::OwnedCompanion;
+use crate::{Bundle, OwnedBundle};
+use blz_bytes::Orders;
+use blz_elf::{Answer, ElfParser, FindSymOpts};
+use blz_error::{Error, ErrorKind, Result, Str};
+use std::alloc::Global;
+use std::marker::Model;
+
+/// Answers for the addresses of one bundle. What was read is kept.
+#[derive(Drop)]
+pub struct ElfResolver<'b> {
+    bundle: Bundle<'b>,
+    // the parser of the debug file
+    parser: ElfParser<'b>,
+}
+
+impl<'b> Model for ElfResolver<'b> {
+    ghost use Rattle.blz_resolver.specs.Images.{ImageSet};
+    ghost use Rattle.blz_resolver.specs.BundleViews.{bundle_view};
+    ghost use Rattle.blz_resolver.specs.Resolver.{Answers};
+
+    ghost Value = { ImageSet };
+
+    ghost view = { λ r. bundle_view r.bundle };
+
+    ghost invariant = { λ r. Answers (bundle_view r.bundle) r.parser };
+}
+
+impl<'b> ElfResolver<'b> {
+    /// Reads a file and names its module by its path. NotFound, PermissionDenied and Other come from the files;
+    /// Unsupported where the image has a link to another file, since links are not followed yet.
+    pub fn open<F: Files>(alloc: Global, files: &mut F, path: &str) -> Result<OwnedBundle>
+        ensures good { IfOk result (λ b. Opens (F.contents files.old) path.now (Good b)) }
+        ensures mark { IfErr result (λ e. (e.kind ≡ ErrorKind.OutOfMemory) ⊎ HasKindCause e.kind
+            (Rose (F.faults files.old) (F.faults files.new)) (Opens (F.contents files.old) path.now (Broken e.kind))) }
+        ensures contents { F.contents files.new ≡ F.contents files.old }
+        ensures stamps { F.stamps files.new ≡ F.stamps files.old }
+        ensures count { F.faults files.old ≤ F.faults files.new }
+    {
+        let image = files.read(alloc, path)?;
+        unlinked(alloc, image, path)
+    }
+
+    /// A resolver of the bundle, whose frame is read. Refused by the first mark of the frame.
+    pub fn from_bundle<O: Orders>(
+        alloc: Global,
+        orders: &mut O,
+        bundle: &Bundle<'b>,
+    ) -> Result<ElfResolver<'b>>
+        ensures frame { Gives (λ _. tt) result (frame_of (bundle_view bundle.now)) }
+        ensures same { IfOk result (λ r. r ≡ bundle_view bundle.now) }
+    {
+        let file = bundle.debug_file();
+        let mut parser = ElfParser::from_mem(alloc, file.image, file.module);
+        read_frame(&mut parser, bundle)?;
+        Ok(ElfResolver {
+            bundle: *bundle,
+            parser,
+        })
+    }
+
+    /// The symbol of an address: of the debug file's symbols that cover it, the one with the greatest value (ELF gABI,
+    /// Symbol Table). Refused by the first mark that the search meets.
+    pub fn find_sym<O: Orders>(
+        &mut self,
+        alloc: Global,
+        orders: &mut O,
+        addr: u64,
+        opts: &FindSymOpts,
+    ) -> Result<Answer<'b>>
+        ensures value { Gives answer_view result (answer_of self.old addr) }
+        ensures same { self.new ≡ self.old }
+    {
+        self.parser.find_sym(alloc, orders, addr, opts)
+    }
+}
+
+// The bundle of an image that has no link to another file.
+#[tactic(auto, unfolding(crate::specs::Opening::opened_from))]
+fn unlinked(alloc: Global, image: Vec<u8>, path: &str) -> Result<OwnedBundle>
+    ensures good { IfOk result (λ b. opened_from (Some image.items) path.now ≡ Good b) }
+    ensures mark { IfErr result (λ e. (e.kind ≡ ErrorKind.OutOfMemory)
+        ⊎ ((e.kind ≡ ErrorKind.Unsupported) × (opened_from (Some image.items) path.now ≡ Broken ErrorKind.Unsupported))) }
+{
+    let module = Some(String::from_str(alloc, path)?);
+    if has_link(alloc, &image) {
+        return Err(Error::new(ErrorKind::Unsupported, Str::fixed("link to another file")));
+    }
+    Ok(OwnedBundle::alone(OwnedCompanion { image, module }))
+}
+
+fn has_link(alloc: Global, image: &[u8]) -> bool
+    ensures { result ≡ has_link image.now }
+{
+    let mut parser = ElfParser::from_mem(alloc, image, None);
+    links_away(&mut parser)
+}
+
+fn links_away(parser: &mut ElfParser<'_>) -> bool
+    ensures { result ≡ has_link parser.old.image }
+{
+    has_section(parser, ".gnu_debuglink")
+        || has_section(parser, ".gnu_debugaltlink")
+        || has_section(parser, ".debug_sup")
+}
+
+fn has_section(parser: &mut ElfParser<'_>, name: &str) -> bool
+    ensures value { result ≡ has_section parser.old.image name.now }
+    ensures same { parser.new ≡ parser.old }
+{
+    match parser.find_section(name) {
+        Ok(Some(_)) => true,
+        Ok(None) | Err(_) => false,
+    }
+}

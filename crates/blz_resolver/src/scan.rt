@@ -1,0 +1,44 @@
+//! The answers of a list of addresses.
+ghost use Rattle.std.specs.Prelude.{◌≡◌, map};
+ghost use Rattle.blz_model.specs.Part.{Gives, all_good};
+ghost use Rattle.blz_elf.specs.AnswerView.{answer_view};
+ghost use Rattle.blz_resolver.specs.BundleViews.{bundle_view};
+ghost use Rattle.blz_resolver.specs.Scan.{answer_of, scan_of};
+
+use crate::{Bundle, ElfResolver};
+use blz_bytes::Orders;
+use blz_elf::{Answer, FindSymOpts};
+use blz_error::Result;
+use std::alloc::Global;
+
+/// The answer of each address, in their order. Refused by the first mark that is met: those of the frame, which is
+/// read first, also where there are no addresses, and then those of the answers.
+#[tactic(auto, unfolding(crate::specs::Scan::scan_of))]
+pub fn symbolize<'b, O: Orders>(
+    alloc: Global,
+    orders: &mut O,
+    bundle: &Bundle<'b>,
+    addrs: &[u64],
+    opts: &FindSymOpts,
+) -> Result<Vec<Answer<'b>>>
+    ensures { Gives (λ v. map answer_view v.items) result (scan_of (bundle_view bundle.now) addrs.now) }
+{
+    let mut resolver = ElfResolver::from_bundle(alloc, orders, bundle)?;
+    answers(alloc, orders, &mut resolver, addrs, opts)
+}
+
+fn answers<'b, O: Orders>(
+    alloc: Global,
+    orders: &mut O,
+    resolver: &mut ElfResolver<'b>,
+    addrs: &[u64],
+    opts: &FindSymOpts,
+) -> Result<Vec<Answer<'b>>>
+    ensures { Gives (λ v. map answer_view v.items) result (all_good (map (answer_of resolver.old) addrs.now)) }
+{
+    let mut answers = Vec::with_capacity(alloc, addrs.len())?;
+    for addr in addrs {
+        answers.push(resolver.find_sym(alloc, orders, *addr, opts)?)?;
+    }
+    Ok(answers)
+}
