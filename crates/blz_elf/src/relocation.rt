@@ -1,7 +1,7 @@
 //! The relocations of a file whose sections have no addresses yet (ELF gABI, Relocation).
 ghost use Rattle.std.specs.Prelude.{◌≡◌, OnOk, OnErr};
 ghost use Rattle.std.specs.FinMap as map;
-ghost use Rattle.blz_elf.specs.Relocations.{relocated, relocation_of, section_map};
+ghost use Rattle.blz_elf.specs.Relocations.{relocated, relocation_of, section_map, with_relocation};
 
 use std::alloc::{AllocError, Global};
 use std::collections::BTreeMap;
@@ -115,5 +115,27 @@ impl SectionRelocations {
         ensures { result.now ≡ section_map self.now target_idx }
     {
         self.maps.get(&target_idx).unwrap_or(&self.none)
+    }
+
+    /// Puts a relocation of a section, as in the map of that section.
+    pub(crate) fn insert(
+        &mut self,
+        alloc: Global,
+        target_idx: usize,
+        offset: u64,
+        addend: u64,
+        implicit: bool,
+    ) -> Result<(), AllocError>
+        ensures ok { OnOk result (self.new ≡ with_relocation self.old target_idx offset (relocation_of addend implicit)) }
+        ensures err { OnErr result (self.new ≡ self.old) }
+    {
+        if let Some(map) = self.maps.get_mut(&target_idx) {
+            map.insert(offset, addend, implicit)?;
+            return Ok(());
+        }
+        let mut map = RelocationMap::new(alloc);
+        map.insert(offset, addend, implicit)?;
+        self.maps.insert(target_idx, map)?;
+        Ok(())
     }
 }
