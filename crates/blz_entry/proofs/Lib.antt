@@ -1,1 +1,5 @@
 pub mod LebLoop
+pub mod AttributeSteps
+pub mod AbbreviationIndex
+pub mod Marked
+pub mod AbbreviationSteps

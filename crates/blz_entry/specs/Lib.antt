@@ -1,5 +1,9 @@
-pub mod TextParts
+pub mod Marks
 pub mod Relocated
+pub mod TextParts
 pub mod Contents
 pub mod Forms
+pub mod Abbrevs
+pub mod AbbreviationTables
+pub mod Attributes
 pub mod Headers

@@ -1,7 +1,10 @@
 //! The entries of DWARF debugging information: units, abbreviations, forms, strings, addresses and ranges.
 #![tactic(auto)]
 
+mod abbreviations;
+mod attributes;
 mod encoding;
+mod fault;
 mod field;
 mod form;
 mod place;
@@ -14,6 +17,7 @@ mod text;
 mod units;
 mod value;
 
+pub use abbreviations::{Abbreviation, Abbreviations, AttrSpec};
 pub use encoding::Encoding;
 pub use field::{address_at, fixed_at, offset_at};
 pub use form::{Field, Form, Makes, Width};
