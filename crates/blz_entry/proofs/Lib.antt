@@ -1,4 +1,4 @@
-pub mod LebLoop
+pub mod Bytes
 pub mod AttributeSteps
 pub mod AbbreviationIndex
 pub mod Marked

@@ -1,8 +1,8 @@
 -- Abbreviation tables (DWARF 5 section 7.5.3).
 use Rattle.std.specs.Prelude.{ℕ, zero, suc, Bool, true, false, ◌&&◌, pos, List, [], ◌∷◌, ◌++◌, length, Option, Some, None, ◌==◌, if◌then◌else◌}
 use Rattle.std.specs.Prelude.{is_some}
-use Rattle.blz_model.specs.declared.byte_order.ByteOrder.TheVariants.{Little}
-use Rattle.blz_model.specs.Reads.{Read, ◌>>=◌, number}
+use Rattle.blz_model.specs.Reads.{Read, ◌>>=◌}
+use Rattle.blz_bytes.specs.Pieces.{byte}
 use Rattle.blz_model.specs.LebNumbers.{uleb, sleb}
 use Rattle.blz_entry.specs.declared.abbreviations.AttrSpec.{AttrSpec}
 use Rattle.blz_entry.specs.Abbrevs.{Abbrev, of_code}
@@ -35,7 +35,7 @@ has_children n = if n == 0 then Some false else (if n == 1 then Some true else N
 unfoldable pub abbreviation_at : ℕ → List ℕ → ℕ → Read Abbrev
 abbreviation_at code bytes at = do
   tag ← uleb bytes at
-  flag ← number Little 1 bytes tag.1
+  flag ← byte bytes tag.1
   children ← has_children flag.0
   specs ← specs_in (length bytes) [] bytes flag.1
   Some (record { code = code; tag = tag.0; children = children; specs = specs.0 }, specs.1)

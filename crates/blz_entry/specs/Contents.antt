@@ -3,8 +3,8 @@ use Rattle.std.specs.Prelude.{ℕ, ◌+◌, Bool, List, length, Some, None, nat_
 use Rattle.blz_model.specs.declared.byte_order.ByteOrder.{ByteOrder}
 use Rattle.blz_model.specs.Reads.{Read, ◌>>=◌, number}
 use Rattle.blz_model.specs.LebNumbers.{uleb}
-use Rattle.blz_entry.specs.Relocated.{relocated}
-use Rattle.blz_entry.specs.declared.relocation.RelocationMap.{RelocationMap}
+use Rattle.std.specs.FinMap as map
+use Rattle.blz_elf.specs.Relocations.{OffsetMap, relocated}
 use Rattle.blz_entry.specs.declared.section.Section.{Section}
 use Rattle.blz_entry.specs.declared.encoding.Encoding.{Encoding}
 use Rattle.blz_entry.specs.declared.form.Width.{Width}
@@ -15,7 +15,7 @@ use Rattle.blz_entry.specs.declared.form.Field.TheVariants.{Nothing, Fixed, Addr
 -- a section without where its bytes and relocations lie in memory
 pub record Contents : Type 0 where
   pub bytes : List ℕ
-  pub moves : RelocationMap
+  pub moves : OffsetMap
   pub order : ByteOrder
 
 abbrev pub section_view : Section → Contents
@@ -29,7 +29,7 @@ number_at n s at = number s.order n s.bytes at
 unfoldable pub moved_number : ℕ → Contents → ℕ → Read ℕ
 moved_number n s at = do
   x ← number_at n s at
-  Some (relocated s.moves at x.0, x.1)
+  Some (relocated (map.get s.moves at) x.0, x.1)
 
 -- An address has four or eight bytes.
 unfoldable pub address_at : ℕ → Contents → ℕ → Read ℕ

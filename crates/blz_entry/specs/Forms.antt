@@ -1,6 +1,7 @@
 -- Forms and the values that they have (DWARF 5 sections 7.5.5 and 7.5.6).
-use Rattle.std.specs.Prelude.{ℕ, ◌+◌, List, [], ◌∷◌, drop, position, Option, Some, None, ◌==◌, if◌then◌else◌, ℤ, pos, negsuc}
+use Rattle.std.specs.Prelude.{ℕ, ◌+◌, List, [], ◌∷◌, length, Option, Some, None, ◌==◌, if◌then◌else◌, ℤ, pos, negsuc}
 use Rattle.blz_model.specs.Reads.{Read, ◌>>=◌}
+use Rattle.blz_bytes.specs.Pieces.{zero_ended}
 use Rattle.blz_model.specs.LebNumbers.{uleb, sleb}
 use Rattle.blz_entry.specs.Contents.{Contents, field_at}
 use Rattle.blz_entry.specs.declared.encoding.Encoding.{Encoding}
@@ -87,15 +88,11 @@ made makes.SecOffset n = SecOffset n
 made makes.RangeIndex n = RangeIndex n
 made makes.Other n = Other
 
--- how many bytes stand before the first zero
-abbrev pub zero_in : List ℕ → Option ℕ
-zero_in bytes = position (λ b. b == 0) bytes
-
 -- the text from a place to its zero
 unfoldable pub text_here : StrBase → List ℕ → ℕ → Read AttrValue
 text_here base bytes at = do
-  len ← zero_in (drop at bytes)
-  Some (Text (record { part = base.part; start = base.start + at; len = len }), at + len + 1)
+  text ← zero_ended bytes at
+  Some (Text (record { part = base.part; start = base.start + at; len = length text.0 }), text.1)
 
 -- what a form reads at a place
 unfoldable pub value_by : Form → Encoding → StrBase → Contents → ℕ → Read AttrValue

@@ -1,5 +1,4 @@
 pub mod Marks
-pub mod Relocated
 pub mod TextParts
 pub mod Contents
 pub mod Forms

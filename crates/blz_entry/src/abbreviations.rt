@@ -8,9 +8,8 @@ ghost use Rattle.blz_entry.specs.Abbrevs.{of_code};
 ghost use Rattle.blz_entry.specs.AbbreviationTables.{spec_at, is_last, specs_in, has_children, abbreviation_at, has_code, abbreviations};
 
 use crate::fault::invalid;
-use crate::place::{sleb_at, u8_at, uleb_at};
+use blz_bytes::{sleb_at, u8_at, uleb_at};
 use blz_error::Result;
-use blz_model::ByteOrder;
 use std::alloc::{AllocError, Global};
 use std::collections::BTreeMap;
 use std::marker::Model;
@@ -224,7 +223,7 @@ fn abbreviation_at(
     let Some((tag, next)) = uleb_at(bytes, at) else {
         return Err(invalid("an abbreviation has no tag"));
     };
-    let Some((flag, next)) = u8_at(bytes, next, ByteOrder::Little) else {
+    let Some((flag, next)) = u8_at(bytes, next) else {
         return Err(invalid("an abbreviation ends at its tag"));
     };
     let Some(children) = has_children(flag) else {

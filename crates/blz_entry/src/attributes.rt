@@ -6,10 +6,10 @@ ghost use Rattle.blz_entry.specs.Attributes.{form_for, direct_attribute, attribu
 use crate::abbreviations::AttrSpec;
 use crate::encoding::Encoding;
 use crate::form::{Field, Form, Makes, form_of};
-use crate::place::uleb_at;
 use crate::section::Section;
 use crate::text::StrBase;
 use crate::value::{AttrValue, value_by};
+use blz_bytes::uleb_at;
 
 const STMT_LIST: u64 = 0x10;
 

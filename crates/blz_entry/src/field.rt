@@ -5,27 +5,25 @@ ghost use Rattle.blz_entry.specs.Contents.{section_view, bytes_in, moved_number,
 
 use crate::encoding::Encoding;
 use crate::form::{Field, Width};
-use crate::place::{u8_at, u16_at, u24_at, u32_at, u64_at, uleb_at};
 use crate::section::Section;
+use blz_bytes::{number_at, u8_at, u16_at, u32_at, u64_at, uleb_at};
 
 /// A number of so many bytes.
+#[tactic(auto, using(crate::proofs::Bytes::number_of_one))]
 pub fn fixed_at(width: Width, section: &Section<'_, '_>, at: usize) -> Option<(u64, usize)>
     ensures value { result ≡ number section.now.order (bytes_in width) section.now.bytes.now at }
     ensures within { IfSome result (λ r. (at ≤ r.1) × (r.1 ≤ length section.now.bytes.now)) }
 {
     match width {
         Width::One => {
-            let (value, next) = u8_at(section.bytes, at, section.order)?;
+            let (value, next) = u8_at(section.bytes, at)?;
             Some((u64::from(value), next))
         }
         Width::Two => {
             let (value, next) = u16_at(section.bytes, at, section.order)?;
             Some((u64::from(value), next))
         }
-        Width::Three => {
-            let (value, next) = u24_at(section.bytes, at, section.order)?;
-            Some((u64::from(value), next))
-        }
+        Width::Three => number_at(section.bytes, at, 3, section.order),
         Width::Four => {
             let (value, next) = u32_at(section.bytes, at, section.order)?;
             Some((u64::from(value), next))

@@ -1,6 +1,6 @@
 //! The sections that entries are read from.
 
-use crate::RelocationMap;
+use blz_elf::RelocationMap;
 use blz_model::ByteOrder;
 
 /// The bytes of a section, its relocations and the byte order of its file.

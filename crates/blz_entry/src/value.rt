@@ -1,14 +1,14 @@
 //! Values of attributes, and the forms that they are read by.
-ghost use Rattle.std.specs.Prelude.{◌≡◌, ◌≤◌, ◌<◌, ◌+◌, ◌^◌, length, drop, IfSome};
+ghost use Rattle.std.specs.Prelude.{◌≡◌, ◌≤◌, ◌<◌, ◌+◌, ◌^◌, length, IfSome};
 ghost use Rattle.blz_entry.specs.Contents.{section_view};
-ghost use Rattle.blz_entry.specs.Forms.{made, zero_in, text_here, value_by, direct_value, form_value, udata};
+ghost use Rattle.blz_entry.specs.Forms.{made, text_here, value_by, direct_value, form_value, udata};
 
 use crate::encoding::Encoding;
 use crate::field::field_at;
 use crate::form::{Form, Makes, form_of};
-use crate::place::{sleb_at, uleb_at};
 use crate::section::Section;
 use crate::text::{StrBase, StrPart, StrPlace};
+use blz_bytes::{sleb_at, uleb_at, zero_ended_at};
 
 /// The value of an attribute, by what it means and not by how it is stored (DWARF 5 section 7.5.5).
 #[derive(Clone, Copy)]
@@ -78,29 +78,19 @@ fn made(makes: Makes, number: u64) -> AttrValue
     }
 }
 
-fn zero_in(bytes: &[u8]) -> Option<usize>
-    ensures value { result ≡ zero_in bytes.now }
-    ensures within { IfSome result (λ n. n < length bytes.now) }
-{
-    bytes.iter().position(|byte| *byte == 0)
-}
-
 #[tactic(auto, unfolding(crate::specs::Forms::text_here))]
 fn text_here(base: StrBase, bytes: &[u8], at: usize) -> Option<(AttrValue, usize)>
     requires { base.start + length bytes.now < 2 ^ 64 }
     ensures value { result ≡ text_here base bytes.now at }
     ensures within { IfSome result (λ r. (at ≤ r.1) × (r.1 ≤ length bytes.now)) }
 {
-    if at >= bytes.len() {
-        return None;
-    }
-    let len = zero_in(&bytes[at..])?;
+    let (text, next) = zero_ended_at(bytes, at)?;
     let place = StrPlace {
         part: base.part,
         start: base.start + at,
-        len,
+        len: text.len(),
     };
-    Some((AttrValue::Text(place), at + len + 1))
+    Some((AttrValue::Text(place), next))
 }
 
 /// What a form reads at a place, and the next place.
