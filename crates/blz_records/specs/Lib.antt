@@ -1,0 +1,9 @@
+pub mod Classes
+pub mod CompressionHeaders
+pub mod FileHeaders
+pub mod NoteHeaders
+pub mod ProgramHeaders
+pub mod RelocationRecords
+pub mod SectionHeaders
+pub mod SymbolRecords
+pub mod SymbolTypes
