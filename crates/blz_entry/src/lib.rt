@@ -4,6 +4,7 @@
 mod abbreviations;
 mod attributes;
 mod encoding;
+mod extent;
 mod fault;
 mod field;
 mod form;
@@ -17,6 +18,7 @@ mod value;
 
 pub use abbreviations::{Abbreviation, Abbreviations, AttrSpec};
 pub use encoding::Encoding;
+pub use extent::{Extent, extent_at};
 pub use field::{address_at, fixed_at, offset_at};
 pub use form::{Field, Form, Makes, Width};
 pub use ranges::RangeAttributes;
@@ -24,5 +26,5 @@ pub use root::UnitRoot;
 pub use section::{Section, Sections};
 pub use span::Span;
 pub use text::{StrBase, StrPart, StrPlace, Texts};
-pub use units::{UnitHeader, UnitKind};
+pub use units::{UnitHeader, UnitHeaders, UnitKind};
 pub use value::{AttrValue, form_value};
