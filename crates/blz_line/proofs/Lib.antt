@@ -1,1 +1,2 @@
 pub mod ProgramSteps
+pub mod TableSteps

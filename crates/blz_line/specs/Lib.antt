@@ -1,4 +1,8 @@
 pub mod Tables
+pub mod PathTables
+pub mod Formats
+pub mod Headers
+pub mod HeaderFacts
 pub mod Opcodes
 pub mod Registers
 pub mod Sequences

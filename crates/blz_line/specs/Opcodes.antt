@@ -2,33 +2,12 @@
 use Rattle.std.specs.Prelude.{ℕ, zero, suc, ◌+◌, ◌-◌, ◌||◌, ◌&&◌, List, length, take, slice_index, Option, Some, None, ◌==◌, nat_lt, nat_le, if◌then◌else◌}
 use Rattle.blz_model.specs.Reads.{Read, ◌>>=◌, number}
 use Rattle.blz_model.specs.LebNumbers.{uleb, sleb}
-use Rattle.blz_bytes.specs.Pieces.{byte, zero_ended}
+use Rattle.blz_bytes.specs.Pieces.{byte}
 use Rattle.blz_entry.specs.Contents.{Contents, address_at}
-use Rattle.blz_entry.specs.declared.value.AttrValue.{AttrValue}
-use Rattle.blz_entry.specs.declared.value.AttrValue.TheVariants.{Text}
-use Rattle.blz_entry.specs.declared.text.StrPart.TheVariants.{Line}
 use Rattle.blz_line.specs.declared.rules.Rules.{Rules}
-use Rattle.blz_line.specs.declared.file_entry.FileEntry.{FileEntry}
+use Rattle.blz_line.specs.PathTables.{file_at}
 use Rattle.blz_line.specs.declared.opcode.Op.{Op}
 use Rattle.blz_line.specs.declared.opcode.Op.TheVariants.{Special, Copy, AdvancePc, AdvanceLine, SetFile, SetColumn, Nothing, ConstAddPc, FixedAdvancePc, EndSequence, SetAddress, DefineFile}
-
--- a text that stands here, by its place
-abbrev pub text_place : ℕ → List ℕ → AttrValue
-text_place at text = Text (record { part = Line; start = at; len = length text })
-
--- what follows the path of a file in versions 2 to 4: its directory, its time and its size
-unfoldable pub file_numbers : AttrValue → List ℕ → ℕ → Read FileEntry
-file_numbers path bytes at = do
-  directory ← uleb bytes at
-  time ← uleb bytes directory.1
-  size ← uleb bytes time.1
-  Some (record { path = path; directory = directory.0 }, size.1)
-
--- a file in versions 2 to 4
-unfoldable pub file_at : List ℕ → ℕ → Read FileEntry
-file_at bytes at = do
-  path ← zero_ended bytes at
-  file_numbers (text_place at path.0) bytes path.1
 
 -- n unsigned LEB128 numbers that are passed over
 unfoldable pub ulebs_passed : ℕ → List ℕ → ℕ → Option ℕ

@@ -4,7 +4,7 @@ use Rattle.blz_model.specs.Reads.{◌>>=◌}
 use Rattle.blz_entry.specs.Contents.{Contents}
 use Rattle.blz_line.specs.declared.row.LineRow.{LineRow}
 use Rattle.blz_line.specs.declared.rules.Rules.{Rules}
-use Rattle.blz_line.specs.declared.file_entry.FileEntry.{FileEntry}
+use Rattle.blz_line.specs.declared.paths.FileEntry.{FileEntry}
 use Rattle.blz_line.specs.declared.registers.Registers.{Registers}
 use Rattle.blz_line.specs.declared.opcode.Op.{Op}
 use Rattle.blz_line.specs.declared.opcode.Op.TheVariants.{Special, Copy, AdvancePc, AdvanceLine, SetFile, SetColumn, Nothing, ConstAddPc, FixedAdvancePc, EndSequence, SetAddress, DefineFile}

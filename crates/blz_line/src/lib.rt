@@ -2,12 +2,17 @@
 //! (DWARF 5 section 6.2).
 #![tactic(auto)]
 
-mod file_entry;
+mod broken;
+mod extent;
+mod formats;
+mod header;
 mod opcode;
+mod paths;
 mod program;
 mod registers;
 mod row;
 mod rules;
 mod table;
 
+pub use header::LineHeader;
 pub use row::{LineRow, LineSequence};

@@ -1,12 +1,12 @@
 //! Opcodes and their operands.
 ghost use Rattle.std.specs.Prelude.{◌≡◌, ◌≤◌, ◌<◌, ◌+◌, length, IfSome};
 ghost use Rattle.blz_entry.specs.Contents.{section_view};
-ghost use Rattle.blz_line.specs.Opcodes.{text_place, file_numbers, file_at, ulebs_passed, extended_op, extended_at, standard_at, op_at};
+ghost use Rattle.blz_line.specs.Opcodes.{ulebs_passed, extended_op, extended_at, standard_at, op_at};
 
-use crate::file_entry::FileEntry;
+use crate::paths::{FileEntry, file_at};
 use crate::rules::Rules;
-use blz_bytes::{sleb_at, u8_at, u16_at, uleb_at, zero_ended_at};
-use blz_entry::{AttrValue, Section, StrPart, StrPlace, address_at};
+use blz_bytes::{sleb_at, u8_at, u16_at, uleb_at};
+use blz_entry::{Section, address_at};
 
 /// An opcode with its operands (DWARF 5 section 6.2.5).
 #[derive(Clone, Copy)]
@@ -25,36 +25,6 @@ pub enum Op {
     EndSequence,
     SetAddress(u64),
     DefineFile(FileEntry),
-}
-
-fn text_place(start: usize, text: &[u8]) -> AttrValue
-    ensures { result ≡ text_place start text.now }
-{
-    AttrValue::Text(StrPlace {
-        part: StrPart::Line,
-        start,
-        len: text.len(),
-    })
-}
-
-#[tactic(auto, unfolding(crate::specs::Opcodes::file_numbers))]
-pub fn file_numbers(path: AttrValue, bytes: &[u8], at: usize) -> Option<(FileEntry, usize)>
-    ensures value { result ≡ file_numbers path bytes.now at }
-    ensures within { IfSome result (λ r. (at < r.1) × (r.1 ≤ length bytes.now)) }
-{
-    let (directory, next) = uleb_at(bytes, at)?;
-    let (_, next) = uleb_at(bytes, next)?;
-    let (_, next) = uleb_at(bytes, next)?;
-    Some((FileEntry { path, directory }, next))
-}
-
-/// A file of versions 2 to 4: a text, and the numbers of its directory, time and size.
-#[tactic(auto, unfolding(crate::specs::Opcodes::file_at))]
-fn file_at(bytes: &[u8], at: usize) -> Option<(FileEntry, usize)>
-    ensures { result ≡ file_at bytes.now at }
-{
-    let (path, next) = zero_ended_at(bytes, at)?;
-    file_numbers(text_place(at, path), bytes, next)
 }
 
 fn ulebs_passed(count: u8, bytes: &[u8], at: usize) -> Option<usize>

@@ -5,14 +5,15 @@ ghost use Rattle.blz_model.specs.Part.{Fails, or_mark};
 ghost use Rattle.blz_entry.specs.Contents.{section_view};
 ghost use Rattle.blz_line.specs.Program.{State, first_state, last_is_at, with_row, row_of, ended, step, run_from};
 
-use crate::file_entry::FileEntry;
+use crate::broken::broken;
 use crate::opcode::{Op, op_at};
+use crate::paths::FileEntry;
 use crate::registers::Registers;
 use crate::row::{LineRow, LineSequence};
 use crate::rules::Rules;
 use crate::table::Table;
 use blz_entry::Section;
-use blz_error::{Error, ErrorKind, Str};
+use blz_error::Error;
 use std::alloc::{AllocError, Global};
 use std::marker::Model;
 use std::mem;
@@ -63,13 +64,6 @@ impl Model for Machine {
     ghost Value = { State };
 
     ghost view = { λ m. record { registers = m.registers; rows = m.rows.items; sequences = m.sequences.items; files = m.files } };
-}
-
-/// The refusal of a program that has no value.
-fn broken() -> Error
-    ensures { result.kind ≡ InvalidDwarf }
-{
-    Error::new(ErrorKind::InvalidDwarf, Str::fixed("invalid line program"))
 }
 
 impl Machine {
