@@ -114,7 +114,7 @@ impl From<AllocError> for Error {
     ghost from_gives = { λ _ e. e ≡ out_of_memory };
 
     fn from(_: AllocError) -> Error {
-        Error::new(ErrorKind::OutOfMemory, Str::fixed("out of memory"))
+        no_memory()
     }
 }
 
@@ -122,6 +122,12 @@ impl<T: Drop> From<AllocFailed<T>> for Error {
     ghost from_gives = { λ _ e. e ≡ out_of_memory };
 
     fn from(_: AllocFailed<T>) -> Error {
-        Error::new(ErrorKind::OutOfMemory, Str::fixed("out of memory"))
+        no_memory()
     }
+}
+
+fn no_memory() -> Error
+    ensures { result ≡ out_of_memory }
+{
+    Error::new(ErrorKind::OutOfMemory, Str::fixed("out of memory"))
 }

@@ -1,0 +1,137 @@
+use crate::{Cause, Error, ErrorExt, ErrorKind, IntoCowStr, IntoError, Mismatch, Result, Str};
+use std::alloc::{AllocError, Global};
+use std::test::Fail;
+
+// invalid data under two contexts
+fn chain(alloc: Global) -> Error {
+    Error::new(ErrorKind::InvalidData, Str::fixed("some invalid data"))
+        .context(alloc, "inner context")
+        .with_context(alloc, || "outer context")
+}
+
+#[test]
+fn prints_a_chain_in_three_ways(rt: HostRuntime) -> std::result::Result<(), Fail> {
+    let alloc = rt.alloc();
+    let error = chain(alloc);
+    let mut text = String::new(alloc);
+    error.plain_text(&mut text)?;
+    assert_eq!(rt; text.as_str(), "outer context");
+
+    text.clear();
+    error.full_text(&mut text)?;
+    assert_eq!(rt;
+        text.as_str(),
+        "outer context: inner context: some invalid data"
+    );
+
+    text.clear();
+    error.report_text(&mut text)?;
+    let report = "Error: outer context\n\nCaused by:\n    inner context\n    some invalid data";
+    assert_eq!(rt; text.as_str(), report);
+    assert_eq!(rt; format!(in alloc; "{error}")?.as_str(), "outer context");
+    assert_eq!(rt; format!(in alloc; "{error:?}")?.as_str(), report);
+    Ok(())
+}
+
+#[test]
+fn prints_an_error_of_one_text(rt: HostRuntime) -> std::result::Result<(), Fail> {
+    let alloc = rt.alloc();
+    let error = Error::from(AllocError);
+    let mut text = String::new(alloc);
+    error.full_text(&mut text)?;
+    error.report_text(&mut text)?;
+    assert_eq!(rt; text.as_str(), "out of memoryError: out of memory");
+    assert!(rt; error.source().is_none());
+    Ok(())
+}
+
+#[test]
+fn walks_the_causes(rt: HostRuntime) -> std::result::Result<(), Fail> {
+    let error = chain(rt.alloc());
+    let inner = error.source().ok_or("no cause")?;
+    assert_eq!(rt; inner.text(), "inner context");
+    let innermost = inner.source().ok_or("no second cause")?;
+    assert_eq!(rt; innermost.text(), "some invalid data");
+    assert!(rt; innermost.source().is_none());
+    Ok(())
+}
+
+#[test]
+fn keeps_kind_and_mismatch_under_a_context(rt: HostRuntime) -> std::result::Result<(), Fail> {
+    let alloc = rt.alloc();
+    let mismatch = Mismatch::new([1, 2].to_vec(alloc)?, [3].to_vec(alloc)?);
+    let failed: Result<u8> = Err(Error::with_mismatch(
+        ErrorKind::InvalidData,
+        Str::fixed("checksum"),
+        mismatch,
+    ));
+    let text = String::from_str(alloc, "opening")?;
+    let error = failed.context(alloc, text).err().ok_or("no error")?;
+    assert_eq!(rt; error.kind(), ErrorKind::InvalidData);
+    let mismatch = error.mismatch().ok_or("no mismatch")?;
+    assert_eq!(rt; mismatch.actual(), [1, 2].as_slice());
+    assert_eq!(rt; mismatch.expected(), [3].as_slice());
+    Ok(())
+}
+
+#[test]
+fn a_value_stays(rt: HostRuntime) -> std::result::Result<(), Fail> {
+    let alloc = rt.alloc();
+    let good: Result<u8> = Ok(5);
+    let good = good
+        .context(alloc, "first")
+        .with_context(alloc, || "second");
+    assert_eq!(rt; good.ok().ok_or("an error")?, 5);
+    let some = Some(7u8).ok_or_not_found(|| "nothing");
+    assert_eq!(rt; some.ok().ok_or("an error")?, 7);
+    Ok(())
+}
+
+#[test]
+fn makes_errors_of_what_is_not_there(rt: HostRuntime) -> std::result::Result<(), Fail> {
+    let alloc = rt.alloc();
+    let none: Option<u8> = None;
+    let errors = [
+        (
+            none.ok_or_error(ErrorKind::Other, || "lost"),
+            ErrorKind::Other,
+        ),
+        (none.ok_or_invalid_data(|| "lost"), ErrorKind::InvalidData),
+        (none.ok_or_invalid_input(|| "lost"), ErrorKind::InvalidInput),
+        (none.ok_or_not_found(|| "lost"), ErrorKind::NotFound),
+        (
+            none.ok_or_unexpected_eof(|| "lost"),
+            ErrorKind::UnexpectedEof,
+        ),
+    ];
+    for (answer, kind) in errors {
+        let error = answer.err().ok_or("a value")?;
+        assert_eq!(rt; error.kind(), kind);
+        assert_eq!(rt; format!(in alloc; "{error}")?.as_str(), "lost");
+    }
+    Ok(())
+}
+
+#[test]
+fn names_the_kinds(rt: HostRuntime) -> std::result::Result<(), Fail> {
+    let texts = [
+        (ErrorKind::NotFound, "entity not found"),
+        (ErrorKind::PermissionDenied, "permission denied"),
+        (ErrorKind::AlreadyExists, "entity already exists"),
+        (ErrorKind::WouldBlock, "operation would block"),
+        (ErrorKind::InvalidInput, "invalid input parameter"),
+        (ErrorKind::InvalidData, "invalid data"),
+        (ErrorKind::InvalidDwarf, "DWARF data invalid"),
+        (ErrorKind::TimedOut, "timed out"),
+        (ErrorKind::WriteZero, "write zero"),
+        (ErrorKind::Unsupported, "unsupported"),
+        (ErrorKind::UnexpectedEof, "unexpected end of file"),
+        (ErrorKind::OutOfMemory, "out of memory"),
+        (ErrorKind::Other, "other error"),
+    ];
+    for (kind, text) in texts {
+        assert_eq!(rt; format!(in rt.alloc(); "{kind}")?.as_str(), text);
+    }
+    assert_eq!(rt; ErrorKind::WriteZero.as_bytes(), b"write zero\0".as_slice());
+    Ok(())
+}
