@@ -1,13 +1,10 @@
 -- Fields of a section: numbers in its byte order, addresses, offsets and blocks.
-use Rattle.std.specs.Prelude.{◌≡◌, refl, ℕ, ◌+◌, Bool, true, false, List, length, Some, None, nat_le, ◌==◌, if◌then◌else◌}
+use Rattle.std.specs.Prelude.{ℕ, ◌+◌, Bool, List, length, Some, None, nat_le, ◌==◌, if◌then◌else◌}
 use Rattle.blz_model.specs.declared.byte_order.ByteOrder.{ByteOrder}
-use Rattle.blz_model.specs.declared.byte_order.ByteOrder.TheVariants.{Little, Big}
 use Rattle.blz_model.specs.Reads.{Read, ◌>>=◌, number}
 use Rattle.blz_model.specs.LebNumbers.{uleb}
 use Rattle.std.specs.FinMap as map
-use Rattle.std.specs.Coded.{Coded, code_by, coded×, coded_list, coded_ℕ, coded_bool}
-use Rattle.std.proofs.Common.{ap}
-use Rattle.blz_elf.specs.Relocations.{OffsetMap, relocated, relocation_code}
+use Rattle.blz_elf.specs.Relocations.{OffsetMap, relocated}
 use Rattle.blz_entry.specs.declared.section.Section.{Section}
 use Rattle.blz_entry.specs.declared.encoding.Encoding.{Encoding}
 use Rattle.blz_entry.specs.declared.form.Width.{Width}
@@ -20,23 +17,6 @@ pub record Contents : Type 0 where
   pub bytes : List ℕ
   pub moves : OffsetMap
   pub order : ByteOrder
-
--- a byte order as whether the greatest byte comes first, and back
-abbrev pub is_big : ByteOrder → Bool
-is_big Little = false
-is_big Big = true
-
-abbrev pub order_of : Bool → ByteOrder
-order_of false = Little
-order_of true = Big
-
-abbrev pub same_order : (o : ByteOrder) → order_of (is_big o) ≡ o
-same_order Little = refl
-same_order Big = refl
-
--- a section is stored as what it is made of
-abbrev pub contents_code : Coded Contents
-contents_code = code_by ((List ℕ × OffsetMap) × Bool) (coded× (coded× (coded_list coded_ℕ) (map.code coded_ℕ relocation_code)) coded_bool) (λ c. ((c.bytes, c.moves), is_big c.order)) (λ p. record { bytes = p.0.0; moves = p.0.1; order = order_of p.1 }) (λ c. ap (λ (o : ByteOrder). record { bytes = c.bytes; moves = c.moves; order = o }) (same_order c.order))
 
 abbrev pub section_view : Section → Contents
 section_view s = record { bytes = s.bytes.now; moves = s.moves.now; order = s.order }

@@ -1,9 +1,8 @@
 -- Headers of units (DWARF 5 sections 7.4 and 7.5.1).
-use Rattle.std.specs.Prelude.{refl, ℕ, zero, suc, ◌+◌, Bool, true, false, ◌&&◌, ◌||◌, List, [], ◌∷◌, length, take, Option, Some, None, nat_lt, nat_le, ◌==◌, if◌then◌else◌}
-use Rattle.std.specs.Coded.{Coded, code_by, coded×, coded_ℕ}
+use Rattle.std.specs.Prelude.{ℕ, zero, suc, ◌+◌, Bool, true, false, ◌&&◌, ◌||◌, List, [], ◌∷◌, length, take, Option, Some, None, nat_lt, nat_le, ◌==◌, if◌then◌else◌}
 use Rattle.blz_model.specs.Reads.{Read, ◌>>=◌}
 use Rattle.blz_bytes.specs.Pieces.{byte}
-use Rattle.blz_entry.specs.Contents.{Contents, contents_code, number_at, offset_at, offset_len}
+use Rattle.blz_entry.specs.Contents.{Contents, number_at, offset_at, offset_len}
 use Rattle.blz_entry.specs.declared.encoding.Encoding.{Encoding}
 use Rattle.blz_entry.specs.declared.extent.Extent.{Extent}
 use Rattle.blz_entry.specs.declared.units.UnitHeader.{UnitHeader}
@@ -91,10 +90,6 @@ header_at s at = do
 pub record UnitList : Type 0 where
   pub section : Contents
   pub place : ℕ
-
--- such units are stored as the section and the place
-abbrev pub unit_list_code : Coded UnitList
-unit_list_code = code_by (Contents × ℕ) (coded× contents_code coded_ℕ) (λ u. (u.section, u.place)) (λ p. record { section = p.0; place = p.1 }) (λ _. refl)
 
 -- the header of the next unit, and none at the section's end
 unfoldable pub next_unit : UnitList → Option (Option UnitHeader)

@@ -6,3 +6,6 @@ pub mod Abbrevs
 pub mod AbbreviationTables
 pub mod Attributes
 pub mod Headers
+pub mod Forest
+pub mod Walks
+pub mod Codes

@@ -4,6 +4,7 @@
 mod abbreviations;
 mod attributes;
 mod encoding;
+mod entries;
 mod extent;
 mod fault;
 mod field;
@@ -18,6 +19,7 @@ mod value;
 
 pub use abbreviations::{Abbreviation, Abbreviations, AttrSpec};
 pub use encoding::Encoding;
+pub use entries::{Entries, Entry};
 pub use extent::{Extent, extent_at};
 pub use field::{address_at, fixed_at, offset_at};
 pub use form::{Field, Form, Makes, Width};

@@ -207,7 +207,8 @@ pub struct UnitHeaders<'s, 'b> {
 
 impl<'s, 'b> Model for UnitHeaders<'s, 'b> {
     ghost use Rattle.blz_entry.specs.Contents.{section_view};
-    ghost use Rattle.blz_entry.specs.Headers.{UnitList, unit_list_code};
+    ghost use Rattle.blz_entry.specs.Headers.{UnitList};
+    ghost use Rattle.blz_entry.specs.Codes.{unit_list_code};
 
     ghost Value = { UnitList };
 
