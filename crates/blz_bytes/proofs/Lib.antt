@@ -1,7 +1,9 @@
 pub mod Accepted
 pub mod Counting
 pub mod LebLoop
+pub mod Multiples
 pub mod NameOrdering
 pub mod NumberLoop
 pub mod PairOrdering
+pub mod RecordsLoop
 pub mod ZeroEnded

@@ -1,8 +1,11 @@
 pub mod CursorValue
 pub mod Joined
+pub mod LeastMultiple
 pub mod NameOrder
 pub mod PairOrder
 pub mod PathBytes
+pub mod PathTexts
 pub mod Pieces
+pub mod Records
 pub mod Rising
 pub mod ToldPlaces

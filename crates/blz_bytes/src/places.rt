@@ -4,7 +4,7 @@ ghost use Rattle.std.specs.Option.{option_map};
 ghost use Rattle.blz_model.specs.Reads.{number};
 ghost use Rattle.blz_bytes.specs.Pieces.{byte, nth_place, piece, zero_ended};
 
-use blz_records::ByteOrder;
+use blz_records::{ByteOrder, u16_in, u32_in, u64_in};
 use memchr::memchr;
 
 /// The next `len` bytes; none where fewer are left.
@@ -38,12 +38,7 @@ pub fn u16_at(bytes: &[u8], at: usize, order: ByteOrder) -> Option<(u16, usize)>
     if at > bytes.len() || bytes.len() - at < 2 {
         return None;
     }
-    let taken = [bytes[at], bytes[at + 1]];
-    let value = match order {
-        ByteOrder::Little => u16::from_le_bytes(taken),
-        ByteOrder::Big => u16::from_be_bytes(taken),
-    };
-    Some((value, at + 2))
+    Some((u16_in(bytes, at, order), at + 2))
 }
 
 /// The number of four bytes.
@@ -54,12 +49,7 @@ pub fn u32_at(bytes: &[u8], at: usize, order: ByteOrder) -> Option<(u32, usize)>
     if at > bytes.len() || bytes.len() - at < 4 {
         return None;
     }
-    let taken = [bytes[at], bytes[at + 1], bytes[at + 2], bytes[at + 3]];
-    let value = match order {
-        ByteOrder::Little => u32::from_le_bytes(taken),
-        ByteOrder::Big => u32::from_be_bytes(taken),
-    };
-    Some((value, at + 4))
+    Some((u32_in(bytes, at, order), at + 4))
 }
 
 /// The number of eight bytes.
@@ -70,21 +60,7 @@ pub fn u64_at(bytes: &[u8], at: usize, order: ByteOrder) -> Option<(u64, usize)>
     if at > bytes.len() || bytes.len() - at < 8 {
         return None;
     }
-    let taken = [
-        bytes[at],
-        bytes[at + 1],
-        bytes[at + 2],
-        bytes[at + 3],
-        bytes[at + 4],
-        bytes[at + 5],
-        bytes[at + 6],
-        bytes[at + 7],
-    ];
-    let value = match order {
-        ByteOrder::Little => u64::from_le_bytes(taken),
-        ByteOrder::Big => u64::from_be_bytes(taken),
-    };
-    Some((value, at + 8))
+    Some((u64_in(bytes, at, order), at + 8))
 }
 
 // the place of the byte with i bytes above it in a number of `width` bytes
