@@ -7,3 +7,5 @@ pub mod Opcodes
 pub mod Registers
 pub mod Sequences
 pub mod Program
+pub mod Best
+pub mod RunningEnds

@@ -2,11 +2,13 @@
 //! (DWARF 5 section 6.2).
 #![tactic(auto)]
 
+mod best;
 mod broken;
 mod extent;
 mod formats;
 mod header;
 mod opcode;
+mod order;
 mod paths;
 mod program;
 mod registers;
