@@ -1,7 +1,8 @@
 -- The sections that have texts.
-use Rattle.std.specs.Prelude.{ℕ, List}
+use Rattle.std.specs.Prelude.{ℕ, ◌+◌, List, slice_range}
 use Rattle.blz_entry.specs.declared.text.Texts.{Texts}
 use Rattle.blz_entry.specs.declared.text.StrPart.{StrPart}
+use Rattle.blz_entry.specs.declared.text.StrPlace.{StrPlace}
 use Rattle.blz_entry.specs.declared.text.StrPart.TheVariants.{Info, Line, Strings, LineStr, SupStrings, PackInfo, PackStrings, SupInfo, SupLineStr}
 
 -- the bytes of a section
@@ -15,3 +16,7 @@ part_of t PackInfo = t.pack_info.now
 part_of t PackStrings = t.pack_strings.now
 part_of t SupInfo = t.sup_info.now
 part_of t SupLineStr = t.sup_line_str.now
+
+-- the bytes of a text; of a place that passes its section's end those that lie inside
+abbrev pub text_of : Texts → StrPlace → List ℕ
+text_of t p = slice_range (part_of t p.part) p.start (p.start + p.len)

@@ -1,6 +1,6 @@
 //! Texts by their places.
-ghost use Rattle.std.specs.Prelude.{◌≡◌, ◌≤◌, ◌+◌, length, slice_range};
-ghost use Rattle.blz_entry.specs.TextParts.{part_of};
+ghost use Rattle.std.specs.Prelude.{◌≡◌};
+ghost use Rattle.blz_entry.specs.TextParts.{part_of, text_of};
 
 /// A section that has texts.
 #[derive(Clone, Copy)]
@@ -71,12 +71,13 @@ fn bytes_of<'b>(texts: &Texts<'b>, part: StrPart) -> &'b [u8]
 }
 
 impl<'b> Texts<'b> {
-    /// The bytes of a text.
+    /// The bytes of a text; of a place that passes its section's end those that lie inside.
     pub fn get(&self, place: StrPlace) -> &'b [u8]
-        requires { place.start + place.len ≤ length (part_of self.now place.part) }
-        ensures { result.now ≡ slice_range (part_of self.now place.part) place.start (place.start + place.len) }
+        ensures { result.now ≡ text_of self.now place }
     {
         let bytes = bytes_of(self, place.part);
-        &bytes[place.start..place.start + place.len]
+        let start = place.start.min(bytes.len());
+        let len = place.len.min(bytes.len() - start);
+        &bytes[start..start + len]
     }
 }
