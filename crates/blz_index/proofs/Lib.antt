@@ -1,0 +1,11 @@
+pub mod BestOf
+pub mod InTurn
+pub mod Halving
+pub mod Backward
+pub mod Carried
+pub mod Scanning
+pub mod Made
+pub mod Alone
+pub mod OwnedItems
+pub mod ChainPath
+pub mod ChainLoop
