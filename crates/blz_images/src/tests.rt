@@ -1,0 +1,99 @@
+//! Places in images, as the formats give them.
+use crate::{
+    ByteOrder, Class, Image, Section, Symbol, Writer, nested_functions, no_sections, patched,
+    prefix, with_nested_functions,
+};
+use std::test::Fail;
+
+#[test]
+fn lays_two_functions_out(rt: HostRuntime) -> Result<(), Fail> {
+    let image = nested_functions(rt.alloc())?;
+    assert_eq!(rt; image.len(), 424);
+    let bytes = image.as_slice();
+    assert_eq!(rt; prefix(bytes, 7), b"\x7fELF\x02\x01\x01".as_slice());
+    // shoff, and shnum and shstrndx
+    assert_eq!(rt;
+        bytes.get(40..48).unwrap_or(&[]),
+        [64, 0, 0, 0, 0, 0, 0, 0].as_slice()
+    );
+    assert_eq!(rt; bytes.get(60..64).unwrap_or(&[]), [4, 0, 1, 0].as_slice());
+    assert_eq!(rt;
+        bytes.get(320..347).unwrap_or(&[]),
+        b"\0.shstrtab\0.symtab\0.strtab\0".as_slice()
+    );
+    // the third symbol: B, a function of the first section at 10 with size 10
+    let b = [
+        3, 0, 0, 0, 2, 0, 1, 0, 10, 0, 0, 0, 0, 0, 0, 0, 10, 0, 0, 0, 0, 0, 0, 0,
+    ];
+    assert_eq!(rt; bytes.get(395..419).unwrap_or(&[]), b.as_slice());
+    assert_eq!(rt; bytes.get(419..).unwrap_or(&[]), b"\0A\0B\0".as_slice());
+    Ok(())
+}
+
+#[test]
+fn writes_the_other_class_and_order(rt: HostRuntime) -> Result<(), Fail> {
+    let image = with_nested_functions(Image::elf32(rt.alloc()).big_endian())?;
+    let bytes = image.as_slice();
+    // a header of 52, four section headers of 40, names of 27, three symbols of 16, names of 5 bytes
+    assert_eq!(rt; bytes.len(), 292);
+    assert_eq!(rt; bytes.get(4..6).unwrap_or(&[]), [1, 2].as_slice());
+    assert_eq!(rt; bytes.get(32..36).unwrap_or(&[]), [0, 0, 0, 52].as_slice());
+    let b = [0, 0, 0, 3, 0, 0, 0, 10, 0, 0, 0, 10, 2, 0, 0, 1];
+    assert_eq!(rt; bytes.get(271..287).unwrap_or(&[]), b.as_slice());
+    Ok(())
+}
+
+#[test]
+fn writes_segments_and_sections(rt: HostRuntime) -> Result<(), Fail> {
+    let alloc = rt.alloc();
+    let segment = Image::elf64(alloc).segment(0x1000, 0x200, 0x100)?.bytes()?;
+    assert_eq!(rt; segment.len(), 120);
+    let bytes = segment.as_slice();
+    assert_eq!(rt;
+        bytes.get(72..84).unwrap_or(&[]),
+        [0, 2, 0, 0, 0, 0, 0, 0, 0, 16, 0, 0].as_slice()
+    );
+
+    let image = Image::elf64(alloc)
+        .file_type(1)
+        .add_dynamic_symbol(Symbol::function("f", 1, 2).variable().in_section(9))?
+        .add_section(
+            Section::new(".text", 8, b"abc")
+                .with_flags(6)
+                .at_address(7)
+                .linked(2, 1),
+        )?
+        .section(".end", 1, b"")?
+        .bytes()?;
+    let bytes = image.as_slice();
+    assert_eq!(rt; bytes.get(16..18).unwrap_or(&[]), [1, 0].as_slice());
+    assert_eq!(rt; bytes.get(60..62).unwrap_or(&[]), [6, 0].as_slice());
+    assert_eq!(rt; image.len(), 540);
+    Ok(())
+}
+
+#[test]
+fn changes_a_byte(rt: HostRuntime) -> Result<(), Fail> {
+    let header = no_sections(rt.alloc())?;
+    assert_eq!(rt; header.len(), 64);
+    let other = patched(header, 4, 3);
+    assert_eq!(rt; other.get(4), Some(&3));
+    let same = patched(other, 64, 3);
+    assert_eq!(rt; prefix(same.as_slice(), 99).len(), 64);
+    Ok(())
+}
+
+#[test]
+fn writes_numbers(rt: HostRuntime) -> Result<(), Fail> {
+    let mut out = Writer::new(rt.alloc(), Class::Elf32, ByteOrder::Big);
+    out.uleb(624485)?;
+    out.uleb(0)?;
+    out.u16(258)?;
+    out.word(0x1_0000_0203)?;
+    out.text("a")?;
+    assert_eq!(rt;
+        out.bytes(),
+        [0xe5, 0x8e, 0x26, 0, 1, 2, 0, 0, 2, 3, 97, 0].as_slice()
+    );
+    Ok(())
+}
