@@ -2,7 +2,8 @@
 use Rattle.std.proofs.Common.{◌≡◌, ℕ, zero, suc, ◌<◌, ◌≤◌, Bool, true, false, cond, List, [], ◌∷◌, length, get_or, filter, max, Option, Some, None, refl, ap, ◌∙◌, arith, leb}
 use Rattle.std.specs.List.{fold}
 use Rattle.std.proofs.lemmas.Bool.Decides.{nat_tests}
-use Rattle.blz_elf.specs.SymbolRule.{Symbol, larger, largest, greatest}
+use Rattle.blz_elf.specs.SymbolRule.{larger, largest, greatest}
+use Rattle.blz_elf.specs.SymbolTables.{Symbol}
 use Rattle.blz_elf.specs.Accepted.{no_symbol}
 
 abbrev pub Passes : (Symbol → Bool) → List Symbol → ℕ → Type 0

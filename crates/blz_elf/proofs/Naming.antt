@@ -5,7 +5,7 @@ use Rattle.std.specs.Str.{bytes_eq}
 use Rattle.std.proofs.lemmas.List.{get_or-drop, length-drop, length-map, at_drop_more}
 use Rattle.blz_model.specs.Part.{Good}
 use Rattle.blz_model.specs.Texts.{text_at, name_at}
-use Rattle.blz_elf.specs.Images as model
+use Rattle.blz_elf.specs.Sections as model
 use Rattle.blz_elf.specs.Images.{names_of}
 use Rattle.blz_model.proofs.PartLemmas.{all_good_at}
 use Rattle.blz_elf.specs.Names.{name_in, names_in}

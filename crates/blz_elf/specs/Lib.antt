@@ -1,5 +1,10 @@
+pub mod Formats
+pub mod Headers
+pub mod Sections
 pub mod Images
+pub mod SymbolTables
 pub mod SymbolRule
+pub mod Relocations
 pub mod Names
 pub mod Places
 pub mod Views
@@ -11,4 +16,3 @@ pub mod AnswerView
 pub mod Warm
 pub mod Sources
 pub mod Asked
-pub mod Relocations

@@ -2,14 +2,14 @@
 use Rattle.std.specs.Prelude.{ℕ, List, [], drop, map}
 use Rattle.blz_model.specs.Part.{Part, Good, Broken}
 use Rattle.blz_model.specs.Texts.{name_at}
-use Rattle.blz_elf.specs.Images as model
+use Rattle.blz_elf.specs.Sections.{Section}
 
 abbrev pub value_or : {A : Type 0} → A → Part A → A
 value_or d (Good x) = x
 value_or d (Broken k) = d
 
-abbrev pub name_in : List ℕ → model.Section → List ℕ
+abbrev pub name_in : List ℕ → Section → List ℕ
 name_in texts s = value_or [] (name_at texts s.name_offset)
 
-abbrev pub names_in : List ℕ → List model.Section → List (List ℕ)
+abbrev pub names_in : List ℕ → List Section → List (List ℕ)
 names_in texts sections = map (name_in texts) (drop 1 sections)

@@ -1,8 +1,11 @@
 -- Places in an image, and what lies there.
 use Rattle.std.specs.Prelude.{ℕ, ◌+◌, ◌*◌, ◌≤◌, List, length, map, slice_range}
 use Rattle.std.specs.List.{range_with_len}
-use Rattle.blz_elf.specs.Images as images
-use Rattle.blz_elf.specs.SymbolRule as symbols
+use Rattle.blz_elf.specs.Formats.{section_size, symbol_size}
+use Rattle.blz_elf.specs.Sections as sections
+use Rattle.blz_elf.specs.SymbolTables as symbols
+use Rattle.blz_elf.specs.declared.format.Class.{Class}
+use Rattle.blz_elf.specs.declared.format.Format.{Format}
 use Rattle.blz_elf.specs.declared.span.Span.{Span}
 use Rattle.blz_elf.specs.declared.span.Rows.{Rows}
 
@@ -13,12 +16,18 @@ SpanFits image s = s.at + s.len ≤ length image
 abbrev pub span_in : List ℕ → Span → List ℕ
 span_in image s = slice_range image s.at (s.at + s.len)
 
--- records of `wide` bytes that lie in the image
-abbrev pub RowsFit : ℕ → List ℕ → Rows → Type 0
-RowsFit wide image r = r.at + wide * r.count ≤ length image
+-- records that lie in the image, of the size that their class gives them
+abbrev pub RowsFit : (Class → ℕ) → List ℕ → Rows → Type 0
+RowsFit size image r = r.at + size r.format.class * r.count ≤ length image
 
-abbrev pub sections_in : List ℕ → Rows → List images.Section
-sections_in image r = map (λ i. images.section_at image (r.at + 64 * i)) (range_with_len 0 r.count)
+abbrev pub run_of : Rows → sections.Run
+run_of r = record { start = r.at; count = r.count }
+
+abbrev pub rows_in : {A : Type 0} → (Format → List ℕ → ℕ → A) → (Class → ℕ) → List ℕ → Rows → List A
+rows_in record_at size image r = map (λ i. record_at r.format image (r.at + size r.format.class * i)) (range_with_len 0 r.count)
+
+abbrev pub sections_in : List ℕ → Rows → List sections.Section
+sections_in image r = rows_in sections.section_at section_size image r
 
 abbrev pub symbols_in : List ℕ → Rows → List symbols.Symbol
-symbols_in image r = map (λ i. symbols.symbol_at image (r.at + 24 * i)) (range_with_len 0 r.count)
+symbols_in image r = rows_in symbols.symbol_at symbol_size image r

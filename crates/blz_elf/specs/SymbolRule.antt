@@ -1,71 +1,41 @@
--- Symbols, and the symbol of an address.
-use Rattle.std.specs.Prelude.{ℕ, ◌+◌, ◌*◌, ◌/◌, ◌%◌, Bool, ◌&&◌, ◌||◌, not, List, [], length, map, filter, codes, max, slice_index, nat_le, nat_lt, ◌==◌, Option, Some, None, is_some, if◌then◌else◌}
-use Rattle.std.specs.List.{range_with_len, fold}
-use Rattle.blz_error.specs.declared.kind.ErrorKind.TheVariants.{InvalidData, Unsupported}
-use Rattle.blz_model.specs.Part.{Part, Good, ◌>>=◌, check, all_good}
-use Rattle.blz_model.specs.declared.reason.Reason.TheVariants as Reason
-use Rattle.blz_model.specs.declared.src_lang.SrcLang.TheVariants as SrcLang
+-- The symbol of an address.
+use Rattle.std.specs.Prelude.{ℕ, ◌+◌, Bool, true, false, ◌&&◌, ◌||◌, not, List, [], length, map, filter, max, nat_le, nat_lt, ◌==◌, Option, Some, None, if◌then◌else◌}
+use Rattle.std.specs.List.{fold}
+use Rattle.blz_model.specs.Part.{Part, Good, ◌>>=◌, all_good}
+use Rattle.blz_model.specs.declared.reason.Reason.{Reason}
+use Rattle.blz_model.specs.declared.reason.Reason.TheVariants as reason
+use Rattle.blz_model.specs.declared.src_lang.SrcLang.TheVariants as lang
 use Rattle.blz_model.specs.Answers.{Answer, Known, Unknown}
-use Rattle.blz_model.specs.Numbers.{little}
 use Rattle.blz_model.specs.Texts.{name_at}
-use Rattle.blz_elf.specs.Images.{Section, Elf, raw_data, section_named, section_called, elf_of}
+use Rattle.blz_elf.specs.declared.question.TableKind.{TableKind}
+use Rattle.blz_elf.specs.declared.question.TableKind.TheVariants.{Symtab, Dynsym}
+use Rattle.blz_elf.specs.declared.question.Question.{Question}
+use Rattle.blz_elf.specs.Images.{Elf, elf_of}
+use Rattle.blz_elf.specs.SymbolTables.{Symbol, SymbolTable, table_of}
 
-pub record Symbol : Type 0 where
-  pub name_offset : ℕ
-  pub value : ℕ
-  pub size : ℕ
-  pub kind : ℕ
-  pub section : ℕ
+-- STT_NOTYPE, STT_OBJECT, STT_FUNC and STT_GNU_IFUNC: the types that are answered
+abbrev pub is_typed : Symbol → Bool
+is_typed s = (s.kind == 0) || (s.kind == 1) || (s.kind == 2) || (s.kind == 10)
 
-abbrev pub symbol_at : List ℕ → ℕ → Symbol
-symbol_at bytes at = record {
-  name_offset = little bytes at 4;
-  value = little bytes (at + 8) 8;
-  size = little bytes (at + 16) 8;
-  kind = slice_index bytes (at + 4) % 16;
-  section = little bytes (at + 6) 2;
-}
-
--- the records of a section, each of `wide` bytes
-unfoldable pub records_of : {A : Type 0} → (List ℕ → ℕ → A) → ℕ → List ℕ → Section → Part (List A)
-records_of record_at wide bytes s =
-    if s.kind == 8 then Good []
-    else (do
-      whole ← check (s.size % wide == 0) InvalidData
-      inside ← check ((s.size == 0) || nat_le (s.offset + s.size) (length bytes)) InvalidData
-      Good (map (λ i. record_at bytes (s.offset + wide * i)) (range_with_len 0 (s.size / wide))))
-
--- a table of symbols, with the bytes of their names
-pub record SymbolTable : Type 0 where
-  pub symbols : List Symbol
-  pub strings : List ℕ
-
--- what is read of a section, where there is one
-abbrev pub if_there : {A : Type 0} → (Section → Part (List A)) → Option Section → Part (List A)
-if_there read None = Good []
-if_there read (Some s) = read s
-
--- the list of `.symtab`
-unfoldable pub symtab_of : Elf → Part SymbolTable
-symtab_of elf = do
-  symbols ← if_there (records_of symbol_at 24 elf.image) (section_called elf (codes ".symtab"))
-  strings ← if_there (raw_data elf.image) (section_called elf (codes ".strtab"))
-  plain ← check (not ((length symbols == 0) && is_some (section_named elf (codes ".gnu_debugdata")))) Unsupported
-  Good (record { symbols = symbols; strings = strings })
-
--- ---- the symbol rule
-
--- types 0, 1, 2 and 10, and a value at most the address
+-- of an answered type, and with a value up to the address
 abbrev pub is_candidate : ℕ → Symbol → Bool
-is_candidate addr s = ((s.kind == 0) || (s.kind == 1) || (s.kind == 2) || (s.kind == 10)) && nat_le s.value addr
+is_candidate addr s = is_typed s && nat_le s.value addr
 
 -- the greatest value, or 0 where there is none
 abbrev pub greatest : List Symbol → ℕ
 greatest symbols = fold (λ g s. max g s.value) 0 symbols
 
--- a size of 0 covers every address from the value on
-abbrev pub covers : ℕ → Symbol → Bool
-covers addr s = (s.size == 0) || nat_lt addr (s.value + s.size)
+-- whether a symbol of size 0 covers an address: in `.symtab` each from its value on, in `.dynsym` its value alone
+abbrev pub sizeless_covers : TableKind → ℕ → ℕ → Bool
+sizeless_covers Symtab addr value = true
+sizeless_covers Dynsym addr value = value == addr
+
+abbrev pub covers : TableKind → ℕ → Symbol → Bool
+covers kind addr s = if s.size == 0 then sizeless_covers kind addr s.value else nat_lt addr (s.value + s.size)
+
+-- it is defined (not SHN_UNDEF), and covers the address
+abbrev pub may_answer : Question → Symbol → Bool
+may_answer q s = not (s.section == 0) && covers q.table q.addr s
 
 -- the larger, or the earlier where they are alike
 abbrev pub larger : Option Symbol → Symbol → Option Symbol
@@ -76,13 +46,13 @@ larger (Some t) s = if nat_lt t.size s.size then Some s else Some t
 abbrev pub largest : List Symbol → Option Symbol
 largest symbols = fold larger None symbols
 
--- a symbol that may answer, where g is the greatest value of the candidates
-abbrev pub answers : ℕ → ℕ → Symbol → Bool
-answers addr g s = is_candidate addr s && (s.value == g) && not (s.section == 0) && covers addr s
+-- a symbol that answers, where g is the greatest value of the candidates
+abbrev pub answers : Question → ℕ → Symbol → Bool
+answers q g s = is_candidate q.addr s && (s.value == g) && may_answer q s
 
--- Of the candidates with the greatest value, the first of the greatest size that is defined and covers the address.
-unfoldable pub covering : List Symbol → ℕ → Option Symbol
-covering symbols addr = largest (filter (answers addr (greatest (filter (is_candidate addr) symbols))) symbols)
+-- Of the candidates with the greatest value, the first of the greatest size that may answer.
+unfoldable pub covering : Question → List Symbol → Option Symbol
+covering q symbols = largest (filter (answers q (greatest (filter (is_candidate q.addr) symbols))) symbols)
 
 -- a symbol as an answer
 unfoldable pub named : Option (List ℕ) → SymbolTable → Symbol → Part Answer
@@ -93,26 +63,57 @@ named module_name table s = do
     module_name = module_name;
     addr = s.value;
     size = if s.size == 0 then None else Some s.size;
-    lang = SrcLang.Unknown;
+    lang = lang.Unknown;
     site = None;
     inlined = [];
   }))
 
--- the answer of the symbol rule, over a table and a section `.dynsym` that is not read
-unfoldable pub symbol_in : Option (List ℕ) → Elf → SymbolTable → ℕ → Part Answer
-symbol_in module_name elf table addr = found (covering table.symbols addr)
+-- the answer of a table, where it has one
+unfoldable pub answer_in : Option (List ℕ) → TableKind → SymbolTable → ℕ → Part (Option Answer)
+answer_in module_name kind table addr = of (covering (record { table = kind; addr = addr }) table.symbols)
   where
-    found : Option Symbol → Part Answer
-    found (Some s) = named module_name table s
-    found None = do
-      plain ← check (not (is_some (section_named elf (codes ".dynsym")))) Unsupported
-      Good (Unknown (if length table.symbols == 0 then Reason.MissingSyms else Reason.UnknownAddr))
+    of : Option Symbol → Part (Option Answer)
+    of None = Good None
+    of (Some s) = do
+      answer ← named module_name table s
+      Good (Some answer)
+
+-- the answer of one of the tables of an image
+unfoldable pub table_answer : Option (List ℕ) → Elf → TableKind → ℕ → Part (Option Answer)
+table_answer module_name elf kind addr = do
+  table ← table_of kind elf
+  answer_in module_name kind table addr
+
+-- why there is no symbol: `.symtab` has none at all, or none that covers the address
+abbrev pub reason_of : SymbolTable → Reason
+reason_of table = if length table.symbols == 0 then reason.MissingSyms else reason.UnknownAddr
+
+unfoldable pub reason_for : Elf → Part Reason
+reason_for elf = do
+  symtab ← table_of Symtab elf
+  Good (reason_of symtab)
+
+-- The answer of `.dynsym`, which is read only where `.symtab` has none, else the reason.
+unfoldable pub dynamic_answer : Option (List ℕ) → Elf → ℕ → Part Answer
+dynamic_answer module_name elf addr = do
+  answer ← table_answer module_name elf Dynsym addr
+  or_reason answer
+  where
+    or_reason : Option Answer → Part Answer
+    or_reason (Some answer) = Good answer
+    or_reason None = do
+      reason ← reason_for elf
+      Good (Unknown reason)
 
 -- the symbol of an address
 unfoldable pub symbol_for : Option (List ℕ) → Elf → ℕ → Part Answer
 symbol_for module_name elf addr = do
-  table ← symtab_of elf
-  symbol_in module_name elf table addr
+  answer ← table_answer module_name elf Symtab addr
+  or_dynamic answer
+  where
+    or_dynamic : Option Answer → Part Answer
+    or_dynamic (Some answer) = Good answer
+    or_dynamic None = dynamic_answer module_name elf addr
 
 unfoldable pub image_symbol : List ℕ → Option (List ℕ) → ℕ → Part Answer
 image_symbol image module_name addr = do

@@ -1,27 +1,23 @@
 -- What a kept table of symbols stands for in its image.
 use Rattle.std.specs.Prelude.{◌≡◌, ℕ, List, map, filter, IfSome}
-use Rattle.blz_model.specs.Part.{Part, ◌>>=◌}
-use Rattle.blz_elf.specs.Images.{elf_of}
-use Rattle.blz_elf.specs.SymbolRule as model
+use Rattle.blz_elf.specs.SymbolTables as symbols
+use Rattle.blz_elf.specs.SymbolRule.{is_typed}
 use Rattle.blz_elf.specs.declared.table.Table.{Table}
 use Rattle.blz_elf.specs.declared.sorted.Sorted.{Sorted}
+use Rattle.blz_elf.specs.Formats.{symbol_size}
 use Rattle.blz_elf.specs.Places.{SpanFits, span_in, RowsFit, symbols_in}
 use Rattle.blz_elf.specs.Views.{symbol_view}
-use Rattle.blz_elf.specs.Accepted.{is_typed, IsAccepted}
+use Rattle.blz_elf.specs.Accepted.{IsAccepted}
 
-abbrev pub table_view : List ℕ → Table → model.SymbolTable
+abbrev pub table_view : List ℕ → Table → symbols.SymbolTable
 table_view image t = record { symbols = symbols_in image t.symbols; strings = span_in image t.strings }
 
--- the symbols of the asked types, and an accepted order of them
-pub record Sorts (symbols : List model.Symbol) (s : Sorted) : Type 0 where
+-- the symbols of the answered types, and an accepted order of them
+pub record Sorts (symbols : List symbols.Symbol) (s : Sorted) : Type 0 where
   pub typed : map symbol_view s.typed.items ≡ filter is_typed symbols
   pub order : IfSome s.order (λ o. IsAccepted (map symbol_view s.typed.items) o.items)
 
 pub record TableFits (image : List ℕ) (t : Table) : Type 0 where
-  pub symbols : RowsFit 24 image t.symbols
+  pub symbols : RowsFit symbol_size image t.symbols
   pub strings : SpanFits image t.strings
   pub sorted : IfSome t.sorted (Sorts (symbols_in image t.symbols))
-
--- the table of an image
-unfoldable pub table_of : List ℕ → Part model.SymbolTable
-table_of image = elf_of image >>= model.symtab_of

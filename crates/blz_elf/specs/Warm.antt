@@ -1,15 +1,19 @@
 -- Kept parts, and the image that they fit.
 use Rattle.std.specs.Prelude.{◌≡◌, ℕ, Bool, true, false, List, is_some}
-use Rattle.blz_elf.specs.Images.{header_of, elf_of, image_sections}
-use Rattle.blz_model.specs.Kept.{Kept, is_kept}
 use Rattle.blz_model.specs.declared.cache.Cache.{Cache}
 use Rattle.blz_model.specs.declared.cache.Cache.TheVariants.{Empty, Value, Mark}
+use Rattle.blz_model.specs.Kept.{Kept, is_kept}
+use Rattle.blz_elf.specs.Headers.{header_of}
+use Rattle.blz_elf.specs.Images.{elf_of, image_sections}
+use Rattle.blz_elf.specs.Formats.{section_size}
 use Rattle.blz_elf.specs.declared.table.Table.{Table}
 use Rattle.blz_elf.specs.declared.warm.ElfWarm.{ElfWarm}
 use Rattle.blz_elf.specs.Views.{header_view}
 use Rattle.blz_elf.specs.Places.{RowsFit, sections_in}
 use Rattle.blz_elf.specs.Frames.{FrameFits, frame_view}
-use Rattle.blz_elf.specs.Tables.{TableFits, table_view, table_of}
+use Rattle.blz_elf.specs.declared.question.TableKind.TheVariants.{Symtab, Dynsym}
+use Rattle.blz_elf.specs.SymbolTables.{image_table}
+use Rattle.blz_elf.specs.Tables.{TableFits, table_view}
 
 -- a table, with its order where it has one
 abbrev pub is_sorted : Cache Table → Bool
@@ -17,13 +21,19 @@ is_sorted Empty = false
 is_sorted (Value t) = is_some t.sorted
 is_sorted (Mark k) = true
 
+pub record AllKept (w : ElfWarm) : Type 0 where
+  pub frame : is_kept w.frame ≡ true
+  pub symtab : is_sorted w.symtab ≡ true
+  pub dynsym : is_sorted w.dynsym ≡ true
+
 -- Each cache is empty, or holds what its part is. A prepared one has them all.
 pub record Fits (image : List ℕ) (w : ElfWarm) : Type 0 where
   pub header : Kept (λ _. Unit {0}) header_view w.header (header_of image)
-  pub sections : Kept (RowsFit 64 image) (sections_in image) w.sections (image_sections image)
+  pub sections : Kept (RowsFit section_size image) (sections_in image) w.sections (image_sections image)
   pub frame : Kept (FrameFits image) (frame_view image) w.frame (elf_of image)
-  pub table : Kept (TableFits image) (table_view image) w.table (table_of image)
-  pub full : w.prepared ≡ true → (is_kept w.frame ≡ true) × (is_sorted w.table ≡ true)
+  pub symtab : Kept (TableFits image) (table_view image) w.symtab (image_table Symtab image)
+  pub dynsym : Kept (TableFits image) (table_view image) w.dynsym (image_table Dynsym image)
+  pub full : w.prepared ≡ true → AllKept w
 
 -- whether `prepare` filled them
 abbrev pub warm_prepared : ElfWarm → Bool

@@ -4,31 +4,36 @@ ghost use Rattle.std.specs.Option.{option_map};
 ghost use Rattle.blz_model.specs.Part.{Exactly};
 ghost use Rattle.blz_model.specs.Kept.{Kept, is_kept};
 ghost use Rattle.blz_elf.specs.Images.{elf_of};
-ghost use Rattle.blz_elf.specs.SymbolRule.{symtab_of, symbol_for};
+ghost use Rattle.blz_elf.specs.declared.question.TableKind.TheVariants.{Symtab, Dynsym};
+ghost use Rattle.blz_elf.specs.SymbolTables.{table_of, image_table};
+ghost use Rattle.blz_elf.specs.SymbolRule.{symbol_for, table_answer, dynamic_answer, reason_for};
 ghost use Rattle.blz_elf.specs.AnswerView.{answer_view};
 ghost use Rattle.blz_elf.specs.Frames.{FrameFits, frame_view};
-ghost use Rattle.blz_elf.specs.Tables.{table_of, TableFits, table_view};
+ghost use Rattle.blz_elf.specs.Tables.{TableFits, table_view};
 ghost use Rattle.blz_elf.specs.Warm.{Fits, is_sorted};
 
 use crate::answer::Answer;
 use crate::image::{Frame, Image};
-use crate::lookup::symbol_in;
-use crate::table::{Table, symtab};
+use crate::lookup::answer_in;
+use crate::question::{Question, TableKind};
+use crate::table::{Table, read_table};
 use crate::warm::ElfWarm;
 use blz_bytes::Orders;
 use blz_error::{Error, Result, Str};
-use blz_model::Cache;
+use blz_model::{Cache, Reason};
 use std::alloc::{AllocError, Global};
 
 /// Sorts the symbols of a table that is kept, where they are not sorted yet.
+#[tactic(auto, unfolding(crate::specs::SymbolTables::image_table))]
 pub fn sort_table<O: Orders>(
     alloc: Global,
     orders: &mut O,
     image: &[u8],
+    kind: TableKind,
     table: &mut Cache<Table>,
 ) -> std::result::Result<(), AllocError>
-    requires { Kept (TableFits image.now) (table_view image.now) table.old (table_of image.now) }
-    ensures kept { Kept (TableFits image.now) (table_view image.now) table.new (table_of image.now) }
+    requires { Kept (TableFits image.now) (table_view image.now) table.old (image_table kind image.now) }
+    ensures kept { Kept (TableFits image.now) (table_view image.now) table.new (image_table kind image.now) }
     ensures filled { is_kept table.new ≡ is_kept table.old }
     ensures before { is_sorted table.old ≡ true → is_sorted table.new ≡ true }
     ensures sorted { IfOk result (λ _. is_kept table.old ≡ true → is_sorted table.new ≡ true) }
@@ -39,60 +44,131 @@ pub fn sort_table<O: Orders>(
     Ok(())
 }
 
-/// The symbol of an address, by a table that is kept.
-#[tactic(auto, unfolding(crate::specs::SymbolRule::symbol_for))]
+/// The answer of a table that is kept, where it has one.
+#[tactic(auto, unfolding(crate::specs::SymbolRule::table_answer))]
 pub fn look<'b>(
     alloc: Global,
     module_name: Option<&'b str>,
     image: &Image<'b>,
+    question: &Question,
     table: &Cache<Table>,
-    addr: u64,
-) -> Result<Answer<'b>>
-    requires kept { Kept (TableFits image.now.image) (table_view image.now.image) table.now (symtab_of image.now) }
+) -> Result<Option<Answer<'b>>>
+    requires kept { Kept (TableFits image.now.image) (table_view image.now.image) table.now (table_of question.now.table image.now) }
     requires full { is_kept table.now ≡ true }
-    ensures { Exactly answer_view result (symbol_for (option_map (λ m. m.now) module_name.entry) image.now addr) }
+    ensures { Exactly (option_map answer_view) result (table_answer (option_map (λ m. m.now) module_name.entry) image.now question.now.table question.now.addr) }
 {
     match table {
-        Cache::Value(table) => symbol_in(alloc, module_name, image, table, addr),
+        Cache::Value(table) => answer_in(alloc, module_name, image.bytes(), table, question),
         Cache::Mark(kind) => Err(Error::new(*kind, Str::fixed("symbol table"))),
         Cache::Empty => unreachable!(),
     }
 }
 
-/// Keeps the frame and the table.
-#[tactic(auto, unfolding(crate::specs::Tables::table_of))]
+/// Why there is no symbol, by a table of `.symtab` that is kept.
+#[tactic(auto, unfolding(crate::specs::SymbolRule::reason_for))]
+fn reason(image: &Image<'_>, symtab: &Cache<Table>) -> Result<Reason>
+    requires kept { Kept (TableFits image.now.image) (table_view image.now.image) symtab.now (table_of Symtab image.now) }
+    requires full { is_kept symtab.now ≡ true }
+    ensures { Exactly (λ r. r) result (reason_for image.now) }
+{
+    match symtab {
+        Cache::Value(table) if table.symbols.count == 0 => Ok(Reason::MissingSyms),
+        Cache::Value(_) => Ok(Reason::UnknownAddr),
+        Cache::Mark(kind) => Err(Error::new(*kind, Str::fixed("symbol table"))),
+        Cache::Empty => unreachable!(),
+    }
+}
+
+/// The answer of `.dynsym`, else the reason, by tables that are kept.
+#[tactic(auto, unfolding(crate::specs::SymbolRule::dynamic_answer))]
+pub fn look_dynamic<'b>(
+    alloc: Global,
+    module_name: Option<&'b str>,
+    image: &Image<'b>,
+    symtab: &Cache<Table>,
+    dynsym: &Cache<Table>,
+    addr: u64,
+) -> Result<Answer<'b>>
+    requires symtab { Kept (TableFits image.now.image) (table_view image.now.image) symtab.now (table_of Symtab image.now) }
+    requires dynsym { Kept (TableFits image.now.image) (table_view image.now.image) dynsym.now (table_of Dynsym image.now) }
+    requires full { is_kept symtab.now ≡ true }
+    requires dynsym_full { is_kept dynsym.now ≡ true }
+    ensures { Exactly answer_view result (dynamic_answer (option_map (λ m. m.now) module_name.entry) image.now addr) }
+{
+    let question = Question {
+        table: TableKind::Dynsym,
+        addr,
+    };
+    match look(alloc, module_name, image, &question, dynsym)? {
+        Some(answer) => Ok(answer),
+        None => Ok(Answer::NoSym(reason(image, symtab)?)),
+    }
+}
+
+/// The symbol of an address, by tables that are kept.
+#[tactic(auto, unfolding(crate::specs::SymbolRule::symbol_for))]
+pub fn look_both<'b>(
+    alloc: Global,
+    module_name: Option<&'b str>,
+    image: &Image<'b>,
+    symtab: &Cache<Table>,
+    dynsym: &Cache<Table>,
+    addr: u64,
+) -> Result<Answer<'b>>
+    requires symtab { Kept (TableFits image.now.image) (table_view image.now.image) symtab.now (table_of Symtab image.now) }
+    requires dynsym { Kept (TableFits image.now.image) (table_view image.now.image) dynsym.now (table_of Dynsym image.now) }
+    requires full { is_kept symtab.now ≡ true }
+    requires dynsym_full { is_kept dynsym.now ≡ true }
+    ensures { Exactly answer_view result (symbol_for (option_map (λ m. m.now) module_name.entry) image.now addr) }
+{
+    let question = Question {
+        table: TableKind::Symtab,
+        addr,
+    };
+    match look(alloc, module_name, image, &question, symtab)? {
+        Some(answer) => Ok(answer),
+        None => look_dynamic(alloc, module_name, image, symtab, dynsym, addr),
+    }
+}
+
+/// Reads a table where nothing is kept.
+pub fn fill_table(table: &mut Cache<Table>, image: &Image<'_>, kind: TableKind)
+    requires { Kept (TableFits image.now.image) (table_view image.now.image) table.old (table_of kind image.now) }
+    ensures kept { Kept (TableFits image.now.image) (table_view image.now.image) table.new (table_of kind image.now) }
+    ensures full { is_kept table.new ≡ true }
+    ensures sorted { is_sorted table.old ≡ true → is_sorted table.new ≡ true }
+{
+    if let Cache::Empty = table {
+        *table = match read_table(image, kind) {
+            Ok(read) => Cache::Value(read),
+            Err(e) => Cache::Mark(e.kind()),
+        };
+    }
+}
+
+/// Keeps the frame and both tables.
+#[tactic(auto, unfolding(crate::specs::SymbolTables::image_table))]
 pub fn fill(warm: &mut ElfWarm, image: &[u8], read: Result<Frame>)
     requires fits { Fits image.now warm.old }
     requires value { Exactly (frame_view image.now) read (elf_of image.now) }
     requires places { IfOk read (FrameFits image.now) }
     ensures fits { Fits image.now warm.new }
     ensures frame { is_kept warm.new.frame ≡ true }
-    ensures table { is_kept warm.new.table ≡ true }
+    ensures symtab { is_kept warm.new.symtab ≡ true }
+    ensures dynsym { is_kept warm.new.dynsym ≡ true }
     ensures prepared { warm.new.prepared ≡ warm.old.prepared }
 {
     match read {
         Ok(frame) => {
-            fill_table(&mut warm.table, &Image::open(image, frame));
+            let parts = Image::open(image, frame);
+            fill_table(&mut warm.symtab, &parts, TableKind::Symtab);
+            fill_table(&mut warm.dynsym, &parts, TableKind::Dynsym);
             warm.frame = Cache::Value(frame);
         },
         Err(e) => {
             warm.frame = Cache::Mark(e.kind());
-            warm.table = Cache::Mark(e.kind());
+            warm.symtab = Cache::Mark(e.kind());
+            warm.dynsym = Cache::Mark(e.kind());
         },
-    }
-}
-
-/// Reads the table where nothing is kept.
-pub fn fill_table(table: &mut Cache<Table>, image: &Image<'_>)
-    requires { Kept (TableFits image.now.image) (table_view image.now.image) table.old (symtab_of image.now) }
-    ensures kept { Kept (TableFits image.now.image) (table_view image.now.image) table.new (symtab_of image.now) }
-    ensures full { is_kept table.new ≡ true }
-    ensures sorted { is_sorted table.old ≡ true → is_sorted table.new ≡ true }
-{
-    if let Cache::Empty = table {
-        *table = match symtab(image) {
-            Ok(read) => Cache::Value(read),
-            Err(e) => Cache::Mark(e.kind()),
-        };
     }
 }

@@ -1,10 +1,12 @@
 //! The header of an image.
-ghost use Rattle.std.specs.Prelude.{◌≡◌};
+ghost use Rattle.std.specs.Prelude.{◌≡◌, ◌≤◌, length};
 ghost use Rattle.blz_model.specs.Part.{Exactly};
-ghost use Rattle.blz_elf.specs.Images.{header_of};
+ghost use Rattle.blz_elf.specs.Formats.{header_size};
+ghost use Rattle.blz_elf.specs.Headers.{header_of, header_at};
 ghost use Rattle.blz_elf.specs.Views.{header_view};
 
-use crate::number::{u16_at, u64_at};
+use crate::format::{Format, class_of, order_of};
+use crate::number::{u16_in, word_in};
 use blz_error::{Error, ErrorKind, Result, Str};
 
 /// ET_REL.
@@ -13,13 +15,40 @@ pub const RELOCATABLE: u16 = 1;
 /// What is read of the header of an image (ELF gABI, ELF Header).
 #[derive(Clone, Copy)]
 pub struct Header {
+    /// How the image's records are laid out.
+    pub format: Format,
+    /// e_type.
     pub file_type: u16,
+    /// e_phoff.
+    pub phoff: u64,
+    /// e_shoff.
     pub shoff: u64,
+    /// e_phnum.
+    pub phnum: u16,
+    /// e_shnum.
     pub shnum: u16,
+    /// e_shstrndx.
     pub shstrndx: u16,
 }
 
-#[tactic(auto, unfolding(crate::specs::Images::header_of))]
+fn header_at(image: &[u8], format: Format) -> Header
+    requires { header_size format.class ≤ length image.now }
+    ensures { header_view result ≡ header_at format image.now }
+{
+    let word = format.class.word();
+    Header {
+        format,
+        file_type: u16_in(image, 16, format.order),
+        phoff: word_in(image, 24 + word, format),
+        shoff: word_in(image, 24 + 2 * word, format),
+        phnum: u16_in(image, 32 + 3 * word, format.order),
+        shnum: u16_in(image, 36 + 3 * word, format.order),
+        shstrndx: u16_in(image, 38 + 3 * word, format.order),
+    }
+}
+
+/// The header, after the checks of the identification.
+#[tactic(auto, unfolding(crate::specs::Headers::header_of))]
 pub fn read_header(image: &[u8]) -> Result<Header>
     ensures { Exactly header_view result (header_of image.now) }
 {
@@ -29,19 +58,14 @@ pub fn read_header(image: &[u8]) -> Result<Header>
     if image[0] != 0x7f || image[1] != 0x45 || image[2] != 0x4c || image[3] != 0x46 {
         return Err(Error::new(ErrorKind::InvalidData, Str::fixed("wrong magic")));
     }
-    if image[4] != 2 {
+    let Some(class) = class_of(image[4]) else {
         return Err(Error::new(ErrorKind::Unsupported, Str::fixed("class")));
-    }
-    if image[5] != 1 {
+    };
+    let Some(order) = order_of(image[5]) else {
         return Err(Error::new(ErrorKind::Unsupported, Str::fixed("byte order")));
-    }
-    if image.len() < 64 {
+    };
+    if image.len() < class.header_size() {
         return Err(Error::new(ErrorKind::InvalidData, Str::fixed("short header")));
     }
-    Ok(Header {
-        file_type: u16_at(image, 16),
-        shoff: u64_at(image, 40),
-        shnum: u16_at(image, 60),
-        shstrndx: u16_at(image, 62),
-    })
+    Ok(header_at(image, Format { class, order }))
 }

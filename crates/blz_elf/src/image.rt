@@ -5,12 +5,15 @@ ghost use Rattle.blz_elf.specs.Images.{elf_of, names_of, section_named, section_
 ghost use Rattle.blz_elf.specs.Names.{names_in};
 ghost use Rattle.blz_elf.specs.Views.{section_view};
 ghost use Rattle.blz_model.specs.Part.{Good};
-ghost use Rattle.blz_elf.specs.Images.{header_of, sections_of};
+ghost use Rattle.blz_elf.specs.Headers.{header_of};
+ghost use Rattle.blz_elf.specs.Sections.{sections_of};
 ghost use Rattle.blz_elf.specs.Views.{header_view};
+ghost use Rattle.blz_elf.specs.Formats.{section_size};
 ghost use Rattle.blz_elf.specs.Places.{RowsFit, sections_in};
 ghost use Rattle.blz_model.specs.Part.{Exactly};
 ghost use Rattle.blz_elf.specs.Frames.{FrameFits, frame_view};
 
+use crate::format::Format;
 use crate::header::{Header, RELOCATABLE};
 use crate::section::{NOBITS, Section, SectionTable, data, names};
 use crate::span::{Rows, Span};
@@ -63,7 +66,7 @@ fn check_names(texts: &[u8], sections: &SectionTable<'_>) -> Result<()>
 pub fn read_frame(image: &[u8], header: Header, rows: Rows) -> Result<Frame>
     requires header { header_of image.now ≡ Good (header_view header) }
     requires rows { sections_of image.now (header_view header) ≡ Good (sections_in image.now rows) }
-    requires fits { RowsFit 64 image.now rows }
+    requires fits { RowsFit section_size image.now rows }
     ensures value { Exactly (frame_view image.now) result (elf_of image.now) }
     ensures fits { IfOk result (FrameFits image.now) }
 {
@@ -129,7 +132,7 @@ impl<'b> Image<'b> {
         ensures { Exactly (λ d. d.now) result (data_named self.now name.now) }
     {
         match self.section_called(name) {
-            Some(section) => data(self.bytes, &section),
+            Some(section) => data(self.bytes, &section, self.header.format),
             None => Ok(&[]),
         }
     }
@@ -149,5 +152,12 @@ impl<'b> Image<'b> {
         ensures { result ≡ is_relocatable self.now }
     {
         self.header.file_type == RELOCATABLE
+    }
+
+    /// How the image's records are laid out.
+    pub fn format(&self) -> Format
+        ensures { result ≡ self.now.header.format }
+    {
+        self.header.format
     }
 }

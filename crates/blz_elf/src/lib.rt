@@ -3,12 +3,14 @@
 
 mod answer;
 mod fill;
+mod format;
 mod header;
 mod image;
 mod lookup;
 mod number;
 mod opts;
 mod parser;
+mod question;
 mod relocation;
 mod section;
 mod sorted;

@@ -1,36 +1,34 @@
 //! The answer of the symbol rule.
-ghost use Rattle.std.specs.Prelude.{◌≡◌, List};
+ghost use Rattle.std.specs.Prelude.{◌≡◌};
 ghost use Rattle.std.specs.Option.{option_map};
 ghost use Rattle.blz_model.specs.Part.{Exactly};
-ghost use Rattle.blz_elf.specs.Places.{SpanFits, span_in};
 ghost use Rattle.blz_elf.specs.Tables.{TableFits, table_view};
-ghost use Rattle.blz_elf.specs.SymbolRule as model;
-ghost use Rattle.blz_elf.specs.SymbolRule.{named};
+ghost use Rattle.blz_elf.specs.SymbolRule.{named, answer_in};
 ghost use Rattle.blz_elf.specs.AnswerView.{answer_view};
 ghost use Rattle.blz_elf.specs.Views.{symbol_view};
 
 use crate::answer::{Answer, InlinedFns, ResolvedSym};
-use crate::image::Image;
-use crate::span::Span;
+use crate::question::Question;
 use crate::symbols::Symbol;
 use crate::table::Table;
 use crate::text::name;
-use blz_error::{Error, ErrorKind, Result, Str};
-use blz_model::{Reason, SrcLang};
+use blz_error::Result;
+use blz_model::SrcLang;
 use std::alloc::Global;
 
 /// A symbol as an answer.
 #[tactic(auto, unfolding(crate::specs::SymbolRule::named))]
-fn answer<'b>(
+fn named<'b>(
     alloc: Global,
-    image: &'b [u8],
-    strings: Span,
     module_name: Option<&'b str>,
+    image: &'b [u8],
+    table: &Table,
     symbol: &Symbol,
 ) -> Result<Answer<'b>>
-    requires { SpanFits image.now strings }
-    ensures { (symbols : List model.Symbol) → Exactly answer_view result (named (option_map (λ m. m.now) module_name.entry) (record { symbols = symbols; strings = span_in image.now strings }) (symbol_view symbol.now)) }
+    requires { TableFits image.now table.now }
+    ensures { Exactly answer_view result (named (option_map (λ m. m.now) module_name.entry) (table_view image.now table.now) (symbol_view symbol.now)) }
 {
+    let strings = table.strings;
     let name = name(&image[strings.at..strings.at + strings.len], symbol.name)?;
     Ok(Answer::Sym(ResolvedSym {
         name,
@@ -47,26 +45,23 @@ fn answer<'b>(
     }))
 }
 
-/// The symbol of an address.
-#[tactic(auto, unfolding(crate::specs::SymbolRule::symbol_in))]
-pub fn symbol_in<'b>(
+/// The answer of a table, where it has one.
+#[tactic(auto, unfolding(crate::specs::SymbolRule::answer_in))]
+pub fn answer_in<'b>(
     alloc: Global,
     module_name: Option<&'b str>,
-    image: &Image<'b>,
+    image: &'b [u8],
     table: &Table,
-    addr: u64,
-) -> Result<Answer<'b>>
-    requires { TableFits image.now.image table.now }
-    ensures { Exactly answer_view result (model.symbol_in (option_map (λ m. m.now) module_name.entry) image.now (table_view image.now.image table.now) addr) }
+    question: &Question,
+) -> Result<Option<Answer<'b>>>
+    requires { TableFits image.now table.now }
+    ensures { Exactly (option_map answer_view) result (answer_in (option_map (λ m. m.now) module_name.entry) question.now.table (table_view image.now table.now) question.now.addr) }
 {
-    if let Some(symbol) = table.covering(image.bytes(), addr) {
-        return answer(alloc, image.bytes(), table.strings, module_name, &symbol);
+    match table.covering(image, question) {
+        Some(symbol) => match named(alloc, module_name, image, table, &symbol) {
+            Ok(answer) => Ok(Some(answer)),
+            Err(e) => Err(e),
+        },
+        None => Ok(None),
     }
-    if image.find(".dynsym").is_some() {
-        return Err(Error::new(ErrorKind::Unsupported, Str::fixed(".dynsym")));
-    }
-    if table.symbols.count == 0 {
-        return Ok(Answer::NoSym(Reason::MissingSyms));
-    }
-    Ok(Answer::NoSym(Reason::UnknownAddr))
 }

@@ -2,28 +2,29 @@
 ghost use Rattle.std.specs.Prelude.{◌≡◌, true, false, IfOk, IfErr};
 ghost use Rattle.std.specs.Option.{option_map};
 ghost use Rattle.blz_model.specs.Part.{Part, Gives};
-ghost use Rattle.blz_elf.specs.Images.{header_of, elf_of, image_sections, image_section, image_section_data, image_data_named, image_holds_bytes, image_is_relocatable};
+ghost use Rattle.blz_elf.specs.Headers.{header_of};
+ghost use Rattle.blz_elf.specs.Formats.{section_size};
+ghost use Rattle.blz_elf.specs.Images.{elf_of, image_order, image_sections, image_section, image_section_data, image_data_named, image_holds_bytes, image_is_relocatable};
 ghost use Rattle.blz_elf.specs.SymbolRule.{image_symbol};
 ghost use Rattle.blz_model.specs.Kept.{Kept, is_kept};
 ghost use Rattle.blz_elf.specs.AnswerView.{answer_view};
-ghost use Rattle.blz_elf.specs.SymbolRule.{symtab_of, symbol_for, SymbolTable};
 ghost use Rattle.blz_elf.specs.Warm.{Fits, is_sorted, warm_prepared};
 ghost use Rattle.blz_elf.specs.Places.{RowsFit, sections_in};
 ghost use Rattle.blz_model.specs.Part.{Exactly};
-ghost use Rattle.blz_elf.specs.Tables.{table_of, TableFits, table_view};
 ghost use Rattle.blz_elf.specs.Views.{header_view};
 ghost use Rattle.blz_elf.specs.Frames.{FrameFits, frame_view};
 
 use crate::answer::Answer;
-use crate::fill::{fill, fill_table, look, sort_table};
+use crate::fill::{fill, fill_table, look, look_both, look_dynamic, sort_table};
 use crate::header::{Header, read_header};
 use crate::image::{Frame, Image, read_frame};
 use crate::opts::FindSymOpts;
-use crate::section::{SectionTable, data, sections};
+use crate::question::{Question, TableKind};
+use crate::section::{data_at, sections};
 use crate::span::Rows;
 use crate::warm::ElfWarm;
-use blz_bytes::Orders;
-use blz_error::{Error, ErrorKind, Result, Str};
+use blz_bytes::{ByteOrder, Orders};
+use blz_error::{Error, Result, Str};
 use blz_model::Cache;
 use std::alloc::{AllocError, Global};
 use std::marker::Model;
@@ -59,7 +60,8 @@ impl<'b> ElfParser<'b> {
             header: Cache::Empty,
             sections: Cache::Empty,
             frame: Cache::Empty,
-            table: Cache::Empty,
+            symtab: Cache::Empty,
+            dynsym: Cache::Empty,
             prepared: false,
             alloc,
         };
@@ -91,6 +93,16 @@ impl<'b> ElfParser<'b> {
         self.warm.prepared
     }
 
+    /// The byte order of the image; refused by the first mark of the header.
+    #[tactic(auto, unfolding(crate::specs::Images::image_order))]
+    pub fn order(&mut self) -> Result<ByteOrder>
+        ensures value { Exactly (λ o. o) result (image_order self.old.image) }
+        ensures same { self.new ≡ self.old }
+    {
+        let header = self.header()?;
+        Ok(header.format.order)
+    }
+
     /// The header.
     fn header(&mut self) -> Result<Header>
         ensures value { Exactly header_view result (header_of self.old.image) }
@@ -115,7 +127,7 @@ impl<'b> ElfParser<'b> {
     #[tactic(auto, unfolding(crate::specs::Images::image_sections))]
     fn rows(&mut self) -> Result<Rows>
         ensures value { Exactly (sections_in self.old.image) result (image_sections self.old.image) }
-        ensures fits { IfOk result (RowsFit 64 self.old.image) }
+        ensures fits { IfOk result (RowsFit section_size self.old.image) }
         ensures same { self.new ≡ self.old }
     {
         match &self.warm.sections {
@@ -196,17 +208,14 @@ impl<'b> ElfParser<'b> {
 
     /// The data of the section at an index (ELF gABI, Sections), nothing of a NOBITS one. InvalidInput where the index
     /// lies outside the table, InvalidData where the bytes lie past the image, Unsupported where they are compressed.
-    #[tactic(auto, unfolding(crate::specs::Images::image_section_data))]
+    #[tactic(auto, unfolding(crate::specs::Images::image_section_data, crate::specs::Images::image_sections))]
     pub fn section_data(&mut self, idx: usize) -> Result<&'b [u8]>
         ensures value { Exactly (λ d. d.now) result (image_section_data self.old.image idx) }
         ensures same { self.new ≡ self.old }
     {
+        let header = self.header()?;
         let rows = self.rows()?;
-        let sections = SectionTable::open(self.image, rows);
-        if idx >= sections.len() {
-            return Err(Error::new(ErrorKind::InvalidInput, Str::fixed("section index")));
-        }
-        data(self.image, &sections.at(idx))
+        data_at(self.image, header, rows, idx)
     }
 
     /// The data of the first section of that name, nothing where there is none; refused as `find_section` and
@@ -239,7 +248,7 @@ impl<'b> ElfParser<'b> {
 
     /// The symbol of an address: of the symbols with the greatest value up to it, the largest that is defined and covers
     /// it (ELF gABI, Symbol Table). Refused as `find_section` is, and by a broken table or name of that symbol.
-    #[tactic(auto, unfolding(crate::specs::SymbolRule::image_symbol, crate::specs::SymbolRule::symbol_for, crate::specs::Tables::table_of))]
+    #[tactic(auto, unfolding(crate::specs::SymbolRule::image_symbol, crate::specs::SymbolRule::symbol_for, crate::specs::SymbolTables::image_table))]
     pub fn find_sym<O: Orders>(
         &mut self,
         alloc: Global,
@@ -251,13 +260,41 @@ impl<'b> ElfParser<'b> {
         ensures same { self.new ≡ self.old }
     {
         let parts = self.parts()?;
-        fill_table(&mut self.warm.table, &parts);
-        sort_table(alloc, orders, self.image, &mut self.warm.table)?;
-        look(alloc, self.module, &parts, &self.warm.table, addr)
+        fill_table(&mut self.warm.symtab, &parts, TableKind::Symtab);
+        sort_table(
+            alloc,
+            orders,
+            self.image,
+            TableKind::Symtab,
+            &mut self.warm.symtab,
+        )?;
+        let question = Question {
+            table: TableKind::Symtab,
+            addr,
+        };
+        if let Some(answer) = look(alloc, self.module, &parts, &question, &self.warm.symtab)? {
+            return Ok(answer);
+        }
+        fill_table(&mut self.warm.dynsym, &parts, TableKind::Dynsym);
+        sort_table(
+            alloc,
+            orders,
+            self.image,
+            TableKind::Dynsym,
+            &mut self.warm.dynsym,
+        )?;
+        look_dynamic(
+            alloc,
+            self.module,
+            &parts,
+            &self.warm.symtab,
+            &self.warm.dynsym,
+            addr,
+        )
     }
 
     /// Puts each part into a cache, as its value or its mark's kind, for `find_sym_prepared`.
-    #[tactic(auto, unfolding(crate::specs::Tables::table_of))]
+    #[tactic(auto, unfolding(crate::specs::SymbolTables::image_table))]
     pub fn prepare<O: Orders>(
         &mut self,
         alloc: Global,
@@ -270,23 +307,37 @@ impl<'b> ElfParser<'b> {
     {
         let read = self.frame();
         fill(&mut self.warm, self.image, read);
-        sort_table(alloc, orders, self.image, &mut self.warm.table)?;
+        sort_table(
+            alloc,
+            orders,
+            self.image,
+            TableKind::Symtab,
+            &mut self.warm.symtab,
+        )?;
+        sort_table(
+            alloc,
+            orders,
+            self.image,
+            TableKind::Dynsym,
+            &mut self.warm.dynsym,
+        )?;
         self.warm.prepared = true;
         Ok(())
     }
 
     /// The symbol of an address, as `find_sym` has it, from what is kept: it takes no memory.
-    #[tactic(auto, unfolding(crate::specs::SymbolRule::image_symbol, crate::specs::SymbolRule::symbol_for, crate::specs::Tables::table_of))]
+    #[tactic(auto, unfolding(crate::specs::SymbolRule::image_symbol, crate::specs::SymbolTables::image_table))]
     pub fn find_sym_prepared(&self, addr: u64) -> Result<Answer<'b>>
         requires { self.now.prepared ≡ true }
         ensures { Exactly answer_view result (image_symbol self.now.image self.now.module_name addr) }
     {
         match &self.warm.frame {
-            Cache::Value(frame) => look(
+            Cache::Value(frame) => look_both(
                 self.warm.alloc,
                 self.module,
                 &Image::open(self.image, *frame),
-                &self.warm.table,
+                &self.warm.symtab,
+                &self.warm.dynsym,
                 addr,
             ),
             Cache::Mark(kind) => Err(Error::new(*kind, Str::fixed("names"))),

@@ -1,17 +1,19 @@
 //! The section table, and the bytes of a section.
-ghost use Rattle.std.specs.Prelude.{◌≡◌, ◌+◌, ◌<◌, ◌≤◌, length};
+ghost use Rattle.std.specs.Prelude.{◌≡◌, ◌+◌, ◌*◌, ◌<◌, ◌≤◌, length, Some, IfOk};
 ghost use Rattle.std.specs.List.{HoldsAt};
-ghost use Rattle.std.specs.Prelude.{IfOk};
-ghost use Rattle.blz_elf.specs.Places.{SpanFits, span_in, RowsFit, sections_in};
-ghost use Rattle.blz_model.specs.Part.{Exactly};
-ghost use Rattle.blz_elf.specs.Images as model;
-ghost use Rattle.blz_elf.specs.Images.{sections_of, raw_data, data_of, name_table};
-ghost use Rattle.blz_elf.specs.Views.{header_view};
-ghost use Rattle.blz_elf.specs.Views.{section_view};
+ghost use Rattle.blz_model.specs.Part.{Exactly, Good};
+ghost use Rattle.blz_elf.specs.Headers.{header_of};
+ghost use Rattle.blz_elf.specs.Formats.{section_size};
+ghost use Rattle.blz_elf.specs.Places.{SpanFits, span_in, RowsFit, sections_in, run_of};
+ghost use Rattle.blz_elf.specs.Sections as model;
+ghost use Rattle.blz_elf.specs.Sections.{first_section, section_count, sections_of, raw_data, data_of, run_in};
+ghost use Rattle.blz_elf.specs.Images.{name_table, name_index, image_section_data};
+ghost use Rattle.blz_elf.specs.Views.{header_view, section_view};
 
+use crate::format::Format;
 use crate::header::Header;
-use crate::number::{u32_at, u64_at};
-use crate::span::{Rows, Span};
+use crate::number::{u32_in, word_in};
+use crate::span::{Rows, Span, lie_inside, place_of};
 use blz_error::{Error, ErrorKind, Result, Str};
 use std::marker::Model;
 
@@ -24,18 +26,24 @@ const XINDEX: u16 = 0xffff;
 /// SHF_COMPRESSED.
 const COMPRESSED: u64 = 0x800;
 
-/// The size of a compression header.
-const COMPRESSION_SIZE: usize = 24;
-
+/// What is read of a section header.
 #[derive(Clone, Copy)]
 pub struct Section {
+    /// sh_name.
     pub name: u32,
+    /// sh_type.
     pub kind: u32,
+    /// sh_flags.
     pub flags: u64,
+    /// sh_addr.
     pub addr: u64,
+    /// sh_offset.
     pub offset: u64,
+    /// sh_size.
     pub size: u64,
+    /// sh_link.
     pub link: u32,
+    /// sh_info.
     pub info: u32,
 }
 
@@ -43,88 +51,115 @@ pub struct Section {
 #[derive(Drop)]
 pub struct SectionTable<'b> {
     image: &'b [u8],
-    at: usize,
-    count: usize,
+    rows: Rows,
 }
 
 impl<'b> Model for SectionTable<'b> {
-    ghost use Rattle.std.specs.Prelude.{◌+◌, ◌*◌, ◌≤◌, ◌<◌, ◌^◌, List, length, map};
-    ghost use Rattle.std.specs.List.{range_with_len};
-    ghost use Rattle.blz_elf.specs.Images as model;
+    ghost use Rattle.std.specs.Prelude.{List};
+    ghost use Rattle.blz_elf.specs.Formats.{section_size};
+    ghost use Rattle.blz_elf.specs.Places.{RowsFit, sections_in};
+    ghost use Rattle.blz_elf.specs.Sections as model;
 
     ghost Value = { List model.Section };
 
-    ghost view = { λ t. map (λ i. model.section_at t.image.now (t.at + 64 * i)) (range_with_len 0 t.count) };
+    ghost view = { λ t. sections_in t.image.now t.rows };
 
-    ghost invariant = { λ t. t.at + 64 * t.count ≤ length t.image.now };
+    ghost invariant = { λ t. RowsFit section_size t.image.now t.rows };
 }
 
 impl<'b> SectionTable<'b> {
     /// The sections at a place.
     pub fn open(image: &'b [u8], rows: Rows) -> SectionTable<'b>
-        requires { RowsFit 64 image.now rows }
+        requires { RowsFit section_size image.now rows }
         ensures { result ≡ sections_in image.now rows }
     {
-        SectionTable {
-            image,
-            at: rows.at,
-            count: rows.count,
-        }
+        SectionTable { image, rows }
     }
 
+    /// How many they are.
     pub fn len(&self) -> usize
         ensures { result ≡ length self.now }
     {
-        self.count
+        self.rows.count
     }
 
+    /// The section header at an index.
     pub fn at(&self, index: usize) -> Section
         requires { index < length self.now }
         ensures { HoldsAt (λ s. s ≡ section_view result) self.now index }
     {
-        section_at(self.image, self.at + 64 * index)
+        let rows = self.rows;
+        let size = rows.format.class.section_size();
+        let at = place_of(rows.at, size, rows.count, index, self.image.len());
+        section_at(self.image, at, rows.format)
     }
 }
 
 /// The section header at a place.
-fn section_at(image: &[u8], at: usize) -> Section
-    requires { at + 64 ≤ length image.now }
-    ensures { section_view result ≡ model.section_at image.now at }
+fn section_at(image: &[u8], at: usize, format: Format) -> Section
+    requires { at + section_size format.class ≤ length image.now }
+    ensures { section_view result ≡ model.section_at format image.now at }
 {
+    let word = format.class.word();
     Section {
-        name: u32_at(image, at),
-        kind: u32_at(image, at + 4),
-        flags: u64_at(image, at + 8),
-        addr: u64_at(image, at + 16),
-        offset: u64_at(image, at + 24),
-        size: u64_at(image, at + 32),
-        link: u32_at(image, at + 40),
-        info: u32_at(image, at + 44),
+        name: u32_in(image, at, format.order),
+        kind: u32_in(image, at + 4, format.order),
+        flags: word_in(image, at + 8, format),
+        addr: word_in(image, at + 8 + word, format),
+        offset: word_in(image, at + 8 + 2 * word, format),
+        size: word_in(image, at + 8 + 3 * word, format),
+        link: u32_in(image, at + 8 + 4 * word, format.order),
+        info: u32_in(image, at + 12 + 4 * word, format.order),
     }
+}
+
+/// The first section header, which holds what the header has no room for.
+#[tactic(auto, unfolding(crate::specs::Sections::first_section))]
+pub fn first_section(image: &[u8], header: &Header) -> Result<Section>
+    ensures { Exactly section_view result (first_section image.now (header_view header.now)) }
+{
+    let size = header.format.class.section_size();
+    if !lie_inside(image.len(), header.shoff, size, 1) {
+        return Err(Error::new(ErrorKind::InvalidData, Str::fixed("first section header")));
+    }
+    Ok(section_at(image, header.shoff as usize, header.format))
+}
+
+/// The number of sections.
+#[tactic(auto, unfolding(crate::specs::Sections::section_count))]
+fn section_count(image: &[u8], header: &Header) -> Result<u64>
+    ensures { Exactly (λ n. n) result (section_count image.now (header_view header.now)) }
+{
+    if header.shnum != 0 {
+        return Ok(u64::from(header.shnum));
+    }
+    if header.shoff == 0 {
+        return Ok(0);
+    }
+    let first = first_section(image, header)?;
+    Ok(first.size)
 }
 
 /// The place of the section table.
-#[tactic(auto, unfolding(crate::specs::Images::sections_of))]
+#[tactic(auto, unfolding(crate::specs::Sections::sections_of))]
 pub fn sections(image: &[u8], header: &Header) -> Result<Rows>
     ensures value { Exactly (sections_in image.now) result (sections_of image.now (header_view header.now)) }
-    ensures fits { IfOk result (RowsFit 64 image.now) }
+    ensures fits { IfOk result (RowsFit section_size image.now) }
 {
-    if header.shnum == 0 {
-        if header.shoff != 0 {
-            return Err(Error::new(ErrorKind::Unsupported, Str::fixed("section count")));
-        }
-        return Ok(Rows { at: 0, count: 0 });
-    }
-    let at = header.shoff as usize;
-    let count = header.shnum as usize;
-    if at > image.len() || 64 * count > image.len() - at {
+    let count = section_count(image, header)?;
+    let size = header.format.class.section_size();
+    if !lie_inside(image.len(), header.shoff, size, count) {
         return Err(Error::new(ErrorKind::InvalidData, Str::fixed("section table")));
     }
-    Ok(Rows { at, count })
+    Ok(Rows {
+        format: header.format,
+        at: header.shoff as usize,
+        count: count as usize,
+    })
 }
 
 /// The place of a section's bytes, whatever its flags say.
-#[tactic(auto, unfolding(crate::specs::Images::raw_data))]
+#[tactic(auto, unfolding(crate::specs::Sections::raw_data))]
 pub fn raw(image: &[u8], section: &Section) -> Result<Span>
     ensures value { Exactly (span_in image.now) result (raw_data image.now (section_view section.now)) }
     ensures fits { IfOk result (SpanFits image.now) }
@@ -141,13 +176,13 @@ pub fn raw(image: &[u8], section: &Section) -> Result<Span>
 }
 
 /// The data of a section.
-#[tactic(auto, unfolding(crate::specs::Images::data_of))]
-pub fn data<'b>(image: &'b [u8], section: &Section) -> Result<&'b [u8]>
-    ensures { Exactly (λ d. d.now) result (data_of image.now (section_view section.now)) }
+#[tactic(auto, unfolding(crate::specs::Sections::data_of))]
+pub fn data<'b>(image: &'b [u8], section: &Section, format: Format) -> Result<&'b [u8]>
+    ensures { Exactly (λ d. d.now) result (data_of format image.now (section_view section.now)) }
 {
     let span = raw(image, section)?;
     if section.kind != NOBITS && section.flags & COMPRESSED == COMPRESSED {
-        if span.len < COMPRESSION_SIZE {
+        if span.len < format.class.compression_size() {
             return Err(Error::new(
                 ErrorKind::InvalidData,
                 Str::fixed("short compression header"),
@@ -156,6 +191,63 @@ pub fn data<'b>(image: &'b [u8], section: &Section) -> Result<&'b [u8]>
         return Err(Error::new(ErrorKind::Unsupported, Str::fixed("compressed section")));
     }
     Ok(&image[span.at..span.at + span.len])
+}
+
+/// The data of the section at an index of the table.
+#[tactic(auto, unfolding(crate::specs::Images::image_section_data))]
+pub fn data_at(image: &[u8], header: Header, rows: Rows, idx: usize) -> Result<&[u8]>
+    requires header { header_of image.now ≡ Good (header_view header) }
+    requires rows { sections_of image.now (header_view header) ≡ Good (sections_in image.now rows) }
+    requires fits { RowsFit section_size image.now rows }
+    ensures { Exactly (λ d. d.now) result (image_section_data image.now idx) }
+{
+    let sections = SectionTable::open(image, rows);
+    if idx >= sections.len() {
+        return Err(Error::new(ErrorKind::InvalidInput, Str::fixed("section index")));
+    }
+    data(image, &sections.at(idx), header.format)
+}
+
+/// The place of a section's records, each of `size` bytes.
+#[tactic(auto, unfolding(crate::specs::Sections::run_in))]
+pub fn records(image: &[u8], section: &Section, size: usize, format: Format) -> Result<Rows>
+    requires { 0 < size }
+    ensures value { Exactly run_of result (run_in size image.now (section_view section.now)) }
+    ensures fits { IfOk result (λ r. r.at + size * r.count ≤ length image.now) }
+    ensures format { IfOk result (λ r. r.format ≡ format) }
+{
+    if section.kind == NOBITS || section.size == 0 {
+        return Ok(Rows {
+            format,
+            at: 0,
+            count: 0,
+        });
+    }
+    let at = section.offset as usize;
+    let len = section.size as usize;
+    if len % size != 0 {
+        return Err(Error::new(ErrorKind::InvalidData, Str::fixed("part of a record")));
+    }
+    if at > image.len() || len > image.len() - at {
+        return Err(Error::new(ErrorKind::InvalidData, Str::fixed("records past the image")));
+    }
+    Ok(Rows {
+        format,
+        at,
+        count: len / size,
+    })
+}
+
+/// The index of the table of the sections' names.
+fn name_index(header: &Header, sections: &SectionTable<'_>) -> usize
+    requires { 2 ≤ length sections.now }
+    ensures { name_index (header_view header.now) sections.now ≡ Some result }
+{
+    if header.shstrndx == XINDEX {
+        sections.at(0).link as usize
+    } else {
+        header.shstrndx as usize
+    }
 }
 
 /// The place of the table of the sections' names.
@@ -167,10 +259,7 @@ pub fn names(image: &[u8], header: &Header, sections: &SectionTable<'_>) -> Resu
     if sections.len() < 2 {
         return Ok(Span { at: 0, len: 0 });
     }
-    if header.shstrndx == XINDEX {
-        return Err(Error::new(ErrorKind::Unsupported, Str::fixed("name table index")));
-    }
-    let index = header.shstrndx as usize;
+    let index = name_index(header, sections);
     if index >= sections.len() {
         return Err(Error::new(ErrorKind::InvalidInput, Str::fixed("name table index")));
     }

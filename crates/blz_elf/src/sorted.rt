@@ -1,14 +1,15 @@
-//! The symbols of the asked types, in order.
+//! The symbols of the answered types, in order.
 ghost use Rattle.std.specs.Prelude.{◌≡◌, ℕ, ◌<◌, ◌≤◌, true, List, length, map, filter, get_or, IfOk, IfSome};
 ghost use Rattle.std.specs.Option.{option_map};
-ghost use Rattle.blz_elf.specs.SymbolRule as model;
+ghost use Rattle.blz_bytes.specs.ToldPlaces.{counting};
+ghost use Rattle.blz_elf.specs.SymbolRule.{is_typed, covering};
 ghost use Rattle.blz_elf.specs.Views.{symbol_view};
 ghost use Rattle.blz_elf.specs.Tables.{Sorts};
-ghost use Rattle.blz_bytes.specs.ToldPlaces.{counting};
-ghost use Rattle.blz_elf.specs.Accepted.{AreKeys, is_typed, no_symbol, at_place, IsAccepted, KeyBefore, PairsRise, SplitsAt, SplitsBelow, may_answer};
+ghost use Rattle.blz_elf.specs.Accepted.{AreKeys, no_symbol, at_place, IsAccepted, SplitsAt, SplitsBelow};
 
-use crate::symbols::{Symbol, Symbols, covers};
-use blz_bytes::{Key, Orders};
+use crate::question::Question;
+use crate::symbols::{Symbol, Symbols};
+use blz_bytes::{Key, Orders, check_pairs};
 use std::alloc::{AllocError, Global};
 
 /// The symbols of the asked types, and an order of them that was accepted.
@@ -16,40 +17,6 @@ use std::alloc::{AllocError, Global};
 pub struct Sorted {
     pub typed: Vec<Symbol>,
     pub order: Option<Vec<usize>>,
-}
-
-fn before(a: &Key, i: usize, b: &Key, j: usize) -> bool
-    ensures told { result ≡ true → KeyBefore a.now i b.now j }
-    ensures exact { KeyBefore a.now i b.now j → result ≡ true }
-{
-    a.first < b.first
-        || a.first == b.first && (a.second < b.second || a.second == b.second && i < j)
-}
-
-/// Whether the places are as many as the keys, and (first, second, place) rises from each to the next.
-pub fn check_pairs(keys: &[Key], places: &[usize]) -> bool
-    ensures told { result ≡ true → PairsRise keys.now places.now }
-    ensures exact { PairsRise keys.now places.now → result ≡ true }
-{
-    if places.len() != keys.len() {
-        return false;
-    }
-    for k in 0..places.len() {
-        if places[k] >= keys.len() {
-            return false;
-        }
-        if k > 0
-            && !before(
-                &keys[places[k - 1]],
-                places[k - 1],
-                &keys[places[k]],
-                places[k],
-            )
-        {
-            return false;
-        }
-    }
-    true
 }
 
 /// The symbol at the k-th place.
@@ -90,19 +57,13 @@ fn count_below(typed: &[Symbol], places: &[usize], value: u64) -> usize
     count_up_to(typed, places, value - 1)
 }
 
-fn may_answer(symbol: &Symbol, addr: u64) -> bool
-    ensures { result ≡ may_answer addr (symbol_view symbol.now) }
-{
-    symbol.section != 0 && covers(symbol, addr)
-}
-
-/// The symbol that covers an address, by an order.
-fn search(typed: &[Symbol], places: &[usize], addr: u64) -> Option<Symbol>
+/// The symbol that answers a question, by an order.
+fn search(typed: &[Symbol], places: &[usize], question: &Question) -> Option<Symbol>
     requires accepted { IsAccepted (map symbol_view typed.now) places.now }
     requires typed { (i : ℕ) → i < length (map symbol_view typed.now) → is_typed (get_or (map symbol_view typed.now) i no_symbol) ≡ true }
-    ensures { option_map symbol_view result ≡ model.covering (map symbol_view typed.now) addr }
+    ensures { option_map symbol_view result ≡ covering question.now (map symbol_view typed.now) }
 {
-    let end = count_up_to(typed, places, addr);
+    let end = count_up_to(typed, places, question.addr);
     if end == 0 {
         return None;
     }
@@ -110,26 +71,21 @@ fn search(typed: &[Symbol], places: &[usize], addr: u64) -> Option<Symbol>
     let begin = count_below(typed, places, greatest);
     for k in begin..end {
         let symbol = symbol_at_place(typed, places, k);
-        if may_answer(&symbol, addr) {
+        if question.may_be_answered(&symbol) {
             return Some(symbol);
         }
     }
     None
 }
 
-fn is_typed(symbol: &Symbol) -> bool
-    ensures { result ≡ is_typed (symbol_view symbol.now) }
-{
-    matches!(symbol.kind, 0 | 1 | 2 | 10)
-}
-
+/// The symbols of the answered types.
 fn typed_of(alloc: Global, symbols: &Symbols<'_>) -> Result<Vec<Symbol>, AllocError>
     ensures { IfOk result (λ v. map symbol_view v.items ≡ filter is_typed symbols.now) }
 {
     let mut typed = Vec::new(alloc);
     for i in 0..symbols.len() {
         let symbol = symbols.at(i);
-        if is_typed(&symbol) {
+        if symbol.is_typed() {
             typed.push(symbol)?;
         }
     }
@@ -180,6 +136,7 @@ fn order_of<O: Orders>(
 }
 
 impl Sorted {
+    /// The symbols of the answered types, and the order that is handed in.
     pub fn read<O: Orders>(
         alloc: Global,
         orders: &mut O,
@@ -192,14 +149,14 @@ impl Sorted {
         Ok(Sorted { typed, order })
     }
 
-    /// The symbol that covers an address: by the order, or by a scan.
-    pub fn covering(&self, symbols: &Symbols<'_>, addr: u64) -> Option<Symbol>
+    /// The symbol that answers a question: by the order, or by a scan.
+    pub fn covering(&self, symbols: &Symbols<'_>, question: &Question) -> Option<Symbol>
         requires { Sorts symbols.now self.now }
-        ensures { option_map symbol_view result ≡ model.covering symbols.now addr }
+        ensures { option_map symbol_view result ≡ covering question.now symbols.now }
     {
         match &self.order {
-            Some(places) => search(&self.typed, places, addr),
-            None => symbols.covering(addr),
+            Some(places) => search(&self.typed, places, question),
+            None => symbols.covering(question),
         }
     }
 }

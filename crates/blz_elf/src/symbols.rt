@@ -2,21 +2,31 @@
 ghost use Rattle.std.specs.Prelude.{◌≡◌, ◌+◌, ◌≤◌, ◌<◌, length, filter};
 ghost use Rattle.std.specs.Option.{option_map};
 ghost use Rattle.std.specs.List.{HoldsAt};
+ghost use Rattle.blz_elf.specs.Formats.{symbol_size};
 ghost use Rattle.blz_elf.specs.Places.{RowsFit, symbols_in};
-ghost use Rattle.blz_elf.specs.SymbolRule as model;
-ghost use Rattle.blz_elf.specs.SymbolRule.{greatest, is_candidate, covers, largest, answers, covering};
+ghost use Rattle.blz_elf.specs.SymbolTables as model;
+ghost use Rattle.blz_elf.specs.SymbolRule as rule;
+ghost use Rattle.blz_elf.specs.SymbolRule.{greatest, covering};
 ghost use Rattle.blz_elf.specs.Views.{symbol_view};
 
-use crate::number::{u16_at, u32_at, u64_at};
-use crate::span::Rows;
+use crate::format::{Class, Format};
+use crate::number::{u16_in, u32_in, word_in};
+use crate::question::Question;
+use crate::span::{Rows, place_of};
 use std::marker::Model;
 
+/// What is read of a symbol.
 #[derive(Clone, Copy)]
 pub struct Symbol {
+    /// st_name.
     pub name: u32,
+    /// st_value.
     pub value: u64,
+    /// st_size.
     pub size: u64,
+    /// The type, of st_info.
     pub kind: u8,
+    /// st_shndx.
     pub section: u16,
 }
 
@@ -24,86 +34,104 @@ pub struct Symbol {
 #[derive(Drop)]
 pub struct Symbols<'b> {
     image: &'b [u8],
-    at: usize,
-    count: usize,
+    rows: Rows,
 }
 
 impl<'b> Model for Symbols<'b> {
-    ghost use Rattle.std.specs.Prelude.{◌+◌, ◌*◌, ◌≤◌, List, length, map};
-    ghost use Rattle.std.specs.List.{range_with_len};
-    ghost use Rattle.blz_elf.specs.SymbolRule as model;
+    ghost use Rattle.std.specs.Prelude.{List};
+    ghost use Rattle.blz_elf.specs.Formats.{symbol_size};
+    ghost use Rattle.blz_elf.specs.Places.{RowsFit, symbols_in};
+    ghost use Rattle.blz_elf.specs.SymbolTables as model;
 
     ghost Value = { List model.Symbol };
 
-    ghost view = { λ t. map (λ i. model.symbol_at t.image.now (t.at + 24 * i)) (range_with_len 0 t.count) };
+    ghost view = { λ t. symbols_in t.image.now t.rows };
 
-    ghost invariant = { λ t. t.at + 24 * t.count ≤ length t.image.now };
+    ghost invariant = { λ t. RowsFit symbol_size t.image.now t.rows };
 }
 
 /// The symbol at a place.
-fn symbol_at(image: &[u8], at: usize) -> Symbol
-    requires { at + 24 ≤ length image.now }
-    ensures { symbol_view result ≡ model.symbol_at image.now at }
+fn symbol_at(image: &[u8], at: usize, format: Format) -> Symbol
+    requires { at + symbol_size format.class ≤ length image.now }
+    ensures { symbol_view result ≡ model.symbol_at format image.now at }
 {
+    let word = format.class.word();
+    let info = match format.class {
+        Class::Elf32 => 12,
+        Class::Elf64 => 4,
+    };
     Symbol {
-        name: u32_at(image, at),
-        value: u64_at(image, at + 8),
-        size: u64_at(image, at + 16),
-        kind: image[at + 4] % 16,
-        section: u16_at(image, at + 6),
+        name: u32_in(image, at, format.order),
+        value: word_in(image, at + word, format),
+        size: word_in(image, at + 2 * word, format),
+        kind: image[at + info] % 16,
+        section: u16_in(image, at + info + 2, format.order),
+    }
+}
+
+impl Symbol {
+    /// Whether its type is one that is answered.
+    pub fn is_typed(&self) -> bool
+        ensures { result ≡ rule.is_typed (symbol_view self.now) }
+    {
+        matches!(self.kind, 0 | 1 | 2 | 10)
     }
 }
 
 fn is_candidate(symbol: &Symbol, addr: u64) -> bool
-    ensures { result ≡ model.is_candidate addr (symbol_view symbol.now) }
+    ensures { result ≡ rule.is_candidate addr (symbol_view symbol.now) }
 {
-    matches!(symbol.kind, 0 | 1 | 2 | 10) && symbol.value <= addr
+    symbol.is_typed() && symbol.value <= addr
 }
 
-pub fn covers(symbol: &Symbol, addr: u64) -> bool
-    ensures { result ≡ model.covers addr (symbol_view symbol.now) }
+fn answers(symbol: &Symbol, question: &Question, greatest: u64) -> bool
+    ensures { result ≡ rule.answers question.now greatest (symbol_view symbol.now) }
 {
-    symbol.size == 0 || addr < symbol.value || addr - symbol.value < symbol.size
-}
-
-fn answers(symbol: &Symbol, addr: u64, greatest: u64) -> bool
-    ensures { result ≡ model.answers addr greatest (symbol_view symbol.now) }
-{
-    is_candidate(symbol, addr)
+    is_candidate(symbol, question.addr)
         && symbol.value == greatest
-        && symbol.section != 0
-        && covers(symbol, addr)
+        && question.may_be_answered(symbol)
+}
+
+/// The larger, or the earlier where they are alike.
+fn larger(best: Option<Symbol>, symbol: Symbol) -> Option<Symbol>
+    ensures { option_map symbol_view result ≡ rule.larger (option_map symbol_view best) (symbol_view symbol) }
+{
+    match best {
+        Some(best) if best.size >= symbol.size => Some(best),
+        _ => Some(symbol),
+    }
 }
 
 impl<'b> Symbols<'b> {
     /// The symbols at a place.
     pub fn open(image: &'b [u8], rows: Rows) -> Symbols<'b>
-        requires { RowsFit 24 image.now rows }
+        requires { RowsFit symbol_size image.now rows }
         ensures { result ≡ symbols_in image.now rows }
     {
-        Symbols {
-            image,
-            at: rows.at,
-            count: rows.count,
-        }
+        Symbols { image, rows }
     }
 
+    /// How many they are.
     pub fn len(&self) -> usize
         ensures { result ≡ length self.now }
     {
-        self.count
+        self.rows.count
     }
 
+    /// The symbol at an index.
     pub fn at(&self, index: usize) -> Symbol
         requires { index < length self.now }
         ensures { HoldsAt (λ s. s ≡ symbol_view result) self.now index }
     {
-        symbol_at(self.image, self.at + 24 * index)
+        let rows = self.rows;
+        let size = rows.format.class.symbol_size();
+        let at = place_of(rows.at, size, rows.count, index, self.image.len());
+        symbol_at(self.image, at, rows.format)
     }
 
     /// The greatest value of the candidates, or 0.
     fn greatest_value(&self, addr: u64) -> u64
-        ensures { result ≡ greatest (filter (model.is_candidate addr) self.now) }
+        ensures { result ≡ greatest (filter (rule.is_candidate addr) self.now) }
     {
         let mut greatest: u64 = 0;
         for i in 0..self.len() {
@@ -115,29 +143,19 @@ impl<'b> Symbols<'b> {
         greatest
     }
 
-    /// The symbol that covers an address.
+    /// The symbol that answers a question, by a scan.
     #[tactic(auto, unfolding(crate::specs::SymbolRule::covering))]
-    pub fn covering(&self, addr: u64) -> Option<Symbol>
-        ensures { option_map symbol_view result ≡ model.covering self.now addr }
+    pub fn covering(&self, question: &Question) -> Option<Symbol>
+        ensures { option_map symbol_view result ≡ covering question.now self.now }
     {
-        let greatest = self.greatest_value(addr);
+        let greatest = self.greatest_value(question.addr);
         let mut best: Option<Symbol> = None;
         for i in 0..self.len() {
             let symbol = self.at(i);
-            if answers(&symbol, addr, greatest) {
+            if answers(&symbol, question, greatest) {
                 best = larger(best, symbol);
             }
         }
         best
-    }
-}
-
-/// The larger, or the earlier where they are alike.
-fn larger(best: Option<Symbol>, symbol: Symbol) -> Option<Symbol>
-    ensures { option_map symbol_view result ≡ model.larger (option_map symbol_view best) (symbol_view symbol) }
-{
-    match best {
-        Some(best) if best.size >= symbol.size => Some(best),
-        _ => Some(symbol),
     }
 }

@@ -2,15 +2,18 @@
 ghost use Rattle.std.specs.Prelude.{◌≡◌, IfOk, true, is_some};
 ghost use Rattle.std.specs.Option.{option_map};
 ghost use Rattle.blz_model.specs.Part.{Exactly};
+ghost use Rattle.blz_elf.specs.Formats.{symbol_size};
 ghost use Rattle.blz_elf.specs.Places.{SpanFits, span_in, RowsFit, symbols_in};
 ghost use Rattle.blz_elf.specs.Tables.{TableFits, table_view};
-ghost use Rattle.blz_elf.specs.SymbolRule as model;
-ghost use Rattle.blz_elf.specs.SymbolRule.{symtab_of, records_of, if_there};
-ghost use Rattle.blz_elf.specs.Images.{raw_data};
+ghost use Rattle.blz_elf.specs.SymbolTables.{symbol_at, table_named, table_of};
+ghost use Rattle.blz_elf.specs.SymbolRule.{covering};
+ghost use Rattle.blz_elf.specs.Sections.{raw_data, records_of, if_there};
 ghost use Rattle.blz_elf.specs.Views.{section_view, symbol_view};
 
+use crate::format::Format;
 use crate::image::Image;
-use crate::section::{NOBITS, Section, raw};
+use crate::question::{Question, TableKind};
+use crate::section::{Section, raw, records};
 use crate::sorted::Sorted;
 use crate::span::{Rows, Span};
 use crate::symbols::{Symbol, Symbols};
@@ -18,55 +21,34 @@ use blz_bytes::Orders;
 use blz_error::{Error, ErrorKind, Result, Str};
 use std::alloc::{AllocError, Global};
 
-const SYMBOL_SIZE: usize = 24;
-
 /// A table of symbols, as places and numbers, and its symbols in order.
 #[derive(Drop)]
 pub struct Table {
+    /// Where the symbols lie.
     pub symbols: Rows,
+    /// Where the strings of their names lie.
     pub strings: Span,
+    /// The symbols in order, once they were sorted.
     pub sorted: Option<Sorted>,
 }
 
 /// The place of the symbols of a section.
-#[tactic(auto, unfolding(crate::specs::SymbolRule::records_of))]
-fn records(image: &[u8], section: &Section) -> Result<Rows>
-    ensures value { Exactly (symbols_in image.now) result (records_of model.symbol_at 24 image.now (section_view section.now)) }
-    ensures fits { IfOk result (RowsFit 24 image.now) }
-{
-    if section.kind == NOBITS {
-        return Ok(Rows { at: 0, count: 0 });
-    }
-    let at = section.offset as usize;
-    let size = section.size as usize;
-    if size % SYMBOL_SIZE != 0 {
-        return Err(Error::new(ErrorKind::InvalidData, Str::fixed("symbol table")));
-    }
-    if size == 0 {
-        return Ok(Rows { at: 0, count: 0 });
-    }
-    if at > image.len() || size > image.len() - at {
-        return Err(Error::new(
-            ErrorKind::InvalidData,
-            Str::fixed("symbol table past the image"),
-        ));
-    }
-    Ok(Rows {
-        at,
-        count: size / SYMBOL_SIZE,
-    })
-}
-
-fn rows_of(image: &[u8], section: Option<Section>) -> Result<Rows>
-    ensures value { Exactly (symbols_in image.now) result (if_there (model.records_of model.symbol_at 24 image.now) (option_map section_view section)) }
-    ensures fits { IfOk result (RowsFit 24 image.now) }
+#[tactic(auto, unfolding(crate::specs::Sections::records_of))]
+pub fn symbols_of(image: &[u8], section: Option<Section>, format: Format) -> Result<Rows>
+    ensures value { Exactly (symbols_in image.now) result (if_there (records_of (symbol_at format) (symbol_size format.class) image.now) (option_map section_view section)) }
+    ensures fits { IfOk result (RowsFit symbol_size image.now) }
 {
     match section {
-        None => Ok(Rows { at: 0, count: 0 }),
-        Some(section) => records(image, &section),
+        None => Ok(Rows {
+            format,
+            at: 0,
+            count: 0,
+        }),
+        Some(section) => records(image, &section, format.class.symbol_size(), format),
     }
 }
 
+/// The place of the strings of a section.
 fn strings_of(image: &[u8], section: Option<Section>) -> Result<Span>
     ensures value { Exactly (span_in image.now) result (if_there (raw_data image.now) (option_map section_view section)) }
     ensures fits { IfOk result (SpanFits image.now) }
@@ -77,23 +59,38 @@ fn strings_of(image: &[u8], section: Option<Section>) -> Result<Span>
     }
 }
 
-/// The table of `.symtab`.
-#[tactic(auto, unfolding(crate::specs::SymbolRule::symtab_of))]
-pub fn symtab(image: &Image<'_>) -> Result<Table>
-    ensures value { Exactly (table_view image.now.image) result (symtab_of image.now) }
+/// The table of the section of that name, with the strings of another.
+#[tactic(auto, unfolding(crate::specs::SymbolTables::table_named))]
+fn table_named(image: &Image<'_>, name: &str, strings_name: &str) -> Result<Table>
+    ensures value { Exactly (table_view image.now.image) result (table_named image.now name.now strings_name.now) }
     ensures fits { IfOk result (TableFits image.now.image) }
 {
     let bytes = image.bytes();
-    let symbols = rows_of(bytes, image.section_called(".symtab"))?;
-    let strings = strings_of(bytes, image.section_called(".strtab"))?;
-    if symbols.count == 0 && image.find(".gnu_debugdata").is_some() {
-        return Err(Error::new(ErrorKind::Unsupported, Str::fixed(".gnu_debugdata")));
-    }
+    let symbols = symbols_of(bytes, image.section_called(name), image.format())?;
+    let strings = strings_of(bytes, image.section_called(strings_name))?;
     Ok(Table {
         symbols,
         strings,
         sorted: None,
     })
+}
+
+/// One of the two tables.
+#[tactic(auto, unfolding(crate::specs::SymbolTables::symtab_of, crate::specs::SymbolTables::dynsym_of))]
+pub fn read_table(image: &Image<'_>, kind: TableKind) -> Result<Table>
+    ensures value { Exactly (table_view image.now.image) result (table_of kind image.now) }
+    ensures fits { IfOk result (TableFits image.now.image) }
+{
+    match kind {
+        TableKind::Dynsym => table_named(image, ".dynsym", ".dynstr"),
+        TableKind::Symtab => {
+            let table = table_named(image, ".symtab", ".strtab")?;
+            if table.symbols.count == 0 && image.find(".gnu_debugdata").is_some() {
+                return Err(Error::new(ErrorKind::Unsupported, Str::fixed(".gnu_debugdata")));
+            }
+            Ok(table)
+        },
+    }
 }
 
 impl Table {
@@ -117,15 +114,15 @@ impl Table {
         Ok(())
     }
 
-    /// The symbol that covers an address.
-    pub fn covering(&self, image: &[u8], addr: u64) -> Option<Symbol>
+    /// The symbol that answers a question.
+    pub fn covering(&self, image: &[u8], question: &Question) -> Option<Symbol>
         requires { TableFits image.now self.now }
-        ensures { option_map symbol_view result ≡ model.covering (symbols_in image.now self.now.symbols) addr }
+        ensures { option_map symbol_view result ≡ covering question.now (symbols_in image.now self.now.symbols) }
     {
         let symbols = Symbols::open(image, self.symbols);
         match &self.sorted {
-            Some(sorted) => sorted.covering(&symbols, addr),
-            None => symbols.covering(addr),
+            Some(sorted) => sorted.covering(&symbols, question),
+            None => symbols.covering(question),
         }
     }
 }

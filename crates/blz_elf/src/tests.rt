@@ -154,7 +154,8 @@ fn an_image_without_sections_has_no_symbols(rt: HostRuntime) -> Result<()> {
     let alloc = rt.alloc();
     let mut image = Vec::new(alloc);
     push_header(&mut image, 0)?;
-    assert_eq!(rt; found(alloc, &image, 0)?.0, "no symbols");
+    let answer = found(alloc, &image, 0)?;
+    assert_eq!(rt; answer.0, "no symbols");
     Ok(())
 }
 

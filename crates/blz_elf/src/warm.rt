@@ -12,7 +12,8 @@ pub struct ElfWarm {
     pub(crate) header: Cache<Header>,
     pub(crate) sections: Cache<Rows>,
     pub(crate) frame: Cache<Frame>,
-    pub(crate) table: Cache<Table>,
+    pub(crate) symtab: Cache<Table>,
+    pub(crate) dynsym: Cache<Table>,
     pub(crate) prepared: bool,
     pub(crate) alloc: Global,
 }

@@ -5,7 +5,7 @@ use Rattle.blz_error.specs.declared.kind.ErrorKind.{ErrorKind}
 use Rattle.blz_model.specs.Part.{Good, Broken}
 use Rattle.blz_model.specs.Texts.{name_at}
 use Rattle.blz_elf.specs.Images.{names_of}
-use Rattle.blz_elf.specs.Images as model
+use Rattle.blz_elf.specs.Sections as model
 use Rattle.blz_model.proofs.PartLemmas.{all_good_is, all_good_breaks}
 use Rattle.blz_elf.specs.Names.{name_in, names_in}
 use Rattle.blz_elf.proofs.image.check_names.Goals as goal

@@ -1,7 +1,7 @@
 use Rattle.std.proofs.Common.{◌≡◌, ℕ, ◌<◌, ◌≤◌, get_or}
 use Rattle.blz_model.specs.Part.{Good}
 use Rattle.blz_model.specs.Texts.{name_at}
-use Rattle.blz_elf.specs.Images as model
+use Rattle.blz_elf.specs.Sections as model
 use Rattle.blz_elf.specs.Names.{name_in}
 use Rattle.blz_elf.proofs.image.check_names.Given as goal
 

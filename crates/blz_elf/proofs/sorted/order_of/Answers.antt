@@ -7,4 +7,4 @@ pub returns-then-check_pairs : goal.returns-then-check_pairs
 returns-then-check_pairs g c =
     rw (← c.deref-3.ensures.value) (accepted c.deref-2.result.now (map symbol_view c.args.typed.now) c.deref-3.result.now
     (rw (c.deref-2.ensures.value) c.in_ok-keys.ensures)
-    (c.if-check_pairs.ensures.told refl))
+    (c.if-check_pairs.ensures.order))

@@ -1,7 +1,7 @@
 use Rattle.std.proofs.Common.{refl, arith}
 use Rattle.std.proofs.lemmas.List.{map-append}
 use Rattle.blz_elf.specs.Views.{symbol_view}
-use Rattle.blz_elf.specs.Accepted.{is_typed}
+use Rattle.blz_elf.specs.SymbolRule.{is_typed}
 use Rattle.blz_elf.proofs.Folds.{filter_takes, filter_keeps}
 use Rattle.blz_elf.proofs.sorted.typed_of.Goals.{then-is_typed+in_ok-push, else-is_typed}
 use Rattle.blz_elf.proofs.sorted.typed_of.Goals as goal

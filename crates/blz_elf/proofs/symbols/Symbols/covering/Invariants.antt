@@ -5,4 +5,4 @@ use Rattle.blz_elf.specs.Views.{symbol_view}
 use Rattle.blz_elf.proofs.symbols.Symbols.covering.Given as goal
 
 abbrev pub invariant-loop-i : goal.invariant-loop-i
-invariant-loop-i l = option_map symbol_view l.best ≡ largest (filter (answers l.addr l.greatest) (take l.i l.self))
+invariant-loop-i l = option_map symbol_view l.best ≡ largest (filter (answers l.question l.greatest) (take l.i l.self))

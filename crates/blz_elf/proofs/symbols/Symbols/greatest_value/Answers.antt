@@ -1,6 +1,6 @@
 use Rattle.std.proofs.Common.{max, ◌∙◌, arith}
 use Rattle.blz_elf.specs.SymbolRule.{is_candidate}
-use Rattle.blz_elf.specs.SymbolRule as model
+use Rattle.blz_elf.specs.SymbolTables as model
 use Rattle.blz_elf.proofs.Folds.{fold_takes, fold_keeps}
 use Rattle.blz_elf.proofs.symbols.Symbols.greatest_value.Goals.{then-is_candidate, else-is_candidate}
 use Rattle.blz_elf.proofs.symbols.Symbols.greatest_value.Goals as goal

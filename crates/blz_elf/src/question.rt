@@ -1,0 +1,45 @@
+//! What is asked of a table of symbols.
+ghost use Rattle.std.specs.Prelude.{◌≡◌};
+ghost use Rattle.blz_elf.specs.SymbolRule.{covers, may_answer};
+ghost use Rattle.blz_elf.specs.Views.{symbol_view};
+
+use crate::symbols::Symbol;
+
+/// The two tables of symbols (ELF gABI, Symbol Table).
+#[derive(Clone, Copy)]
+pub enum TableKind {
+    /// `.symtab`, where a symbol without a size covers each address from its value on.
+    Symtab,
+    /// `.dynsym`, where such a symbol covers its value alone.
+    Dynsym,
+}
+
+/// An address, and the table that is asked.
+#[derive(Clone, Copy)]
+pub struct Question {
+    /// The table.
+    pub table: TableKind,
+    /// The address.
+    pub addr: u64,
+}
+
+impl Question {
+    fn is_covered(&self, symbol: &Symbol) -> bool
+        ensures { result ≡ covers self.now.table self.now.addr (symbol_view symbol.now) }
+    {
+        if symbol.size == 0 {
+            return match self.table {
+                TableKind::Symtab => true,
+                TableKind::Dynsym => symbol.value == self.addr,
+            };
+        }
+        self.addr < symbol.value || self.addr - symbol.value < symbol.size
+    }
+
+    /// Whether a symbol is defined and covers the address.
+    pub fn may_be_answered(&self, symbol: &Symbol) -> bool
+        ensures { result ≡ may_answer self.now (symbol_view symbol.now) }
+    {
+        symbol.section != 0 && self.is_covered(symbol)
+    }
+}
