@@ -10,3 +10,4 @@ pub mod OwnedViews
 pub mod Scan
 pub mod Opening
 pub mod Resolver
+pub mod FormatKinds

@@ -4,6 +4,7 @@ ghost use Rattle.blz_model.specs.Part.{Gives, Good, Broken};
 ghost use Rattle.blz_elf.specs.AnswerView.{answer_view};
 ghost use Rattle.blz_resolver.specs.BundleViews.{bundle_view};
 ghost use Rattle.blz_resolver.specs.Counts.{Rose};
+ghost use Rattle.blz_resolver.specs.FormatKinds.{IsMemoryOrFormat};
 ghost use Rattle.blz_resolver.specs.Opening.{Opens, HasKindCause, has_section, has_link, opened_from};
 ghost use Rattle.blz_resolver.specs.Scan.{frame_of, answer_of};
 
@@ -60,6 +61,7 @@ impl<'b> ElfResolver<'b> {
     ) -> Result<ElfResolver<'b>>
         ensures frame { Gives (λ _. tt) result (frame_of (bundle_view bundle.now)) }
         ensures same { IfOk result (λ r. r ≡ bundle_view bundle.now) }
+        ensures kinds { IfErr result (λ e. IsMemoryOrFormat e.kind) }
     {
         let file = bundle.debug_file();
         let mut parser = ElfParser::from_mem(alloc, file.image, file.module);
@@ -81,6 +83,7 @@ impl<'b> ElfResolver<'b> {
     ) -> Result<Answer<'b>>
         ensures value { Gives answer_view result (answer_of self.old addr) }
         ensures same { self.new ≡ self.old }
+        ensures kinds { IfErr result (λ e. IsMemoryOrFormat e.kind) }
     {
         self.parser.find_sym(alloc, orders, addr, opts)
     }

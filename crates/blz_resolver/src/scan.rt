@@ -1,8 +1,9 @@
 //! The answers of a list of addresses.
-ghost use Rattle.std.specs.Prelude.{◌≡◌, map};
+ghost use Rattle.std.specs.Prelude.{◌≡◌, IfOk, IfErr, length, map};
 ghost use Rattle.blz_model.specs.Part.{Gives, all_good};
 ghost use Rattle.blz_elf.specs.AnswerView.{answer_view};
 ghost use Rattle.blz_resolver.specs.BundleViews.{bundle_view};
+ghost use Rattle.blz_resolver.specs.FormatKinds.{IsMemoryOrFormat};
 ghost use Rattle.blz_resolver.specs.Scan.{answer_of, scan_of};
 
 use crate::{Bundle, ElfResolver};
@@ -13,7 +14,6 @@ use std::alloc::Global;
 
 /// The answer of each address, in their order. Refused by the first mark that is met: those of the frame, which is
 /// read first, also where there are no addresses, and then those of the answers.
-#[tactic(auto, unfolding(crate::specs::Scan::scan_of))]
 pub fn symbolize<'b, O: Orders>(
     alloc: Global,
     orders: &mut O,
@@ -21,7 +21,23 @@ pub fn symbolize<'b, O: Orders>(
     addrs: &[u64],
     opts: &FindSymOpts,
 ) -> Result<Vec<Answer<'b>>>
-    ensures { Gives (λ v. map answer_view v.items) result (scan_of (bundle_view bundle.now) addrs.now) }
+    ensures value { Gives (λ v. map answer_view v.items) result (scan_of (bundle_view bundle.now) addrs.now) }
+    ensures one_each { IfOk result (λ v. length v.items ≡ length addrs.now) }
+    ensures kinds { IfErr result (λ e. IsMemoryOrFormat e.kind) }
+{
+    scanned(alloc, orders, bundle, addrs, opts)
+}
+
+#[tactic(auto, unfolding(crate::specs::Scan::scan_of))]
+fn scanned<'b, O: Orders>(
+    alloc: Global,
+    orders: &mut O,
+    bundle: &Bundle<'b>,
+    addrs: &[u64],
+    opts: &FindSymOpts,
+) -> Result<Vec<Answer<'b>>>
+    ensures value { Gives (λ v. map answer_view v.items) result (scan_of (bundle_view bundle.now) addrs.now) }
+    ensures one_each { IfOk result (λ v. length v.items ≡ length addrs.now) }
 {
     let mut resolver = ElfResolver::from_bundle(alloc, orders, bundle)?;
     answers(alloc, orders, &mut resolver, addrs, opts)
@@ -34,7 +50,8 @@ fn answers<'b, O: Orders>(
     addrs: &[u64],
     opts: &FindSymOpts,
 ) -> Result<Vec<Answer<'b>>>
-    ensures { Gives (λ v. map answer_view v.items) result (all_good (map (answer_of resolver.old) addrs.now)) }
+    ensures value { Gives (λ v. map answer_view v.items) result (all_good (map (answer_of resolver.old) addrs.now)) }
+    ensures one_each { IfOk result (λ v. length v.items ≡ length addrs.now) }
 {
     let mut answers = Vec::with_capacity(alloc, addrs.len())?;
     for addr in addrs {

@@ -1,4 +1,4 @@
-use Rattle.std.proofs.Common.{◌≡◌, drop, map}
+use Rattle.std.proofs.Common.{◌≡◌, drop, length, map}
 use Rattle.blz_model.specs.Part.{all_good}
 use Rattle.blz_model.proofs.PartLemmas.{after_front}
 use Rattle.blz_elf.specs.AnswerView.{answer_view}
@@ -10,5 +10,6 @@ invariant-loop-addr g l =
     let f = answer_of l.initial.resolver in
     record {
       value : after_front (map answer_view l.answers.items) (all_good (map f (drop l.addr-index l.addrs))) ≡ all_good (map f l.addrs);
+      count : length l.answers.items ≡ l.addr-index;
       same : l.resolver ≡ l.initial.resolver;
     }
