@@ -5,5 +5,7 @@ pub mod Multiples
 pub mod NameOrdering
 pub mod NumberLoop
 pub mod PairOrdering
+pub mod Pairs
 pub mod RecordsLoop
+pub mod Retaining
 pub mod ZeroEnded

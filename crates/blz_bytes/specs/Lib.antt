@@ -1,6 +1,8 @@
 pub mod CursorValue
+pub mod Inserted
 pub mod Joined
 pub mod LeastMultiple
+pub mod MapEnds
 pub mod NameOrder
 pub mod PairOrder
 pub mod PathBytes
