@@ -16,3 +16,6 @@ pub mod AnswerView
 pub mod Warm
 pub mod Sources
 pub mod Asked
+pub mod Infos
+pub mod OwnedInfos
+pub mod Visits

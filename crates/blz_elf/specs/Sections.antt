@@ -4,7 +4,6 @@ use Rattle.std.specs.List.{range_with_len}
 use Rattle.blz_error.specs.declared.kind.ErrorKind.TheVariants.{InvalidData, Unsupported}
 use Rattle.blz_model.specs.Numbers.{field}
 use Rattle.blz_model.specs.Part.{Part, Good, Broken, ◌>>=◌, check}
-use Rattle.blz_elf.specs.declared.format.Class.{Class}
 use Rattle.blz_elf.specs.declared.format.Format.{Format}
 use Rattle.blz_elf.specs.Formats.{word, section_size, compression_size, word_at}
 use Rattle.blz_elf.specs.Headers.{Header}

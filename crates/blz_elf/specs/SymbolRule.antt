@@ -1,5 +1,5 @@
 -- The symbol of an address.
-use Rattle.std.specs.Prelude.{ℕ, ◌+◌, Bool, true, false, ◌&&◌, ◌||◌, not, List, [], length, map, filter, max, nat_le, nat_lt, ◌==◌, Option, Some, None, if◌then◌else◌}
+use Rattle.std.specs.Prelude.{ℕ, ◌+◌, Bool, true, ◌&&◌, ◌||◌, not, List, [], length, map, filter, max, nat_le, nat_lt, ◌==◌, Option, Some, None, if◌then◌else◌}
 use Rattle.std.specs.List.{fold}
 use Rattle.blz_model.specs.Part.{Part, Good, ◌>>=◌, all_good}
 use Rattle.blz_model.specs.declared.reason.Reason.{Reason}

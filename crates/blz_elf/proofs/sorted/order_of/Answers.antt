@@ -1,4 +1,4 @@
-use Rattle.std.proofs.Common.{map, refl}
+use Rattle.std.proofs.Common.{map}
 use Rattle.blz_elf.specs.Views.{symbol_view}
 use Rattle.blz_elf.proofs.Search.{accepted}
 use Rattle.blz_elf.proofs.sorted.order_of.Goals as goal
