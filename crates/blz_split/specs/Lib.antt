@@ -1,0 +1,5 @@
+pub mod Contributions
+pub mod TablesFit
+pub mod SectionNames
+pub mod PackageParts
+pub mod FileSections

@@ -1,0 +1,12 @@
+//! Packages of split units: the index of their units, and the sections that a split unit is read from.
+#![tactic(auto)]
+
+mod dwo_section;
+mod package;
+mod split_unit;
+mod tables;
+#[cfg(test)]
+mod tests;
+
+pub use package::Package;
+pub use split_unit::{Piece, SplitUnit};
