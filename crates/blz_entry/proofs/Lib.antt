@@ -3,3 +3,8 @@ pub mod AttributeSteps
 pub mod AbbreviationIndex
 pub mod Marked
 pub mod AbbreviationSteps
+pub mod RangeSteps
+pub mod FoldSteps
+pub mod RootSteps
+pub mod Ahead
+pub mod SetSteps

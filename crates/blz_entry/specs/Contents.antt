@@ -1,5 +1,5 @@
 -- Fields of a section: numbers in its byte order, addresses, offsets and blocks.
-use Rattle.std.specs.Prelude.{ℕ, ◌+◌, Bool, List, length, Some, None, nat_le, ◌==◌, if◌then◌else◌}
+use Rattle.std.specs.Prelude.{ℕ, ◌+◌, Bool, List, length, Some, None, nat_le, ◌==◌, if◌then◌else◌, take}
 use Rattle.blz_model.specs.declared.byte_order.ByteOrder.{ByteOrder}
 use Rattle.blz_model.specs.Reads.{Read, ◌>>=◌, number}
 use Rattle.blz_model.specs.LebNumbers.{uleb}
@@ -20,6 +20,10 @@ pub record Contents : Type 0 where
 
 abbrev pub section_view : Section → Contents
 section_view s = record { bytes = s.bytes.now; moves = s.moves.now; order = s.order }
+
+-- a section up to a place, or whole where it ends before
+abbrev pub cut : ℕ → Contents → Contents
+cut end s = record { bytes = take end s.bytes; moves = s.moves; order = s.order }
 
 -- the number of n bytes at a place
 abbrev pub number_at : ℕ → Contents → ℕ → Read ℕ

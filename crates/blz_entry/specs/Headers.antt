@@ -1,8 +1,8 @@
 -- Headers of units (DWARF 5 sections 7.4 and 7.5.1).
-use Rattle.std.specs.Prelude.{ℕ, zero, suc, ◌+◌, Bool, true, false, ◌&&◌, ◌||◌, List, [], ◌∷◌, length, take, Option, Some, None, nat_lt, nat_le, ◌==◌, if◌then◌else◌}
+use Rattle.std.specs.Prelude.{ℕ, zero, suc, ◌+◌, Bool, true, false, ◌&&◌, ◌||◌, List, [], ◌∷◌, length, Option, Some, None, nat_lt, nat_le, ◌==◌, if◌then◌else◌}
 use Rattle.blz_model.specs.Reads.{Read, ◌>>=◌}
 use Rattle.blz_bytes.specs.Pieces.{byte}
-use Rattle.blz_entry.specs.Contents.{Contents, number_at, offset_at, offset_len}
+use Rattle.blz_entry.specs.Contents.{Contents, cut, number_at, offset_at, offset_len}
 use Rattle.blz_entry.specs.declared.encoding.Encoding.{Encoding}
 use Rattle.blz_entry.specs.declared.extent.Extent.{Extent}
 use Rattle.blz_entry.specs.declared.units.UnitHeader.{UnitHeader}
@@ -27,10 +27,6 @@ unfoldable pub extent_at : Contents → ℕ → Read Extent
 extent_at s at = do
   len ← initial_length s at
   if nat_le (len.1 + len.0.1) (length s.bytes) then Some (record { wide = len.0.0; end = len.1 + len.0.1 }, len.1) else None
-
--- a section up to a place
-abbrev pub cut : ℕ → Contents → Contents
-cut end s = record { bytes = take end s.bytes; moves = s.moves; order = s.order }
 
 -- the kinds of version 5
 abbrev pub kind_of : ℕ → Option UnitKind

@@ -9,3 +9,9 @@ pub mod Headers
 pub mod Forest
 pub mod Walks
 pub mod Codes
+pub mod Folds
+pub mod StringPlaces
+pub mod AddressIndexes
+pub mod RangeLists
+pub mod Roots
+pub mod AddressSets

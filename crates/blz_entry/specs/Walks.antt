@@ -4,10 +4,10 @@ use Rattle.blz_error.specs.declared.kind.ErrorKind.TheVariants.{InvalidDwarf}
 use Rattle.blz_error.specs.Fault.{Fault}
 use Rattle.blz_model.specs.Reads.{◌>>=◌}
 use Rattle.blz_model.specs.LebNumbers.{uleb}
-use Rattle.blz_entry.specs.Contents.{Contents, section_view}
+use Rattle.blz_entry.specs.Contents.{Contents, section_view, cut}
 use Rattle.blz_entry.specs.Abbrevs.{Abbrev, of_code}
 use Rattle.blz_entry.specs.Attributes.{attribute, attributes, passed}
-use Rattle.blz_entry.specs.Headers.{cut, encoding_of}
+use Rattle.blz_entry.specs.Headers.{encoding_of}
 use Rattle.blz_entry.specs.Forest.{Head, Close, Open}
 use Rattle.blz_entry.specs.declared.abbreviations.AttrSpec.{AttrSpec}
 use Rattle.blz_entry.specs.declared.encoding.Encoding.{Encoding}

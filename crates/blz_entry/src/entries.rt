@@ -9,7 +9,7 @@ use crate::abbreviations::{Abbreviations, AttrSpec};
 use crate::attributes::{attribute, passed};
 use crate::encoding::Encoding;
 use crate::fault::invalid;
-use crate::section::{Section, Sections};
+use crate::section::{Section, Sections, cut};
 use crate::text::{StrBase, StrPart};
 use crate::units::UnitHeader;
 use crate::value::AttrValue;
@@ -59,7 +59,8 @@ impl<'s, 'b> Model for Entries<'s, 'b> {
     ghost invariant = { λ e. record { cut : length e.section.bytes.now ≤ e.end; texts : e.base.start + length e.section.bytes.now < 2 ^ 64; low : e.depth ≤ e.place } };
 }
 
-fn info_base(sections: &Sections<'_, '_>) -> StrBase
+/// Where the texts among the entries of a unit stand.
+pub(crate) fn info_base(sections: &Sections<'_, '_>) -> StrBase
     ensures { result ≡ info_base sections.now }
 {
     let part = if sections.split {
@@ -99,14 +100,8 @@ impl<'s, 'b> Entries<'s, 'b> {
         if at < header.entries || at > header.end {
             return Err(invalid("a place is not among the entries of its unit"));
         }
-        let end = header.end.min(sections.info.bytes.len());
-        let section = Section {
-            bytes: &sections.info.bytes[..end],
-            moves: sections.info.moves,
-            order: sections.info.order,
-        };
         Ok(Entries {
-            section,
+            section: cut(&sections.info, header.end),
             base: info_base(&sections),
             encoding: header.encoding(),
             abbreviations,

@@ -1,7 +1,7 @@
 //! Fields of a section: numbers, addresses, offsets and blocks.
-ghost use Rattle.std.specs.Prelude.{◌≡◌, ◌≤◌, length, IfSome};
+ghost use Rattle.std.specs.Prelude.{◌≡◌, ◌≤◌, ◌<◌, ◌+◌, ◌*◌, ◌^◌, length, IfSome, MatchOption, option_map};
 ghost use Rattle.blz_model.specs.Reads.{number};
-ghost use Rattle.blz_entry.specs.Contents.{section_view, bytes_in, moved_number, address_at, offset_at, skipped, field_at};
+ghost use Rattle.blz_entry.specs.Contents.{section_view, bytes_in, moved_number, address_at, offset_at, offset_len, skipped, field_at};
 
 use crate::encoding::Encoding;
 use crate::form::{Field, Width};
@@ -12,7 +12,7 @@ use blz_bytes::{number_at, u8_at, u16_at, u32_at, u64_at, uleb_at};
 #[tactic(auto, using(crate::proofs::Bytes::number_of_one))]
 pub fn fixed_at(width: Width, section: &Section<'_, '_>, at: usize) -> Option<(u64, usize)>
     ensures value { result ≡ number section.now.order (bytes_in width) section.now.bytes.now at }
-    ensures within { IfSome result (λ r. (at ≤ r.1) × (r.1 ≤ length section.now.bytes.now)) }
+    ensures within { IfSome result (λ r. (at < r.1) × (r.1 ≤ length section.now.bytes.now)) }
 {
     match width {
         Width::One => {
@@ -36,7 +36,7 @@ pub fn fixed_at(width: Width, section: &Section<'_, '_>, at: usize) -> Option<(u
 #[tactic(auto, unfolding(crate::specs::Contents::moved_number))]
 fn moved_at(width: Width, section: &Section<'_, '_>, at: usize) -> Option<(u64, usize)>
     ensures value { result ≡ moved_number (bytes_in width) (section_view section.now) at }
-    ensures within { IfSome result (λ r. (at ≤ r.1) × (r.1 ≤ length section.now.bytes.now)) }
+    ensures within { IfSome result (λ r. (at < r.1) × (r.1 ≤ length section.now.bytes.now)) }
 {
     let (value, next) = fixed_at(width, section, at)?;
     Some((section.moves.relocate(at as u64, value), next))
@@ -46,7 +46,7 @@ fn moved_at(width: Width, section: &Section<'_, '_>, at: usize) -> Option<(u64, 
 #[tactic(auto, unfolding(crate::specs::Contents::address_at))]
 pub fn address_at(address_size: u8, section: &Section<'_, '_>, at: usize) -> Option<(u64, usize)>
     ensures value { result ≡ address_at address_size (section_view section.now) at }
-    ensures within { IfSome result (λ r. (at ≤ r.1) × (r.1 ≤ length section.now.bytes.now)) }
+    ensures within { IfSome result (λ r. (at < r.1) × (r.1 ≤ length section.now.bytes.now)) }
 {
     match address_size {
         4 => moved_at(Width::Four, section, at),
@@ -59,7 +59,7 @@ pub fn address_at(address_size: u8, section: &Section<'_, '_>, at: usize) -> Opt
 #[tactic(auto, unfolding(crate::specs::Contents::offset_at))]
 pub fn offset_at(wide: bool, section: &Section<'_, '_>, at: usize) -> Option<(u64, usize)>
     ensures value { result ≡ offset_at wide (section_view section.now) at }
-    ensures within { IfSome result (λ r. (at ≤ r.1) × (r.1 ≤ length section.now.bytes.now)) }
+    ensures within { IfSome result (λ r. (at < r.1) × (r.1 ≤ length section.now.bytes.now)) }
 {
     if wide {
         moved_at(Width::Eight, section, at)
@@ -114,4 +114,46 @@ pub(crate) fn field_at(
             skip(count, section.bytes, next)
         }
     }
+}
+
+/// The place of an item of a table by its index; None where it passes the greatest number.
+fn nth_place(base: u64, index: u64, size: u8) -> Option<usize>
+    ensures { MatchOption result (2 ^ 64 ≤ base + index * size) (λ place. place ≡ base + index * size) }
+{
+    let place = base.checked_add(index.checked_mul(u64::from(size))?)?;
+    Some(place as usize)
+}
+
+fn offset_len(wide: bool) -> u8
+    ensures { result ≡ offset_len wide }
+{
+    if wide { 8 } else { 4 }
+}
+
+/// The offset at an index of a table that begins at a base.
+pub(crate) fn indexed_offset(
+    wide: bool,
+    section: &Section<'_, '_>,
+    base: u64,
+    index: u64,
+) -> Option<u64>
+    ensures { result ≡ option_map (λ r. r.0) (offset_at wide (section_view section.now) (base + index * offset_len wide)) }
+{
+    let place = nth_place(base, index, offset_len(wide))?;
+    let (offset, _) = offset_at(wide, section, place)?;
+    Some(offset)
+}
+
+/// The address at an index of a table that begins at a base.
+pub(crate) fn indexed_address(
+    address_size: u8,
+    section: &Section<'_, '_>,
+    base: u64,
+    index: u64,
+) -> Option<u64>
+    ensures { result ≡ option_map (λ r. r.0) (address_at address_size (section_view section.now) (base + index * address_size)) }
+{
+    let place = nth_place(base, index, address_size)?;
+    let (address, _) = address_at(address_size, section, place)?;
+    Some(address)
 }

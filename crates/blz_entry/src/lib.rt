@@ -2,6 +2,8 @@
 #![tactic(auto)]
 
 mod abbreviations;
+mod addresses;
+mod aranges;
 mod attributes;
 mod encoding;
 mod entries;
@@ -9,24 +11,29 @@ mod extent;
 mod fault;
 mod field;
 mod form;
+mod range_list;
 mod ranges;
 mod root;
 mod section;
 mod span;
+mod strings;
 mod text;
 mod units;
 mod value;
 
 pub use abbreviations::{Abbreviation, Abbreviations, AttrSpec};
+pub use addresses::address;
+pub use aranges::{ArangeSet, Aranges};
 pub use encoding::Encoding;
 pub use entries::{Entries, Entry};
 pub use extent::{Extent, extent_at};
 pub use field::{address_at, fixed_at, offset_at};
 pub use form::{Field, Form, Makes, Width};
-pub use ranges::RangeAttributes;
+pub use ranges::{RangeAttributes, attr_ranges_offset};
 pub use root::UnitRoot;
-pub use section::{Section, Sections};
+pub use section::{Section, Sections, cut};
 pub use span::Span;
+pub use strings::{attr_string, supplementary_string};
 pub use text::{StrBase, StrPart, StrPlace, Texts};
 pub use units::{UnitHeader, UnitHeaders, UnitKind};
 pub use value::{AttrValue, form_value};

@@ -1,4 +1,19 @@
 //! The attributes that tell which addresses an entry covers.
+ghost use Rattle.std.specs.Prelude.{◌≡◌, MatchResult, Some, take, vec_len};
+ghost use Rattle.blz_model.specs.Part.{Exactly, Fails};
+ghost use Rattle.blz_entry.specs.Marks.{or_invalid};
+ghost use Rattle.blz_entry.specs.RangeLists.{range_offset, with_low, with_high, range_step, sized, bounds_of, not_empty, ranges_of, joined, Appends};
+
+use crate::addresses::value_address;
+use crate::fault::invalid;
+use crate::field::indexed_offset;
+use crate::range_list::{append_list, put};
+use crate::root::UnitRoot;
+use crate::section::Sections;
+use crate::span::Span;
+use crate::units::UnitHeader;
+use crate::value::AttrValue;
+use blz_error::Result;
 
 /// The attributes of an entry that tell which addresses it covers (DWARF 5 section 2.17).
 #[derive(Clone, Copy, Default)]
@@ -11,4 +26,201 @@ pub struct RangeAttributes {
     pub size: Option<u64>,
     /// `DW_AT_ranges`: where the list of ranges begins.
     pub ranges_offset: Option<u64>,
+}
+
+const LOW_PC: u64 = 0x11;
+
+const HIGH_PC: u64 = 0x12;
+
+const RANGES: u64 = 0x55;
+
+#[tactic(auto, unfolding(crate::specs::RangeLists::range_offset))]
+fn range_offset(
+    sections: &Sections<'_, '_>,
+    header: &UnitHeader,
+    root: &UnitRoot,
+    value: AttrValue,
+) -> Option<Option<u64>>
+    ensures { result ≡ range_offset sections.now header.now root.now value }
+{
+    match value {
+        AttrValue::SecOffset(offset) => Some(Some(offset)),
+        AttrValue::RangeIndex(index) => {
+            let offset = indexed_offset(
+                header.wide,
+                &sections.rnglists,
+                root.rnglists_base,
+                index,
+            )?;
+            let offset = offset.checked_add(root.rnglists_base)?;
+            Some(Some(offset))
+        }
+        _ => Some(None),
+    }
+}
+
+/// Where the list of ranges of a value begins (DWARF 5 sections 7.5.5 and 7.28), and None where it is none. InvalidDwarf
+/// exactly where the index lies outside `.debug_rnglists` or leads past the greatest offset.
+pub fn attr_ranges_offset(
+    sections: &Sections<'_, '_>,
+    header: &UnitHeader,
+    root: &UnitRoot,
+    value: AttrValue,
+) -> Result<Option<u64>>
+    ensures { Exactly (λ o. o) result (or_invalid (range_offset sections.now header.now root.now value)) }
+{
+    match range_offset(sections, header, root, value) {
+        Some(offset) => Ok(offset),
+        None => Err(invalid("the index of a list of ranges lies outside")),
+    }
+}
+
+fn with_low(attributes: RangeAttributes, low_pc: Option<u64>) -> RangeAttributes
+    ensures { result ≡ with_low attributes low_pc }
+{
+    match low_pc {
+        None => attributes,
+        Some(_) => RangeAttributes {
+            low_pc,
+            ..attributes
+        },
+    }
+}
+
+fn with_high(
+    attributes: RangeAttributes,
+    high_pc: Option<u64>,
+    number: Option<u64>,
+) -> RangeAttributes
+    ensures { result ≡ with_high attributes high_pc number }
+{
+    match (high_pc, number) {
+        (None, None) => attributes,
+        (None, Some(_)) => RangeAttributes {
+            size: number,
+            ..attributes
+        },
+        (Some(_), _) => RangeAttributes {
+            high_pc,
+            ..attributes
+        },
+    }
+}
+
+#[tactic(auto, unfolding(crate::specs::RangeLists::range_step))]
+pub(crate) fn range_step(
+    sections: &Sections<'_, '_>,
+    header: &UnitHeader,
+    root: &UnitRoot,
+    attributes: RangeAttributes,
+    name: u64,
+    value: AttrValue,
+) -> Option<RangeAttributes>
+    ensures { result ≡ range_step sections.now header.now root.now attributes (name, value) }
+{
+    match name {
+        LOW_PC => {
+            let low = value_address(sections, header, root, value)?;
+            Some(with_low(attributes, low))
+        }
+        HIGH_PC => {
+            let high = value_address(sections, header, root, value)?;
+            Some(with_high(attributes, high, value.udata()))
+        }
+        RANGES => {
+            let ranges_offset = range_offset(sections, header, root, value)?;
+            Some(RangeAttributes {
+                ranges_offset,
+                ..attributes
+            })
+        }
+        _ => Some(attributes),
+    }
+}
+
+fn sized(low: u64, size: Option<u64>) -> Option<Span>
+    ensures { result ≡ sized low size }
+{
+    let end = low.checked_add(size?)?;
+    Some(Span { begin: low, end })
+}
+
+fn not_empty(bounds: Option<Span>) -> Option<Span>
+    ensures { result ≡ not_empty bounds }
+{
+    match bounds {
+        Some(span) if span.begin < span.end => bounds,
+        _ => None,
+    }
+}
+
+impl RangeAttributes {
+    /// These attributes with one more, in the order in which an entry has them; others than the three that tell ranges
+    /// change nothing. InvalidDwarf exactly where an index lies outside.
+    pub fn with(
+        self,
+        sections: &Sections<'_, '_>,
+        header: &UnitHeader,
+        root: &UnitRoot,
+        name: u64,
+        value: AttrValue,
+    ) -> Result<RangeAttributes>
+        ensures { Exactly (λ r. r) result (or_invalid (range_step sections.now header.now root.now self (name, value))) }
+    {
+        match range_step(sections, header, root, self, name, value) {
+            Some(attributes) => Ok(attributes),
+            None => Err(invalid("the index of an address or of a list of ranges lies outside")),
+        }
+    }
+
+    /// The first address and the one past the last, by the attributes that tell them alone; they may be empty or
+    /// reversed.
+    pub fn bounds(&self) -> Option<Span>
+        ensures { result ≡ bounds_of self.now }
+    {
+        let begin = self.low_pc?;
+        match self.high_pc {
+            Some(end) => Some(Span { begin, end }),
+            None => sized(begin, self.size),
+        }
+    }
+
+    // the ranges behind what is there; after an error more may stand there
+    fn append(
+        &self,
+        sections: &Sections<'_, '_>,
+        header: &UnitHeader,
+        root: &UnitRoot,
+        out: &mut Vec<Span>,
+    ) -> Result<()>
+        ensures value { MatchResult result (λ _. joined out.old.items (ranges_of self.now sections.now header.now root.now) ≡ Some out.new.items) (λ e. Fails e.kind (or_invalid (ranges_of self.now sections.now header.now root.now))) }
+        ensures front { take (vec_len out.old) out.new.items ≡ out.old.items }
+    {
+        match self.ranges_offset {
+            Some(offset) => append_list(sections, header, root, offset, out),
+            None => put(out, not_empty(self.bounds())),
+        }
+    }
+
+    /// Appends the ranges of the entry (DWARF 5 section 2.17) and tells whether there was one: those of its list where it
+    /// has one, and else its bounds. InvalidDwarf exactly where the list is not whole or not known; after an error `out`
+    /// is as before.
+    pub fn for_each_range(
+        &self,
+        sections: &Sections<'_, '_>,
+        header: &UnitHeader,
+        root: &UnitRoot,
+        out: &mut Vec<Span>,
+    ) -> Result<bool>
+        ensures { Appends (ranges_of self.now sections.now header.now root.now) out.old.items result out.new.items }
+    {
+        let before = out.len();
+        match self.append(sections, header, root, out) {
+            Ok(()) => Ok(out.len() > before),
+            Err(fault) => {
+                out.truncate(before);
+                Err(fault)
+            }
+        }
+    }
 }

@@ -1,5 +1,8 @@
 //! The sections that entries are read from.
 
+ghost use Rattle.std.specs.Prelude.{◌≡◌, ◌≤◌, length};
+ghost use Rattle.blz_entry.specs.Contents.{section_view, cut};
+
 use blz_elf::RelocationMap;
 use blz_model::ByteOrder;
 
@@ -45,4 +48,21 @@ pub struct Sections<'s, 'b> {
     pub split: bool,
     /// These are the sections of the supplementary file.
     pub sup: bool,
+}
+
+/// A section up to a place, or whole where it ends before.
+pub fn cut<'s, 'b>(section: &Section<'s, 'b>, end: usize) -> Section<'s, 'b>
+    ensures value { section_view result ≡ cut end (section_view section.now) }
+    ensures short { length result.bytes.now ≤ end }
+    ensures inside { length result.bytes.now ≤ length section.now.bytes.now }
+    ensures all { end ≤ length section.now.bytes.now → length result.bytes.now ≡ end }
+{
+    if end >= section.bytes.len() {
+        return *section;
+    }
+    Section {
+        bytes: &section.bytes[..end],
+        moves: section.moves,
+        order: section.order,
+    }
 }

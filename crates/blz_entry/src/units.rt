@@ -10,7 +10,7 @@ use crate::extent::{Extent, extent_at};
 use crate::fault::invalid;
 use crate::field::{fixed_at, offset_at};
 use crate::form::Width;
-use crate::section::Section;
+use crate::section::{Section, cut};
 use blz_bytes::{u8_at, u16_at, u64_at};
 use blz_error::Result;
 use std::marker::Model;
@@ -191,11 +191,7 @@ fn header_at(info: &Section<'_, '_>, at: usize) -> Option<UnitHeader>
     ensures within { IfSome result (λ h. (h.start ≡ at) × (at < h.entries) × (h.entries ≤ h.end) × (h.end ≤ length info.now.bytes.now)) }
 {
     let (extent, next) = extent_at(info, at)?;
-    let unit = Section {
-        bytes: &info.bytes[..extent.end],
-        moves: info.moves,
-        order: info.order,
-    };
+    let unit = cut(info, extent.end);
     header_in(at, extent, &unit, next)
 }
 
