@@ -4,7 +4,12 @@ pub mod Sections
 pub mod Images
 pub mod SymbolTables
 pub mod SymbolRule
+pub mod Segments
+pub mod SegmentViews
 pub mod Relocations
+pub mod RelocationTables
+pub mod EntryPlaces
+pub mod EntryViews
 pub mod Names
 pub mod Places
 pub mod Views

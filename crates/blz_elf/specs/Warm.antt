@@ -13,6 +13,7 @@ use Rattle.blz_elf.specs.Places.{RowsFit, sections_in}
 use Rattle.blz_elf.specs.Frames.{FrameFits, frame_view}
 use Rattle.blz_elf.specs.declared.question.TableKind.TheVariants.{Symtab, Dynsym}
 use Rattle.blz_elf.specs.SymbolTables.{image_table}
+use Rattle.blz_elf.specs.RelocationTables.{image_relocations}
 use Rattle.blz_elf.specs.Tables.{TableFits, table_view}
 
 -- a table, with its order where it has one
@@ -33,6 +34,7 @@ pub record Fits (image : List ℕ) (w : ElfWarm) : Type 0 where
   pub frame : Kept (FrameFits image) (frame_view image) w.frame (elf_of image)
   pub symtab : Kept (TableFits image) (table_view image) w.symtab (image_table Symtab image)
   pub dynsym : Kept (TableFits image) (table_view image) w.dynsym (image_table Dynsym image)
+  pub relocations : Kept (λ _. Unit {0}) (λ m. m) w.relocations (image_relocations image)
   pub full : w.prepared ≡ true → AllKept w
 
 -- whether `prepare` filled them

@@ -3,7 +3,12 @@ ghost use Rattle.std.specs.Prelude.{◌≡◌, true, IfOk};
 ghost use Rattle.std.specs.Option.{option_map};
 ghost use Rattle.blz_model.specs.Part.{Exactly};
 ghost use Rattle.blz_model.specs.Kept.{Kept, is_kept};
-ghost use Rattle.blz_elf.specs.Images.{elf_of};
+ghost use Rattle.blz_elf.specs.Headers.{header_of};
+ghost use Rattle.blz_elf.specs.Formats.{section_size};
+ghost use Rattle.blz_elf.specs.Images.{elf_of, image_sections};
+ghost use Rattle.blz_elf.specs.Places.{RowsFit, sections_in};
+ghost use Rattle.blz_elf.specs.RelocationTables.{image_relocations};
+ghost use Rattle.blz_elf.specs.Views.{header_view};
 ghost use Rattle.blz_elf.specs.declared.question.TableKind.TheVariants.{Symtab, Dynsym};
 ghost use Rattle.blz_elf.specs.SymbolTables.{table_of, image_table};
 ghost use Rattle.blz_elf.specs.SymbolRule.{symbol_for, table_answer, dynamic_answer, reason_for};
@@ -13,13 +18,17 @@ ghost use Rattle.blz_elf.specs.Tables.{TableFits, table_view};
 ghost use Rattle.blz_elf.specs.Warm.{Fits, is_sorted};
 
 use crate::answer::Answer;
+use crate::header::Header;
 use crate::image::{Frame, Image};
 use crate::lookup::answer_in;
 use crate::question::{Question, TableKind};
+use crate::relocating::relocations;
+use crate::relocation::SectionRelocations;
+use crate::span::Rows;
 use crate::table::{Table, read_table};
 use crate::warm::ElfWarm;
 use blz_bytes::Orders;
-use blz_error::{Error, Result, Str};
+use blz_error::{Error, ErrorKind, Result, Str};
 use blz_model::{Cache, Reason};
 use std::alloc::{AllocError, Global};
 
@@ -170,5 +179,56 @@ pub fn fill(warm: &mut ElfWarm, image: &[u8], read: Result<Frame>)
             warm.symtab = Cache::Mark(e.kind());
             warm.dynsym = Cache::Mark(e.kind());
         },
+    }
+}
+
+/// Reads the relocations where nothing is kept, by the header and the section table.
+#[tactic(auto, unfolding(crate::specs::RelocationTables::image_relocations, crate::specs::Images::image_sections))]
+pub fn fill_relocations(
+    alloc: Global,
+    kept: &mut Cache<SectionRelocations>,
+    image: &[u8],
+    header: Result<Header>,
+    rows: Result<Rows>,
+) -> std::result::Result<(), AllocError>
+    requires kept { Kept (λ _. Unit {0}) (λ m. m) kept.old (image_relocations image.now) }
+    requires header { Exactly header_view header (header_of image.now) }
+    requires rows { Exactly (sections_in image.now) rows (image_sections image.now) }
+    requires fits { IfOk rows (RowsFit section_size image.now) }
+    ensures kept { Kept (λ _. Unit {0}) (λ m. m) kept.new (image_relocations image.now) }
+    ensures full { IfOk result (λ _. is_kept kept.new ≡ true) }
+{
+    if let Cache::Empty = kept {
+        *kept = relocations_part(alloc, image, header, rows)?;
+    }
+    Ok(())
+}
+
+/// What is kept of the relocations.
+#[tactic(auto, unfolding(crate::specs::RelocationTables::image_relocations, crate::specs::Images::image_sections))]
+fn relocations_part(
+    alloc: Global,
+    image: &[u8],
+    header: Result<Header>,
+    rows: Result<Rows>,
+) -> std::result::Result<Cache<SectionRelocations>, AllocError>
+    requires header { Exactly header_view header (header_of image.now) }
+    requires rows { Exactly (sections_in image.now) rows (image_sections image.now) }
+    requires fits { IfOk rows (RowsFit section_size image.now) }
+    ensures kept { IfOk result (λ c. Kept (λ _. Unit {0}) (λ m. m) c (image_relocations image.now)) }
+    ensures full { IfOk result (λ c. is_kept c ≡ true) }
+{
+    let header = match header {
+        Ok(header) => header,
+        Err(e) => return Ok(Cache::Mark(e.kind())),
+    };
+    let rows = match rows {
+        Ok(rows) => rows,
+        Err(e) => return Ok(Cache::Mark(e.kind())),
+    };
+    match relocations(alloc, image, header, rows) {
+        Ok(map) => Ok(Cache::Value(map)),
+        Err(e) if e.kind() == ErrorKind::OutOfMemory => Err(AllocError),
+        Err(e) => Ok(Cache::Mark(e.kind())),
     }
 }

@@ -1,7 +1,7 @@
 //! How the records of an image are laid out.
-ghost use Rattle.std.specs.Prelude.{◌≡◌, ◌≤◌};
+ghost use Rattle.std.specs.Prelude.{◌≡◌, ◌≤◌, ◌<◌};
 ghost use Rattle.std.specs.Option.{option_map};
-ghost use Rattle.blz_elf.specs.Formats.{class_of, order_of, word, header_size, section_size, symbol_size, compression_size};
+ghost use Rattle.blz_elf.specs.Formats.{class_of, order_of, word, header_size, section_size, segment_size, symbol_size, compression_size};
 
 use blz_bytes::ByteOrder;
 
@@ -86,5 +86,14 @@ impl Class {
         ensures { result ≡ compression_size self }
     {
         3 * self.word()
+    }
+
+    /// The bytes of a program header.
+    pub fn segment_size(self) -> usize
+        ensures value { result ≡ segment_size self }
+        ensures least { 0 < result }
+        ensures most { result ≤ 56 }
+    {
+        8 + 6 * self.word()
     }
 }

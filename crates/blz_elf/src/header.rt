@@ -6,7 +6,8 @@ ghost use Rattle.blz_elf.specs.Headers.{header_of, header_at};
 ghost use Rattle.blz_elf.specs.Views.{header_view};
 
 use crate::format::{Format, class_of, order_of};
-use crate::number::{u16_in, word_in};
+use crate::number::word_in;
+use blz_records::u16_in;
 use blz_error::{Error, ErrorKind, Result, Str};
 
 /// ET_REL.

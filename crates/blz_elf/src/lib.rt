@@ -2,6 +2,7 @@
 #![tactic(auto)]
 
 mod answer;
+mod entries;
 mod fill;
 mod find_addr_opts;
 mod format;
@@ -12,8 +13,10 @@ mod number;
 mod opts;
 mod parser;
 mod question;
+mod relocating;
 mod relocation;
 mod section;
+mod segments;
 mod sorted;
 mod span;
 mod sym_info;

@@ -5,6 +5,8 @@ ghost use Rattle.blz_model.specs.Part.{Part, Gives};
 ghost use Rattle.blz_elf.specs.Headers.{header_of};
 ghost use Rattle.blz_elf.specs.Formats.{section_size};
 ghost use Rattle.blz_elf.specs.Images.{elf_of, image_order, image_sections, image_section, image_section_data, image_data_named, image_holds_bytes, image_is_relocatable};
+ghost use Rattle.blz_elf.specs.RelocationTables.{image_relocations};
+ghost use Rattle.blz_elf.specs.Segments.{image_file_place, image_address_of};
 ghost use Rattle.blz_elf.specs.SymbolRule.{image_symbol};
 ghost use Rattle.blz_model.specs.Kept.{Kept, is_kept};
 ghost use Rattle.blz_elf.specs.AnswerView.{answer_view};
@@ -15,12 +17,15 @@ ghost use Rattle.blz_elf.specs.Views.{header_view};
 ghost use Rattle.blz_elf.specs.Frames.{FrameFits, frame_view};
 
 use crate::answer::Answer;
-use crate::fill::{fill, fill_table, look, look_both, look_dynamic, sort_table};
+use crate::fill::{fill, fill_relocations, fill_table, look, look_both, look_dynamic, sort_table};
 use crate::header::{Header, read_header};
 use crate::image::{Frame, Image, read_frame};
 use crate::opts::FindSymOpts;
 use crate::question::{Question, TableKind};
+use crate::relocating::relocations;
+use crate::relocation::SectionRelocations;
 use crate::section::{data_at, sections};
+use crate::segments::{SegmentTable, segments};
 use crate::span::Rows;
 use crate::warm::ElfWarm;
 use blz_bytes::{ByteOrder, Orders};
@@ -62,6 +67,7 @@ impl<'b> ElfParser<'b> {
             frame: Cache::Empty,
             symtab: Cache::Empty,
             dynsym: Cache::Empty,
+            relocations: Cache::Empty,
             prepared: false,
             alloc,
         };
@@ -244,6 +250,58 @@ impl<'b> ElfParser<'b> {
         ensures same { self.new ≡ self.old }
     {
         Ok(self.parts()?.is_relocatable())
+    }
+
+    /// The place in the file of `size` bytes at an address (ELF gABI, Program Header): by the first loaded segment that
+    /// holds the address; none where no segment does. Refused by the first mark of header and segments: InvalidData or
+    /// Unsupported.
+    #[tactic(auto, unfolding(crate::specs::Segments::image_file_place, crate::specs::Segments::image_segments))]
+    pub fn find_file_offset(&mut self, addr: u64, size: u64) -> Result<Option<u64>>
+        ensures value { Exactly (λ o. o) result (image_file_place self.old.image addr size) }
+        ensures same { self.new ≡ self.old }
+    {
+        let header = self.header()?;
+        let rows = segments(self.image, &header)?;
+        Ok(SegmentTable::open(self.image, rows).file_place(addr, size))
+    }
+
+    /// The address of a place in the file, by the first loaded segment that holds it; none where no segment does.
+    /// Refused as `find_file_offset` is.
+    #[tactic(auto, unfolding(crate::specs::Segments::image_address_of, crate::specs::Segments::image_segments))]
+    pub fn file_offset_to_virt_offset(&mut self, offset: u64) -> Result<Option<u64>>
+        ensures value { Exactly (λ o. o) result (image_address_of self.old.image offset) }
+        ensures same { self.new ≡ self.old }
+    {
+        let header = self.header()?;
+        let rows = segments(self.image, &header)?;
+        Ok(SegmentTable::open(self.image, rows).address_of(offset))
+    }
+
+    /// The relocations of a relocatable file, by the section that they change (ELF gABI, Relocation); none in other
+    /// files. Refused by the first mark of header, section table and relocations: InvalidData, InvalidInput or
+    /// Unsupported.
+    pub fn section_relocations(&mut self, alloc: Global) -> Result<&SectionRelocations>
+        ensures value { Gives (λ m. m.now) result (image_relocations self.old.image) }
+    {
+        let header = self.header();
+        let rows = self.rows();
+        fill_relocations(alloc, &mut self.warm.relocations, self.image, header, rows)?;
+        match &self.warm.relocations {
+            Cache::Value(map) => Ok(map),
+            Cache::Mark(kind) => Err(Error::new(*kind, Str::fixed("relocations"))),
+            Cache::Empty => unreachable!(),
+        }
+    }
+
+    /// The same relocations, read anew and given to the caller.
+    #[tactic(auto, unfolding(crate::specs::RelocationTables::image_relocations, crate::specs::Images::image_sections))]
+    pub fn read_relocations(&mut self, alloc: Global) -> Result<SectionRelocations>
+        ensures value { Gives (λ m. m) result (image_relocations self.old.image) }
+        ensures same { self.new ≡ self.old }
+    {
+        let header = self.header()?;
+        let rows = self.rows()?;
+        relocations(alloc, self.image, header, rows)
     }
 
     /// The symbol of an address: of the symbols with the greatest value up to it, the largest that is defined and covers

@@ -10,7 +10,8 @@ ghost use Rattle.blz_elf.specs.SymbolRule.{greatest, covering};
 ghost use Rattle.blz_elf.specs.Views.{symbol_view};
 
 use crate::format::{Class, Format};
-use crate::number::{u16_in, u32_in, word_in};
+use crate::number::word_in;
+use blz_records::{u16_in, u32_in};
 use crate::question::Question;
 use crate::span::{Rows, place_of};
 use std::marker::Model;

@@ -1,6 +1,7 @@
 //! What is kept of an image.
 use crate::header::Header;
 use crate::image::Frame;
+use crate::relocation::SectionRelocations;
 use crate::span::Rows;
 use crate::table::Table;
 use blz_model::Cache;
@@ -14,6 +15,7 @@ pub struct ElfWarm {
     pub(crate) frame: Cache<Frame>,
     pub(crate) symtab: Cache<Table>,
     pub(crate) dynsym: Cache<Table>,
+    pub(crate) relocations: Cache<SectionRelocations>,
     pub(crate) prepared: bool,
     pub(crate) alloc: Global,
 }

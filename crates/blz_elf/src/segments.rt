@@ -1,0 +1,184 @@
+//! The segments of an image, where they lie in it.
+ghost use Rattle.std.specs.Prelude.{◌≡◌, ◌+◌, ◌≤◌, ◌<◌, length, IfOk};
+ghost use Rattle.std.specs.List.{HoldsAt};
+ghost use Rattle.blz_model.specs.Part.{Exactly};
+ghost use Rattle.blz_elf.specs.Formats.{segment_size};
+ghost use Rattle.blz_elf.specs.Places.{RowsFit};
+ghost use Rattle.blz_elf.specs.Segments as model;
+ghost use Rattle.blz_elf.specs.Segments.{segment_count, segments_of, file_place, address_of, first_given};
+ghost use Rattle.blz_elf.specs.SegmentViews.{segment_view, segments_in};
+ghost use Rattle.blz_elf.specs.Views.{header_view};
+
+use crate::format::Format;
+use crate::header::Header;
+use crate::number::word_in;
+use crate::section::first_section;
+use crate::span::{Rows, lie_inside, place_of};
+use blz_error::{Error, ErrorKind, Result, Str};
+use blz_records::u32_in;
+use std::marker::Model;
+
+/// PT_LOAD.
+const LOAD: u32 = 1;
+
+/// PN_XNUM.
+const XNUM: u16 = 0xffff;
+
+/// What is read of a program header.
+#[derive(Clone, Copy)]
+pub struct Segment {
+    /// p_type.
+    pub kind: u32,
+    /// p_offset.
+    pub offset: u64,
+    /// p_vaddr.
+    pub addr: u64,
+    /// p_filesz.
+    pub file_size: u64,
+}
+
+impl Segment {
+    /// The place in the file of `size` bytes at an address.
+    fn file_place(&self, addr: u64, size: u64) -> Option<u64>
+        ensures { result ≡ file_place addr size (segment_view self.now) }
+    {
+        if self.kind != LOAD || addr < self.addr {
+            return None;
+        }
+        let distance = addr - self.addr;
+        if distance > self.file_size || (distance == self.file_size && size != 0) {
+            return None;
+        }
+        distance.checked_add(self.offset)
+    }
+
+    /// The address of a place in the file.
+    fn address_of(&self, offset: u64) -> Option<u64>
+        ensures { result ≡ address_of offset (segment_view self.now) }
+    {
+        if self.kind != LOAD || offset < self.offset || offset - self.offset >= self.file_size {
+            return None;
+        }
+        (offset - self.offset).checked_add(self.addr)
+    }
+}
+
+/// The program header at a place.
+fn segment_at(image: &[u8], at: usize, format: Format) -> Segment
+    requires { at + segment_size format.class ≤ length image.now }
+    ensures { segment_view result ≡ model.segment_at format image.now at }
+{
+    let word = format.class.word();
+    Segment {
+        kind: u32_in(image, at, format.order),
+        offset: word_in(image, at + word, format),
+        addr: word_in(image, at + 2 * word, format),
+        file_size: word_in(image, at + 4 * word, format),
+    }
+}
+
+/// The number of segments.
+#[tactic(auto, unfolding(crate::specs::Segments::segment_count))]
+fn segment_count(image: &[u8], header: &Header) -> Result<u64>
+    ensures { Exactly (λ n. n) result (segment_count image.now (header_view header.now)) }
+{
+    if header.phnum != XNUM {
+        return Ok(u64::from(header.phnum));
+    }
+    if header.shoff == 0 {
+        return Err(Error::new(ErrorKind::InvalidData, Str::fixed("segment count")));
+    }
+    let first = first_section(image, header)?;
+    Ok(u64::from(first.info))
+}
+
+/// The place of the segments.
+#[tactic(auto, unfolding(crate::specs::Segments::segments_of))]
+pub fn segments(image: &[u8], header: &Header) -> Result<Rows>
+    ensures value { Exactly (segments_in image.now) result (segments_of image.now (header_view header.now)) }
+    ensures fits { IfOk result (RowsFit segment_size image.now) }
+{
+    let count = segment_count(image, header)?;
+    let size = header.format.class.segment_size();
+    if !lie_inside(image.len(), header.phoff, size, count) {
+        return Err(Error::new(ErrorKind::InvalidData, Str::fixed("segment table")));
+    }
+    Ok(Rows {
+        format: header.format,
+        at: header.phoff as usize,
+        count: count as usize,
+    })
+}
+
+/// The segments of an image.
+#[derive(Drop)]
+pub struct SegmentTable<'b> {
+    image: &'b [u8],
+    rows: Rows,
+}
+
+impl<'b> Model for SegmentTable<'b> {
+    ghost use Rattle.std.specs.Prelude.{List};
+    ghost use Rattle.blz_elf.specs.Formats.{segment_size};
+    ghost use Rattle.blz_elf.specs.Places.{RowsFit};
+    ghost use Rattle.blz_elf.specs.SegmentViews.{segments_in};
+    ghost use Rattle.blz_elf.specs.Segments as model;
+
+    ghost Value = { List model.Segment };
+
+    ghost view = { λ t. segments_in t.image.now t.rows };
+
+    ghost invariant = { λ t. RowsFit segment_size t.image.now t.rows };
+}
+
+impl<'b> SegmentTable<'b> {
+    /// The segments at a place.
+    pub fn open(image: &'b [u8], rows: Rows) -> SegmentTable<'b>
+        requires { RowsFit segment_size image.now rows }
+        ensures { result ≡ segments_in image.now rows }
+    {
+        SegmentTable { image, rows }
+    }
+
+    fn len(&self) -> usize
+        ensures { result ≡ length self.now }
+    {
+        self.rows.count
+    }
+
+    fn at(&self, index: usize) -> Segment
+        requires { index < length self.now }
+        ensures { HoldsAt (λ s. s ≡ segment_view result) self.now index }
+    {
+        let rows = self.rows;
+        let size = rows.format.class.segment_size();
+        let at = place_of(rows.at, size, rows.count, index, self.image.len());
+        segment_at(self.image, at, rows.format)
+    }
+
+    /// The place in the file of `size` bytes at an address, by the first segment that gives one.
+    pub fn file_place(&self, addr: u64, size: u64) -> Option<u64>
+        ensures { result ≡ first_given (file_place addr size) self.now }
+    {
+        for i in 0..self.len() {
+            let place = self.at(i).file_place(addr, size);
+            if place.is_some() {
+                return place;
+            }
+        }
+        None
+    }
+
+    /// The address of a place in the file, by the first segment that gives one.
+    pub fn address_of(&self, offset: u64) -> Option<u64>
+        ensures { result ≡ first_given (address_of offset) self.now }
+    {
+        for i in 0..self.len() {
+            let addr = self.at(i).address_of(offset);
+            if addr.is_some() {
+                return addr;
+            }
+        }
+        None
+    }
+}
