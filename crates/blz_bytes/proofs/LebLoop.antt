@@ -34,13 +34,14 @@ pub leb_past : (m n v f at : ℕ) (bytes : List ℕ) → m ≡ suc n → length 
 unfolding leb_in
 leb_past m n v f at bytes em le = rw (em, slice_get_past bytes at le) refl
 
-pub leb_end : (m v f at : ℕ) (bytes : List ℕ) → m ≡ 0 → with_low v f (leb_in m bytes at) ≡ None
+-- a last byte that does not end the number
+pub leb_endless : (m n v f at byte : ℕ) (bytes : List ℕ) → m ≡ suc n → n ≡ 0 → slice_get bytes at ≡ Some byte → 128 ≤ byte → with_low v f (leb_in m bytes at) ≡ None
 unfolding leb_in
-leb_end m v f at bytes e = rw e refl
+leb_endless m n v f at byte bytes em en h le = rw (em, en, h, le-ltb byte 128 le) refl
 
-pub fits_step : (v f low i : ℕ) → v < f → f ≡ 128 ^ i → i < 10 → low < 128 → (v + low * f < f * 128) × (f * 128 ≤ 2 ^ 70) × (f * 128 ≡ 128 ^ (i + 1))
+pub fits_step : (v f low i : ℕ) → v < f → f ≡ 128 ^ i → i < 9 → low < 128 → (v + low * f < f * 128) × (f * 128 ≤ 2 ^ 63) × (f * 128 ≡ 128 ^ (i + 1))
 fits_step v f low i small power lt low_small =
-    let a : 128 ^ i ≤ 128 ^ 9 = pow-le-pow_right {n = 128} (omega arith) {i = i} {j = 9} (omega arith) in
+    let a : 128 ^ i ≤ 128 ^ 8 = pow-le-pow_right {n = 128} (omega arith) {i = i} {j = 8} (omega arith) in
     let b : low * f ≤ 127 * f = mul-le-mul_right f (omega arith) in
     let e : i + 1 ≡ suc i = omega arith in
     let next : f * 128 ≡ 128 ^ (i + 1) = rw (e, pow-suc 128 i, power) refl in

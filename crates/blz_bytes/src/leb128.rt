@@ -13,26 +13,39 @@ fn leb_at(bytes: &[u8], at: usize) -> Option<(Leb, usize)>
     if at > bytes.len() {
         return None;
     }
-    let mut value: u128 = 0;
-    let mut factor: u128 = 1;
-    for i in 0..10 {
+    // nine bytes fit a u64
+    let mut value: u64 = 0;
+    let mut factor: u64 = 1;
+    for i in 0..9 {
         if bytes.len() - at <= i {
             return None;
         }
         let byte = bytes[at + i];
-        let low = u128::from(byte % 128);
+        let low = u64::from(byte % 128);
         value += low * factor;
         factor *= 128;
         if byte < 128 {
             let leb = Leb {
-                value,
-                weight: factor,
+                value: u128::from(value),
+                weight: u128::from(factor),
                 negative: byte >= 64,
             };
             return Some((leb, at + i + 1));
         }
     }
-    None
+    if bytes.len() - at <= 9 {
+        return None;
+    }
+    let last = bytes[at + 9];
+    if last >= 128 {
+        return None;
+    }
+    let leb = Leb {
+        value: u128::from(value) + u128::from(last) * u128::from(factor),
+        weight: u128::from(factor) * 128,
+        negative: last >= 64,
+    };
+    Some((leb, at + 10))
 }
 
 /// An unsigned number; none where it does not end within ten bytes or the slice, or is 2 ^ 64 or more.
