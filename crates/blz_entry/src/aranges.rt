@@ -83,6 +83,7 @@ fn set_at(section: &Section<'_, '_>, at: usize) -> Option<ArangeSet>
 }
 
 /// The sets of `.debug_aranges`, one after the other.
+#[derive(Drop)]
 pub struct Aranges<'s, 'b> {
     section: Section<'s, 'b>,
     place: usize,

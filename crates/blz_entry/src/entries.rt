@@ -33,6 +33,7 @@ pub struct Entry {
 }
 
 /// The entries of a unit (DWARF 5 section 7.5.3), one after the other, each with its depth.
+#[derive(Drop)]
 pub struct Entries<'s, 'b> {
     section: Section<'s, 'b>,
     base: StrBase,

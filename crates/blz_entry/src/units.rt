@@ -196,6 +196,7 @@ fn header_at(info: &Section<'_, '_>, at: usize) -> Option<UnitHeader>
 }
 
 /// The headers of the units of a section, one after the other.
+#[derive(Drop)]
 pub struct UnitHeaders<'s, 'b> {
     info: Section<'s, 'b>,
     place: usize,
