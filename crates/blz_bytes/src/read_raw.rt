@@ -4,7 +4,7 @@ ghost use Rattle.std.specs.Option.{option_map};
 ghost use Rattle.blz_model.specs.LebNumbers.{sleb, uleb};
 ghost use Rattle.blz_model.specs.Reads.{number};
 ghost use Rattle.blz_bytes.specs.CursorValue.{Reading, Takes, TakesList};
-ghost use Rattle.blz_bytes.specs.Pieces.{aligned, byte, past, piece, pod, zero_ended};
+ghost use Rattle.blz_bytes.specs.Pieces.{aligned, past, piece, pod, zero_ended};
 ghost use Rattle.blz_bytes.specs.Records.{pods};
 
 use blz_records::Pod;
@@ -50,7 +50,7 @@ pub trait ReadRaw<'d> {
 
     /// A byte; none at the end.
     fn read_u8(&mut self) -> Option<u8>
-        ensures { Takes byte (reading self.old) result (reading self.new) };
+        ensures { Takes (number (reading self.old).order 1) (reading self.old) result (reading self.new) };
 
     /// A number of two bytes; none where fewer are left.
     fn read_u16(&mut self) -> Option<u16>
