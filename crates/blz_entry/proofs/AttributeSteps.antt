@@ -1,8 +1,10 @@
 -- One turn of a loop over attributes.
-use Rattle.std.proofs.Common.{◌≡◌, ℕ, suc, ◌+◌, ◌≤◌, ◌<◌, List, length, get_or, drop, Some, None, refl, arith, drop-cons}
+use Rattle.std.proofs.Common.{◌≡◌, ℕ, zero, suc, ◌+◌, ◌≤◌, ◌<◌, List, [], ◌∷◌, ◌++◌, length, get_or, drop, Some, None, refl, sym, ap, arith, append_assoc, drop-cons}
+use Rattle.std.proofs.lemmas.List.{append-nil}
+use Rattle.blz_model.specs.Reads.{Read, ◌>>=◌}
 use Rattle.std.proofs.Math.ListN.{drop_of_length-le}
 use Rattle.blz_entry.specs.Contents.{Contents}
-use Rattle.blz_entry.specs.Attributes.{attribute, passed}
+use Rattle.blz_entry.specs.Attributes.{attribute, attributes, passed}
 use Rattle.blz_entry.specs.declared.abbreviations.AttrSpec.{AttrSpec}
 use Rattle.blz_entry.specs.declared.encoding.Encoding.{Encoding}
 use Rattle.blz_entry.specs.declared.text.StrBase.{StrBase}
@@ -22,3 +24,32 @@ passed_none specs i d e base s at lt h = let first = drop-cons specs i d lt in r
 pub passed_end : (specs : List AttrSpec) (i : ℕ) (e : Encoding) (base : StrBase) (s : Contents) (at : ℕ) → length specs ≤ i → passed (drop i specs) e base s at ≡ Some at
 unfolding passed
 passed_end specs i e base s at le = let h = drop_of_length-le specs {i = i} le in rw h refl
+
+-- the values that were read, before those that are left
+abbrev pub behind_values : List (ℕ × AttrValue) → Read (List (ℕ × AttrValue)) → Read (List (ℕ × AttrValue))
+behind_values front read = read >>= λ r. Some (front ++ r.0, r.1)
+
+one_more : (front : List (ℕ × AttrValue)) (x : ℕ × AttrValue) (o : Read (List (ℕ × AttrValue))) → behind_values front (o >>= λ others. Some (x ∷ others.0, others.1)) ≡ behind_values (front ++ x ∷ []) o
+one_more front x None = refl
+one_more front x (Some r) = ap (λ (xs : List (ℕ × AttrValue)). Some (xs, r.1)) (sym (append_assoc front (x ∷ []) r.0))
+
+pub values_more : (front : List (ℕ × AttrValue)) (specs : List AttrSpec) (i : ℕ) (d : AttrSpec) (e : Encoding) (base : StrBase) (s : Contents) (at next : ℕ) (v : AttrValue) → i < length specs → attribute (get_or specs i d) e base s at ≡ Some (v, next) → behind_values front (attributes (drop i specs) e base s at) ≡ behind_values (front ++ ((get_or specs i d).name, v) ∷ []) (attributes (drop (i + 1) specs) e base s next)
+unfolding attributes
+values_more front specs i d e base s at next v lt h =
+    let first = drop-cons specs i d lt in
+    let k : i + 1 ≡ suc i = omega arith in
+    rw (k, first, h) (one_more front ((get_or specs i d).name, v) (attributes (drop (suc i) specs) e base s next))
+
+pub values_none : (front : List (ℕ × AttrValue)) (specs : List AttrSpec) (i : ℕ) (d : AttrSpec) (e : Encoding) (base : StrBase) (s : Contents) (at : ℕ) → i < length specs → attribute (get_or specs i d) e base s at ≡ None → behind_values front (attributes (drop i specs) e base s at) ≡ None
+unfolding attributes
+values_none front specs i d e base s at lt h = let first = drop-cons specs i d lt in rw (first, h) refl
+
+pub values_end : (front : List (ℕ × AttrValue)) (specs : List AttrSpec) (i : ℕ) (e : Encoding) (base : StrBase) (s : Contents) (at : ℕ) → length specs ≤ i → behind_values front (attributes (drop i specs) e base s at) ≡ Some (front, at)
+unfolding attributes
+values_end front specs i e base s at le = let h = drop_of_length-le specs {i = i} le in rw h (ap (λ (xs : List (ℕ × AttrValue)). Some (xs, at)) (append-nil front))
+
+pub drop_one_more : (specs : List AttrSpec) (i : ℕ) → drop 1 (drop i specs) ≡ drop (i + 1) specs
+drop_one_more [] zero = refl
+drop_one_more [] (suc i) = let k : suc i + 1 ≡ suc (i + 1) = omega arith in rw k refl
+drop_one_more (x ∷ xs) zero = refl
+drop_one_more (x ∷ xs) (suc i) = let k : suc i + 1 ≡ suc (i + 1) = omega arith in rw k (drop_one_more xs i)

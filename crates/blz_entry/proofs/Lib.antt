@@ -8,3 +8,7 @@ pub mod FoldSteps
 pub mod RootSteps
 pub mod Ahead
 pub mod SetSteps
+pub mod Preorder
+pub mod HeadsLead
+pub mod WalkSteps
+pub mod ValueSteps

@@ -15,3 +15,4 @@ pub mod AddressIndexes
 pub mod RangeLists
 pub mod Roots
 pub mod AddressSets
+pub mod Listing

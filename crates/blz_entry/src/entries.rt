@@ -1,5 +1,5 @@
 //! The entries of a unit, one after the other.
-ghost use Rattle.std.specs.Prelude.{◌≡◌, ◌≤◌, ◌<◌, ◌+◌, ◌^◌, ◌&&◌, nat_le, if◌then◌else◌, length, IfSome, IfOk};
+ghost use Rattle.std.specs.Prelude.{◌≡◌, ◌≤◌, ◌<◌, ◌+◌, ◌^◌, ◌&&◌, nat_le, if◌then◌else◌, length, drop, IfSome, IfOk, OnOk};
 ghost use Rattle.std.specs.Option.{option_copied};
 ghost use Rattle.blz_error.specs.declared.kind.ErrorKind.TheVariants.{InvalidDwarf};
 ghost use Rattle.blz_model.specs.Part.{Exactly, Good, Broken};
@@ -119,6 +119,7 @@ impl<'s, 'b> Entries<'s, 'b> {
     pub fn next_entry(&mut self) -> Result<Option<Entry>>
         ensures value { Steps (λ e. e) (next_of self.old) self.old result self.new }
         ensures source { self.new.source ≡ self.old.source }
+        ensures cut { length self.old.source.section.bytes ≤ self.old.source.end }
         ensures ahead { IfOk result (λ r. IfSome r (λ e. (self.old.place ≤ e.place) × (e.place < self.new.place) × (self.new.place ≤ self.new.source.end))) }
     {
         let Some(at) = passed(
@@ -166,11 +167,20 @@ impl<'s, 'b> Entries<'s, 'b> {
         }))
     }
 
+    /// The attributes of the last entry that were not read.
+    pub fn pending(&self) -> &'s [AttrSpec]
+        ensures { result.now ≡ self.now.pending }
+    {
+        self.pending
+    }
+
     /// The value of the entry's next attribute. InvalidDwarf exactly where it has none, and then nothing has changed.
     #[tactic(auto, unfolding(crate::specs::Walks::value_of))]
     pub fn read_attribute(&mut self, spec: AttrSpec) -> Result<AttrValue>
         requires { IsNext spec self.old.pending }
         ensures value { Steps (λ v. v) (value_of spec self.old) self.old result self.new }
+        ensures left { OnOk result (self.new.pending ≡ drop 1 self.old.pending) }
+        ensures depth { self.new.depth ≡ self.old.depth }
         ensures source { self.new.source ≡ self.old.source }
         ensures ahead { self.old.place ≤ self.new.place }
     {
