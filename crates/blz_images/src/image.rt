@@ -193,18 +193,21 @@ impl<'a> Image<'a> {
         let mut layout = Layout::new(self.alloc, self.class, self.order, count)?;
         let names = self.section_names()?;
         layout.add(&Section::new(".shstrtab", STRINGS, names.bytes()))?;
+        let entry_size = self.class.symbol_size() as u64;
         let mut strings = 3;
         if !self.symbols.is_empty() {
             let table = self.table(&self.symbols)?;
             let records = table.records.bytes();
-            layout.add(&Section::new(".symtab", SYMBOLS, records).linked(strings, 1))?;
+            let section = Section::new(".symtab", SYMBOLS, records).linked(strings, 1);
+            layout.add(&section.of_entries(entry_size))?;
             layout.add(&Section::new(".strtab", STRINGS, table.names.bytes()))?;
             strings = 5;
         }
         if !self.dynamic_symbols.is_empty() {
             let table = self.table(&self.dynamic_symbols)?;
             let records = table.records.bytes();
-            layout.add(&Section::new(".dynsym", DYNAMIC_SYMBOLS, records).linked(strings, 1))?;
+            let section = Section::new(".dynsym", DYNAMIC_SYMBOLS, records).linked(strings, 1);
+            layout.add(&section.of_entries(entry_size))?;
             layout.add(&Section::new(".dynstr", STRINGS, table.names.bytes()))?;
         }
         for section in &self.sections {

@@ -46,7 +46,7 @@ impl Layout {
         self.headers.u32(section.link)?;
         self.headers.u32(section.info)?;
         self.headers.word(1)?;
-        self.headers.word(0)?;
+        self.headers.word(section.entry_size)?;
         self.data.raw(section.bytes)
     }
 

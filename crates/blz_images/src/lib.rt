@@ -5,24 +5,38 @@
 //! `.dynsym` and `.dynstr` where there are dynamic ones, and then the others in the order in which they were added.
 #![tactic(auto)]
 
+mod attribute;
 mod class;
+pub mod codes;
+mod debug_info;
+mod debug_line;
 mod image;
 mod layout;
 mod section;
 mod segment;
 mod strings;
 mod symbol;
+mod tables;
 #[cfg(test)]
 mod tests;
+mod walk;
 mod worked;
 mod writer;
 
+pub use attribute::{Attribute, Value};
 pub use blz_model::ByteOrder;
 pub use class::Class;
+pub use debug_info::DebugInfo;
+pub use debug_line::DebugLine;
 pub use image::Image;
 pub use section::Section;
 pub use segment::Segment;
+pub use strings::Strings;
 pub use symbol::Symbol;
+pub use tables::{
+    INDEX_BASE, RANGE_LISTS_BASE, address_ranges, address_table, range_lists, string_offsets,
+};
+pub use walk::realistic_walk;
 pub use worked::{
     last_addresses, nested_functions, no_sections, same_start, sizeless_dynamic_symbol,
     sizeless_symbol, undefined_symbol_inside, with_nested_functions,

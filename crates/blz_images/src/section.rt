@@ -9,6 +9,7 @@ pub struct Section<'a> {
     pub address: u64,
     pub link: u32,
     pub info: u32,
+    pub entry_size: u64,
     pub bytes: &'a [u8],
 }
 
@@ -22,6 +23,7 @@ impl<'a> Section<'a> {
             address: 0,
             link: 0,
             info: 0,
+            entry_size: 0,
             bytes,
         }
     }
@@ -42,6 +44,12 @@ impl<'a> Section<'a> {
     pub fn linked(mut self, link: u32, info: u32) -> Section<'a> {
         self.link = link;
         self.info = info;
+        self
+    }
+
+    /// Sets the size of its entries, where it has some of one size.
+    pub fn of_entries(mut self, entry_size: u64) -> Section<'a> {
+        self.entry_size = entry_size;
         self
     }
 }

@@ -53,6 +53,11 @@ impl<'a> Symbol<'a> {
         }
     }
 
+    // the type, of a symbol that other files see (STB_GLOBAL)
+    fn info(&self) -> u8 {
+        16 | self.kind
+    }
+
     // the record, with the offset of its name
     pub(crate) fn write(&self, out: &mut Writer, name: u32) -> Result<(), AllocError> {
         out.u32(name)?;
@@ -60,12 +65,12 @@ impl<'a> Symbol<'a> {
             Class::Elf32 => {
                 out.word(self.value)?;
                 out.word(self.size)?;
-                out.u8(self.kind)?;
+                out.u8(self.info())?;
                 out.u8(0)?;
                 out.u16(self.section)
             }
             Class::Elf64 => {
-                out.u8(self.kind)?;
+                out.u8(self.info())?;
                 out.u8(0)?;
                 out.u16(self.section)?;
                 out.word(self.value)?;

@@ -1,7 +1,8 @@
 //! Places in images, as the formats give them.
+use crate::codes::{DW_AT_NAME, DW_TAG_COMPILE_UNIT};
 use crate::{
-    ByteOrder, Class, Image, Section, Symbol, Writer, nested_functions, no_sections, patched,
-    prefix, with_nested_functions,
+    Attribute, ByteOrder, Class, DebugInfo, Image, Section, Symbol, Writer, nested_functions,
+    no_sections, patched, prefix, realistic_walk, with_nested_functions,
 };
 use std::test::Fail;
 
@@ -23,7 +24,7 @@ fn lays_two_functions_out(rt: HostRuntime) -> Result<(), Fail> {
     );
     // the third symbol: B, a function of the first section at 10 with size 10
     let b = [
-        3, 0, 0, 0, 2, 0, 1, 0, 10, 0, 0, 0, 0, 0, 0, 0, 10, 0, 0, 0, 0, 0, 0, 0,
+        3, 0, 0, 0, 0x12, 0, 1, 0, 10, 0, 0, 0, 0, 0, 0, 0, 10, 0, 0, 0, 0, 0, 0, 0,
     ];
     assert_eq!(rt; bytes.get(395..419).unwrap_or(&[]), b.as_slice());
     assert_eq!(rt; bytes.get(419..).unwrap_or(&[]), b"\0A\0B\0".as_slice());
@@ -38,7 +39,7 @@ fn writes_the_other_class_and_order(rt: HostRuntime) -> Result<(), Fail> {
     assert_eq!(rt; bytes.len(), 292);
     assert_eq!(rt; bytes.get(4..6).unwrap_or(&[]), [1, 2].as_slice());
     assert_eq!(rt; bytes.get(32..36).unwrap_or(&[]), [0, 0, 0, 52].as_slice());
-    let b = [0, 0, 0, 3, 0, 0, 0, 10, 0, 0, 0, 10, 2, 0, 0, 1];
+    let b = [0, 0, 0, 3, 0, 0, 0, 10, 0, 0, 0, 10, 0x12, 0, 0, 1];
     assert_eq!(rt; bytes.get(271..287).unwrap_or(&[]), b.as_slice());
     Ok(())
 }
@@ -95,5 +96,30 @@ fn writes_numbers(rt: HostRuntime) -> Result<(), Fail> {
         out.bytes(),
         [0xe5, 0x8e, 0x26, 0, 1, 2, 0, 0, 2, 3, 97, 0].as_slice()
     );
+    Ok(())
+}
+
+#[test]
+fn writes_a_unit_of_one_entry(rt: HostRuntime) -> Result<(), Fail> {
+    let alloc = rt.alloc();
+    let mut entries = DebugInfo::new(alloc, ByteOrder::Little, 4);
+    entries.entry(DW_TAG_COMPILE_UNIT, &[Attribute::text(DW_AT_NAME, "a")])?;
+    entries.end_unit()?;
+    // length, version, offset of the table, size of an address; code, name
+    let unit = [10, 0, 0, 0, 4, 0, 0, 0, 0, 0, 8, 1, 97, 0];
+    assert_eq!(rt; entries.info(), unit.as_slice());
+    // code, tag, no children; attribute and form, their end; the end of the table
+    assert_eq!(rt;
+        entries.abbreviations()?.as_slice(),
+        [1, 0x11, 0, 3, 8, 0, 0, 0].as_slice()
+    );
+    Ok(())
+}
+
+#[test]
+fn writes_a_realistic_walk(rt: HostRuntime) -> Result<(), Fail> {
+    let little = realistic_walk(rt.alloc(), ByteOrder::Little)?;
+    let big = realistic_walk(rt.alloc(), ByteOrder::Big)?;
+    assert_eq!(rt; little.len(), big.len());
     Ok(())
 }

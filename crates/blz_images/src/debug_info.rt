@@ -1,0 +1,116 @@
+//! Units of debugging information entries.
+use crate::{Attribute, ByteOrder, Class, Writer};
+use std::alloc::{AllocError, Global};
+
+/// The bytes of `.debug_abbrev` and `.debug_info`, written entry by entry, in 32-bit DWARF with addresses of 64 bits
+/// (DWARF 5 section 7.5). All units share one table, in which each entry has an abbreviation of its own.
+#[derive(Drop)]
+pub struct DebugInfo {
+    alloc: Global,
+    order: ByteOrder,
+    version: u16,
+    abbreviations: Writer,
+    code: u64,
+    // the units that have ended, and the entries of the one that has not
+    units: Writer,
+    entries: Writer,
+}
+
+impl DebugInfo {
+    /// No unit yet.
+    pub fn new(alloc: Global, order: ByteOrder, version: u16) -> DebugInfo {
+        DebugInfo {
+            alloc,
+            order,
+            version,
+            abbreviations: Writer::new(alloc, Class::Elf64, order),
+            code: 0,
+            units: Writer::new(alloc, Class::Elf64, order),
+            entries: Writer::new(alloc, Class::Elf64, order),
+        }
+    }
+
+    /// An entry whose children follow, up to `close`.
+    pub fn open(&mut self, tag: u64, attributes: &[Attribute<'_>]) -> Result<(), AllocError> {
+        self.put(tag, 1, attributes)
+    }
+
+    /// An entry without children.
+    pub fn entry(&mut self, tag: u64, attributes: &[Attribute<'_>]) -> Result<(), AllocError> {
+        self.put(tag, 0, attributes)
+    }
+
+    /// Ends the children of the last entry that is open.
+    pub fn close(&mut self) -> Result<(), AllocError> {
+        self.entries.u8(0)
+    }
+
+    /// The place that the next entry has in its unit, as a reference gives it.
+    pub fn place(&self) -> u32 {
+        u32::try_from(self.entries.len())
+            .unwrap_or(0)
+            .saturating_add(self.header_size())
+    }
+
+    /// The offset in `.debug_info` of the unit that is being written.
+    pub fn unit_offset(&self) -> u32 {
+        u32::try_from(self.units.len()).unwrap_or(0)
+    }
+
+    /// Ends the unit: puts its header, and its entries behind it.
+    pub fn end_unit(&mut self) -> Result<(), AllocError> {
+        let next = Writer::new(self.alloc, Class::Elf64, self.order);
+        // all but the length itself
+        let length = self.place().saturating_sub(4);
+        self.units.u32(length)?;
+        self.units.u16(self.version)?;
+        if self.version >= 5 {
+            self.units.u8(1)?;
+            self.units.u8(8)?;
+            self.units.u32(0)?;
+        } else {
+            self.units.u32(0)?;
+            self.units.u8(8)?;
+        }
+        self.units.raw(self.entries.bytes())?;
+        self.entries = next;
+        Ok(())
+    }
+
+    /// The bytes of `.debug_info`, of the units that have ended.
+    pub fn info(&self) -> &[u8] {
+        self.units.bytes()
+    }
+
+    /// The bytes of `.debug_abbrev`, with the zero byte that ends the table.
+    pub fn abbreviations(&self) -> Result<Vec<u8>, AllocError> {
+        let mut table = Writer::new(self.alloc, Class::Elf64, self.order);
+        table.raw(self.abbreviations.bytes())?;
+        table.u8(0)?;
+        Ok(table.into_bytes())
+    }
+
+    fn put(
+        &mut self,
+        tag: u64,
+        children: u8,
+        attributes: &[Attribute<'_>],
+    ) -> Result<(), AllocError> {
+        self.code = self.code.saturating_add(1);
+        self.entries.uleb(self.code)?;
+        self.abbreviations.uleb(self.code)?;
+        self.abbreviations.uleb(tag)?;
+        self.abbreviations.u8(children)?;
+        for attribute in attributes {
+            self.abbreviations.uleb(attribute.name)?;
+            self.abbreviations.uleb(attribute.form)?;
+            attribute.write(&mut self.entries)?;
+        }
+        self.abbreviations.u16(0)
+    }
+
+    // length, version, offset of the table and size of an address; the type of the unit from version 5 on
+    fn header_size(&self) -> u32 {
+        if self.version >= 5 { 12 } else { 11 }
+    }
+}
