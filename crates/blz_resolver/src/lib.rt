@@ -8,6 +8,8 @@ pub mod outside;
 mod owned_bundle;
 mod resolver;
 mod scan;
+#[cfg(test)]
+mod tests;
 
 pub use bundle::{Bundle, Companion};
 pub use owned_bundle::OwnedBundle;

@@ -3,11 +3,13 @@
 
 mod outcome;
 mod program;
+#[cfg(test)]
+mod tests;
 mod text;
 mod words;
 mod writing;
 
-use blz_bytes::AsTheyStand;
+use blz_bytes::ByStdSort;
 use blz_resolver::outside::{RealFiles, RealSink};
 use outcome::Outcome;
 use program::run;
@@ -34,7 +36,7 @@ fn main(rt: HostRuntime) -> ExitCode {
         alloc,
         &words,
         &mut files,
-        &mut AsTheyStand,
+        &mut ByStdSort,
         &mut out,
         &mut err,
     ))

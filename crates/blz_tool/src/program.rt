@@ -44,6 +44,9 @@ pub fn run<F: Files, O: Orders, S: Sink, E: Sink>(
 
     // Words that are not of their form give 2, or there was no memory.
     ensures malformed { asked (map string_bytes words.now) ≡ Malformed → (result ≡ 4) ⊎ (result ≡ 2) }
+
+    ensures contents_stay { F.contents files.new ≡ F.contents files.old }
+    ensures stamps_stay { F.stamps files.new ≡ F.stamps files.old }
 {
     let outcome = resolve(alloc, words, files, orders, out);
     let _ = outcome.tell(err);
@@ -60,6 +63,8 @@ fn resolve<F: Files, O: Orders, S: Sink>(
 ) -> Outcome
     ensures caused { IsCaused result (map string_bytes words.now) (F.contents files.old) (S.taken out.old)
         (S.taken out.new) (Rose (F.faults files.old) (F.faults files.new)) (Rose (S.faults out.old) (S.faults out.new)) }
+    ensures contents_stay { F.contents files.new ≡ F.contents files.old }
+    ensures stamps_stay { F.stamps files.new ≡ F.stamps files.old }
 {
     let question = match Question::from_words(alloc, words) {
         Ok(Some(question)) => question,
@@ -86,6 +91,8 @@ fn printed<F: Files, O: Orders>(
     ensures mark { IfErr result (λ e. (e.kind ≡ ErrorKind.OutOfMemory) ⊎ HasKindCause e.kind
         (Rose (F.faults files.old) (F.faults files.new))
         (Prints (F.contents files.old) question.now.path.now question.now.addrs.items (Broken e.kind))) }
+    ensures contents_stay { F.contents files.new ≡ F.contents files.old }
+    ensures stamps_stay { F.stamps files.new ≡ F.stamps files.old }
 {
     let bundle = ElfResolver::open(alloc, files, question.path)?;
     answers_text(alloc, orders, &bundle, &question.addrs)

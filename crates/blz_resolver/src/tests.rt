@@ -1,0 +1,181 @@
+//! Files, sinks and small images, with the answers that are known by hand.
+use crate::files::{Files, FilesFault, MemoryFiles, Stamp};
+use crate::outside::{MemorySink, RealFiles, RealSink, Sink, SinkFault};
+use crate::{Bundle, Companion, ElfResolver, symbolize};
+use blz_bytes::AsTheyStand;
+use blz_elf::{Answer, FindSymOpts};
+use blz_error::{ErrorKind, Result};
+use blz_images::{Image, nested_functions, prefix};
+use std::alloc::Global;
+use std::test::Fail;
+
+fn bundle(image: &[u8]) -> Bundle<'_> {
+    Bundle {
+        image,
+        module: None,
+        linkee: None,
+        supplementary: None,
+        package: None,
+    }
+}
+
+fn answers<'b>(alloc: Global, bundle: &Bundle<'b>, addrs: &[u64]) -> Result<Vec<Answer<'b>>> {
+    symbolize(
+        alloc,
+        &mut AsTheyStand,
+        bundle,
+        addrs,
+        &FindSymOpts::CodeInfo,
+    )
+}
+
+fn refusal<T: Drop>(outcome: Result<T>) -> Option<ErrorKind> {
+    match outcome {
+        Ok(_) => None,
+        Err(error) => Some(error.kind()),
+    }
+}
+
+#[test]
+fn memory_files_hold_the_last_put(rt: HostRuntime) -> std::result::Result<(), Fail> {
+    let alloc = rt.alloc();
+    let mut files = MemoryFiles::new(alloc);
+    files.put("a", b"old".to_vec(alloc)?)?;
+    files.put("b", b"other".to_vec(alloc)?)?;
+    files.put("a", b"new".to_vec(alloc)?)?;
+    files.fail_at(5, true)?;
+    assert_eq!(rt; files.read(alloc, "a")?.as_slice(), b"new".as_slice());
+    assert_eq!(rt;
+        files.stamp("a")?,
+        Stamp {
+            size: 3,
+            changed: 2
+        }
+    );
+    assert!(rt; files.exists("b")?);
+    assert!(rt; files.canonical(alloc, "c")?.is_none());
+    assert_eq!(rt; files.exists("b"), Err(FilesFault::Denied));
+    assert!(rt; files.canonical(alloc, "b")?.is_some());
+    Ok(())
+}
+
+#[test]
+fn memory_sink_takes_what_there_is_room_for(rt: HostRuntime) -> std::result::Result<(), Fail> {
+    let mut sink = MemorySink::with_room(rt.alloc(), 5, 3)?;
+    assert_eq!(rt; sink.put(b"abcd"), Ok(3));
+    assert_eq!(rt; sink.put(b"defg"), Ok(2));
+    assert_eq!(rt; sink.put(b"f"), Err(SinkFault::Failed));
+    assert_eq!(rt; sink.put(b""), Ok(0));
+    sink.fail_at(5);
+    assert_eq!(rt; sink.put(b""), Err(SinkFault::Failed));
+    assert_eq!(rt; sink.bytes(), b"abcde".as_slice());
+    Ok(())
+}
+
+#[test]
+fn real_files_pass_the_system_on(rt: HostRuntime) -> std::result::Result<(), Fail> {
+    let alloc = rt.alloc();
+    let mut files = RealFiles::new(&rt);
+    assert!(rt; files.read(alloc, "/dev/null")?.is_empty());
+    assert!(rt; files.exists("/dev/null")?);
+    assert!(rt; files.canonical(alloc, "/dev/null")?.is_some());
+    assert_eq!(rt; files.stamp("/dev/null")?.size, 0);
+    assert!(rt; matches!(files.read(alloc, "no such file"), Err(FilesFault::NotFound)));
+    Ok(())
+}
+
+#[test]
+fn real_sink_writes_on(rt: HostRuntime) -> std::result::Result<(), Fail> {
+    let mut bytes = Vec::new(rt.alloc());
+    let mut sink = RealSink::new(&mut bytes);
+    assert_eq!(rt; sink.put(b"abc"), Ok(3));
+    assert_eq!(rt; bytes.as_slice(), b"abc".as_slice());
+    Ok(())
+}
+
+#[test]
+fn the_frame_is_read_without_addresses(rt: HostRuntime) -> std::result::Result<(), Fail> {
+    let alloc = rt.alloc();
+    let image = nested_functions(alloc)?;
+    let short = prefix(&image, 10);
+    assert!(rt; answers(alloc, &bundle(&image), &[])?.is_empty());
+    assert_eq!(rt;
+        refusal(answers(alloc, &bundle(short), &[])),
+        Some(ErrorKind::InvalidData)
+    );
+    Ok(())
+}
+
+#[test]
+fn a_linkee_stands_in_place_of_the_image(rt: HostRuntime) -> std::result::Result<(), Fail> {
+    let alloc = rt.alloc();
+    let stripped = Image::elf64(alloc).bytes()?;
+    let linkee = nested_functions(alloc)?;
+    let linked = Bundle {
+        linkee: Some(Companion {
+            image: &linkee,
+            module: Some("linkee"),
+        }),
+        ..bundle(&stripped)
+    };
+    let mut resolver = ElfResolver::from_bundle(alloc, &mut AsTheyStand, &linked)?;
+    match resolver.find_sym(alloc, &mut AsTheyStand, 15, &FindSymOpts::Basic)? {
+        Answer::Sym(symbol) => {
+            assert_eq!(rt; symbol.name, "B");
+            assert_eq!(rt; symbol.module, Some("linkee"));
+        }
+        Answer::NoSym(_) => assert!(rt; false),
+    }
+    Ok(())
+}
+
+#[test]
+fn what_is_not_read_is_unsupported(rt: HostRuntime) -> std::result::Result<(), Fail> {
+    let alloc = rt.alloc();
+    let unit = Image::elf64(alloc)
+        .section(".debug_info", 1, b"unit")?
+        .bytes()?;
+    assert_eq!(rt;
+        refusal(answers(alloc, &bundle(&unit), &[])),
+        Some(ErrorKind::Unsupported)
+    );
+    let empty = Image::elf64(alloc).section(".debug_info", 1, b"")?.bytes()?;
+    assert_eq!(rt; refusal(answers(alloc, &bundle(&empty), &[])), None);
+    let relocatable = Image::elf64(alloc).file_type(1).bytes()?;
+    assert_eq!(rt;
+        refusal(answers(alloc, &bundle(&relocatable), &[])),
+        Some(ErrorKind::Unsupported)
+    );
+    let with_package = Bundle {
+        package: Some(Companion {
+            image: b"",
+            module: None,
+        }),
+        ..bundle(&empty)
+    };
+    assert_eq!(rt;
+        refusal(answers(alloc, &with_package, &[])),
+        Some(ErrorKind::Unsupported)
+    );
+    Ok(())
+}
+
+#[test]
+fn opening_follows_no_link(rt: HostRuntime) -> std::result::Result<(), Fail> {
+    let alloc = rt.alloc();
+    let mut files = MemoryFiles::new(alloc);
+    files.put("plain", nested_functions(alloc)?)?;
+    files.put(
+        "linked",
+        Image::elf64(alloc)
+            .section(".gnu_debuglink", 1, b"a\0\0\0")?
+            .bytes()?,
+    )?;
+    let opened = ElfResolver::open(alloc, &mut files, "plain")?;
+    assert_eq!(rt; opened.bundle().module, Some("plain"));
+    assert_eq!(rt;
+        refusal(ElfResolver::open(alloc, &mut files, "linked")),
+        Some(ErrorKind::Unsupported)
+    );
+    Ok(())
+}
