@@ -1,5 +1,6 @@
 -- What is broken in an image has a kind of its format, and no other.
 use Rattle.std.proofs.Common.{◌≡◌, ◌≢◌, ◌⊎◌, ℕ, Bool, true, false, List, [], ◌∷◌, map, Option, Some, None, Result, Ok, Err, refl, inl, inr, subst}
+use Rattle.std.specs.FinMap as maps
 use Rattle.std.specs.Result.{IfErr}
 use Rattle.std.specs.Prelude.{⊤, if◌then◌else◌, nat_lt, length}
 use Rattle.blz_error.specs.Fault.{Fault}
@@ -15,11 +16,14 @@ use Rattle.blz_elf.specs.Formats.{compression_size}
 use Rattle.blz_elf.specs.Headers.{Header, header_of}
 use Rattle.blz_elf.specs.Sections.{Section, first_section, section_count, sections_of, raw_data, data_of, run_in, records_of, if_there}
 use Rattle.blz_elf.specs.Images as image
+use Rattle.blz_elf.specs.declared.entries.EntryKind.{EntryKind}
+use Rattle.blz_elf.specs.Relocations.{SectionMap}
+use Rattle.blz_elf.specs.RelocationTables.{entry_kind, with_entries, with_section, with_sections, relocations_of, image_relocations}
 use Rattle.blz_elf.specs.SymbolTables.{Symbol, SymbolTable, table_named, symtab_of, dynsym_of, table_of}
 use Rattle.blz_elf.specs.SymbolRule as rule
 use Rattle.blz_resolver.specs.FormatKinds.{IsFormatKind, IsMemoryOrFormat}
 use Rattle.blz_resolver.specs.Images.{ImageSet}
-use Rattle.blz_resolver.specs.Scan.{each, unread, frame_of, answer_of, scan_of}
+use Rattle.blz_resolver.specs.Scan.{each, unread, head_of, frame_of, answer_of, scan_of}
 
 abbrev pub OnMark : {A : Type 0} → Part A → Type 0
 OnMark (Good x) = ⊤
@@ -180,13 +184,31 @@ marks_unread : (bytes name : List ℕ) → Marks (unread bytes name)
 unfolding unread image.image_holds_bytes
 marks_unread bytes name = search (parts, marks_elf) depth 20
 
-marks_relocatable : (bytes : List ℕ) → Marks (image.image_is_relocatable bytes)
-unfolding image.image_is_relocatable
-marks_relocatable bytes = search (parts, marks_elf) depth 20
+marks_entries : (f : Format) (bytes : List ℕ) (sections : List Section) (s : Section) (kind : EntryKind) (m : SectionMap) → Marks (with_entries f bytes sections s kind m)
+unfolding with_entries
+marks_entries f bytes sections s kind m = search (parts, marks_records) depth 20
+
+marks_section : (f : Format) (bytes : List ℕ) (sections : List Section) (m : SectionMap) (s : Section) (o : Option EntryKind) → entry_kind s ≡ o → Marks (with_section f bytes sections m s)
+unfolding with_section
+marks_section f bytes sections m s None e = rw e (marks_good m)
+marks_section f bytes sections m s (Some kind) e = rw e (marks_entries f bytes sections s kind m)
+
+marks_some_sections : (f : Format) (bytes : List ℕ) (sections rest : List Section) (m : SectionMap) → Marks (with_sections f bytes sections rest m)
+unfolding with_sections
+marks_some_sections f bytes sections [] m = marks_good m
+marks_some_sections f bytes sections (s ∷ rest) m = marks_bind _ _ (marks_section f bytes sections m s (entry_kind s) refl) (marks_some_sections f bytes sections rest)
+
+marks_relocations : (bytes : List ℕ) → Marks (image_relocations bytes)
+unfolding image_relocations relocations_of
+marks_relocations bytes = marks_bind _ _ (marks_header bytes) (λ h. marks_bind _ _ (marks_sections bytes h) (λ sections. marks_if _ _ _ (marks_some_sections _ bytes sections sections maps.empty) (marks_good maps.empty)))
+
+marks_head : (bytes : List ℕ) → Marks (head_of bytes)
+unfolding head_of
+marks_head bytes = search (parts, marks_elf, marks_relocations) depth 20
 
 pub marks_frame : (images : ImageSet) → Marks (frame_of images)
 unfolding frame_of
-marks_frame images = search (parts, marks_relocatable, marks_unread, marks_image_data) depth 20
+marks_frame images = search (parts, marks_head, marks_unread, marks_image_data) depth 20
 
 marks_answer : (images : ImageSet) (addr : ℕ) → Marks (answer_of images addr)
 marks_answer images addr = marks_image_symbol _ _ addr

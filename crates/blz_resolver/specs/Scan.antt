@@ -4,7 +4,8 @@ use Rattle.blz_error.specs.Texts.{Bytes}
 use Rattle.blz_error.specs.declared.kind.ErrorKind.TheVariants.{Unsupported}
 use Rattle.blz_model.specs.Part.{Part, Good, ◌>>=◌, check, all_good}
 use Rattle.blz_model.specs.Answers.{Answer}
-use Rattle.blz_elf.specs.Images.{image_is_relocatable, image_holds_bytes, image_data_named}
+use Rattle.blz_elf.specs.Images.{elf_of, image_holds_bytes, image_data_named}
+use Rattle.blz_elf.specs.RelocationTables.{image_relocations}
 use Rattle.blz_elf.specs.SymbolRule.{image_symbol}
 use Rattle.blz_resolver.specs.Images.{ImageSet, debug_file}
 
@@ -30,11 +31,17 @@ unread image name = do
 abbrev pub has_more : ImageSet → Bool
 has_more images = is_some images.supplementary || is_some images.package_file
 
--- What every answer stands on: the header, sections and names of the debug file, and its debug sections.
+-- the header, the section table and the names of the sections, then the relocations
+unfoldable pub head_of : Bytes → Part (Unit {0})
+head_of image = do
+  elf ← elf_of image
+  relocated ← image_relocations image
+  Good tt
+
+-- What every answer stands on: the head of the debug file, and its debug sections.
 unfoldable pub frame_of : ImageSet → Part (Unit {0})
 frame_of images = do
-  relocatable ← image_is_relocatable (debug_file images).image
-  fixed ← check (not relocatable) Unsupported
+  headed ← head_of (debug_file images).image
   none_held ← each (unread (debug_file images).image) debug_sections
   all_read ← each (image_data_named (debug_file images).image) debug_sections
   check (not (has_more images)) Unsupported

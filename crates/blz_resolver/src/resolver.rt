@@ -65,7 +65,7 @@ impl<'b> ElfResolver<'b> {
     {
         let file = bundle.debug_file();
         let mut parser = ElfParser::from_mem(alloc, file.image, file.module);
-        read_frame(&mut parser, bundle)?;
+        read_frame(alloc, &mut parser, bundle)?;
         Ok(ElfResolver {
             bundle: *bundle,
             parser,

@@ -5,7 +5,7 @@ use crate::{Bundle, Companion, ElfResolver, symbolize};
 use blz_bytes::AsTheyStand;
 use blz_elf::{Answer, FindSymOpts};
 use blz_error::{ErrorKind, Result};
-use blz_images::{Image, nested_functions, prefix};
+use blz_images::{Image, Section, nested_functions, prefix};
 use std::alloc::Global;
 use std::test::Fail;
 
@@ -130,6 +130,26 @@ fn a_linkee_stands_in_place_of_the_image(rt: HostRuntime) -> std::result::Result
 }
 
 #[test]
+fn the_relocations_of_a_relocatable_file_are_read(
+    rt: HostRuntime,
+) -> std::result::Result<(), Fail> {
+    let alloc = rt.alloc();
+    // SHT_RELA, with its symbols in a section that is not there
+    let entries = Section::new(".rela.text", 4, b"").linked(9, 1);
+    let executable = Image::elf64(alloc).add_section(entries)?.bytes()?;
+    assert_eq!(rt; refusal(answers(alloc, &bundle(&executable), &[])), None);
+    let relocatable = Image::elf64(alloc)
+        .file_type(1)
+        .add_section(entries)?
+        .bytes()?;
+    assert_eq!(rt;
+        refusal(answers(alloc, &bundle(&relocatable), &[])),
+        Some(ErrorKind::InvalidInput)
+    );
+    Ok(())
+}
+
+#[test]
 fn what_is_not_read_is_unsupported(rt: HostRuntime) -> std::result::Result<(), Fail> {
     let alloc = rt.alloc();
     let unit = Image::elf64(alloc)
@@ -141,11 +161,6 @@ fn what_is_not_read_is_unsupported(rt: HostRuntime) -> std::result::Result<(), F
     );
     let empty = Image::elf64(alloc).section(".debug_info", 1, b"")?.bytes()?;
     assert_eq!(rt; refusal(answers(alloc, &bundle(&empty), &[])), None);
-    let relocatable = Image::elf64(alloc).file_type(1).bytes()?;
-    assert_eq!(rt;
-        refusal(answers(alloc, &bundle(&relocatable), &[])),
-        Some(ErrorKind::Unsupported)
-    );
     let with_package = Bundle {
         package: Some(Companion {
             image: b"",

@@ -1,9 +1,8 @@
-use Rattle.std.proofs.Common.{inr}
-use Rattle.blz_resolver.proofs.FormatMarks.{format_kind, marks_frame}
+use Rattle.blz_resolver.proofs.FormatMarks.{memory_or_format, marks_frame}
 use Rattle.blz_resolver.proofs.Opens.{if_err_from}
 use Rattle.blz_resolver.proofs.resolver.ElfResolver.from_bundle.Goals as goal
 
 pub returns-in_err-read_frame-clause-kinds : goal.returns-in_err-read_frame-clause-kinds
 returns-in_err-read_frame-clause-kinds g c =
     if_err_from c.from_residual.result _ _ c.from_residual.ensures.1
-    (λ e is. rw is (inr (format_kind _ _ (marks_frame _) c.in_err-read_frame.ensures.value.0)))
+    (λ e is. rw is (memory_or_format _ _ (marks_frame _) c.in_err-read_frame.ensures.value))
