@@ -12,3 +12,4 @@ pub mod Preorder
 pub mod HeadsLead
 pub mod WalkSteps
 pub mod ValueSteps
+pub mod HeadersEnd

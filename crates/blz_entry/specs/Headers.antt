@@ -1,5 +1,5 @@
 -- Headers of units (DWARF 5 sections 7.4 and 7.5.1).
-use Rattle.std.specs.Prelude.{ℕ, zero, suc, ◌+◌, Bool, true, false, ◌&&◌, ◌||◌, List, [], ◌∷◌, length, Option, Some, None, nat_lt, nat_le, ◌==◌, if◌then◌else◌}
+use Rattle.std.specs.Prelude.{ℕ, zero, suc, ◌+◌, ◌-◌, Bool, true, false, ◌&&◌, ◌||◌, List, [], ◌∷◌, length, Option, Some, None, nat_lt, nat_le, ◌==◌, if◌then◌else◌}
 use Rattle.blz_model.specs.Reads.{Read, ◌>>=◌}
 use Rattle.blz_bytes.specs.Pieces.{byte}
 use Rattle.blz_entry.specs.Contents.{Contents, cut, number_at, offset_at, offset_len}
@@ -105,6 +105,13 @@ headers_in (suc n) s at = if nat_lt at (length s.bytes) then (do
   rest ← headers_in n s h.end
   Some (h ∷ rest)) else Some []
 
--- the headers of all units of a section
-unfoldable pub headers : Contents → Option (List UnitHeader)
-headers s = headers_in (length s.bytes + 1) s 0
+-- The headers from a place up to the section's end. Each unit takes bytes, so there are no more of them than bytes.
+abbrev pub headers_from : Contents → ℕ → Option (List UnitHeader)
+headers_from s at = headers_in (suc (length s.bytes - at)) s at
+
+-- a header, and those behind its unit
+abbrev pub headers_behind : Contents → Option UnitHeader → Option (List UnitHeader)
+headers_behind s header = do
+  h ← header
+  rest ← headers_from s h.end
+  Some (h ∷ rest)

@@ -19,6 +19,8 @@ mod root;
 mod section;
 mod span;
 mod strings;
+#[cfg(test)]
+mod tests;
 mod text;
 mod units;
 mod value;

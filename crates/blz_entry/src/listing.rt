@@ -44,8 +44,8 @@ fn read_attributes(
 }
 
 impl<'s, 'b> Entries<'s, 'b> {
-    /// The entries from here on, without the closing zeros. InvalidDwarf exactly where one of them cannot be read.
-    pub fn list(&mut self, alloc: Global) -> Result<Vec<Listed>>
+    // the entries from here on, without the closing zeros
+    fn list(&mut self, alloc: Global) -> Result<Vec<Listed>>
         ensures { Gives (λ v. map listed_view v.items) result (or_invalid (rest_of self.old)) }
     {
         let mut listed = Vec::new(alloc);

@@ -3,7 +3,7 @@ ghost use Rattle.std.specs.Prelude.{◌≡◌};
 ghost use Rattle.blz_entry.specs.TextParts.{part_of, text_of};
 
 /// A section that has texts.
-#[derive(Clone, Copy)]
+#[derive(Clone, Copy, Debug, PartialEq, Eq)]
 pub enum StrPart {
     /// `.debug_info`
     Info,
@@ -26,7 +26,7 @@ pub enum StrPart {
 }
 
 /// A text by its section, its first byte there and its length in bytes, without the zero.
-#[derive(Clone, Copy)]
+#[derive(Clone, Copy, Debug, PartialEq, Eq)]
 pub struct StrPlace {
     pub part: StrPart,
     pub start: usize,

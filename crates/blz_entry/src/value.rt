@@ -11,7 +11,7 @@ use crate::text::{StrBase, StrPart, StrPlace};
 use blz_bytes::{sleb_at, uleb_at, zero_ended_at};
 
 /// The value of an attribute, by what it means and not by how it is stored (DWARF 5 section 7.5.5).
-#[derive(Clone, Copy)]
+#[derive(Clone, Copy, Debug, PartialEq, Eq)]
 pub enum AttrValue {
     /// An address.
     Addr(u64),
