@@ -24,3 +24,4 @@ pub mod Asked
 pub mod Infos
 pub mod OwnedInfos
 pub mod Visits
+pub mod RecordLists
