@@ -15,9 +15,9 @@ drop_is f g n k xs e le after =
     let n-is = count_is f n xs e in
     let count : length (map g (range_with_len 0 (n - k))) ≡ n - k = length-map-range_with_len g 0 (n - k) in
     same_lists _ _ (count ∙ rw n-is (sym (length-drop k xs))) (λ i d lt.
-        get_or-map-range_with_len g 0 (n - k) i i d (omega arith) (omega arith)
-        ∙ after i
-        ∙ sym (get_or-drop k xs i d ∙ item_is f n (k + i) xs d e (omega arith)))
+    get_or-map-range_with_len g 0 (n - k) i i d (omega arith) (omega arith)
+    ∙ after i
+    ∙ sym (get_or-drop k xs i d ∙ item_is f n (k + i) xs d e (omega arith)))
 
 shifted : (at size k i : ℕ) → at + size * k + size * i ≡ at + size * (k + i)
 shifted at size k i = add_assoc at (size * k) (size * i) ∙ ap (λ n. at + n) (sym (mul-add size k i))

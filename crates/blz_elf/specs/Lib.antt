@@ -25,3 +25,4 @@ pub mod Infos
 pub mod OwnedInfos
 pub mod Visits
 pub mod RecordLists
+pub mod HeaderTables

@@ -16,6 +16,8 @@ ghost use Rattle.blz_model.specs.Part.{Exactly};
 ghost use Rattle.blz_elf.specs.Views.{header_view};
 ghost use Rattle.blz_elf.specs.Frames.{FrameFits, frame_view};
 
+mod headers;
+
 use crate::answer::Answer;
 use crate::fill::{fill, fill_relocations, fill_table, look, look_both, look_dynamic, sort_table};
 use crate::header::{Header, read_header};

@@ -146,6 +146,7 @@ fn section_count(image: &[u8], header: &Header) -> Result<u64>
 pub fn sections(image: &[u8], header: &Header) -> Result<Rows>
     ensures value { Exactly (sections_in image.now) result (sections_of image.now (header_view header.now)) }
     ensures fits { IfOk result (RowsFit section_size image.now) }
+    ensures place { IfOk result (λ rows. (rows.format ≡ header.now.format) × (rows.at ≡ header.now.shoff)) }
 {
     let count = section_count(image, header)?;
     let size = header.format.class.section_size();
