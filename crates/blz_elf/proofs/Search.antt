@@ -1,5 +1,5 @@
 -- A search over an accepted order answers by the symbol rule.
-use Rattle.std.proofs.Common.{◌≡◌, ◌≢◌, ◌⊎◌, inl, inr, ℕ, ◌-◌, ◌<◌, ◌≤◌, Bool, true, false, ◌&&◌, List, length, get_or, filter, Some, None, refl, sym, ap, subst, ◌∙◌, arith, eqb, leb}
+use Rattle.std.proofs.Common.{◌≡◌, ◌≢◌, ◌⊎◌, inl, inr, ℕ, ◌+◌, ◌-◌, ◌<◌, ◌≤◌, Bool, true, false, ◌&&◌, List, length, get_or, filter, Some, None, refl, sym, ap, subst, ◌∙◌, arith, eqb, leb}
 use Rattle.std.specs.Prelude.{nat_le}
 use Rattle.std.proofs.lemmas.Bool.{eqb-true, leb-true, eq-eqb}
 use Rattle.std.proofs.lemmas.Bool.Decides.{nat_tests, eqb_tells, leb_tells}
@@ -246,3 +246,11 @@ unfolding covering
 covering_typed xs symbols q e =
     rw (e, filter_within (is_candidate q.addr) is_typed (candidate_typed q.addr) symbols)
     (ap largest (filter_within (answers q (greatest (filter (is_candidate q.addr) symbols))) is_typed (answers_typed q (greatest (filter (is_candidate q.addr) symbols))) symbols))
+
+-- none up to k, and not k
+pub none_more : (f : ℕ → Bool) (from k : ℕ) → ((j : ℕ) → from ≤ j → j < k → f j ≡ false) → f k ≡ false → (j : ℕ) → from ≤ j → j < k + 1 → f j ≡ false
+none_more f from k none here j low high = by (eqb_tells j k)
+  where
+    by : ((eqb j k ≡ true) × (j ≡ k)) ⊎ ((eqb j k ≡ false) × (j ≢ k)) → f j ≡ false
+    by (inl e) = rw (e.1) here
+    by (inr n) = let d = n.1 in none j low (omega arith)

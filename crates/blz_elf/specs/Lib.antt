@@ -6,6 +6,8 @@ pub mod SymbolTables
 pub mod SymbolRule
 pub mod Segments
 pub mod SegmentViews
+pub mod NameRule
+pub mod NameSteps
 pub mod Relocations
 pub mod RelocationTables
 pub mod EntryPlaces

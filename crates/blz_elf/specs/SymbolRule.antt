@@ -10,6 +10,8 @@ use Rattle.blz_model.specs.Texts.{name_at}
 use Rattle.blz_elf.specs.declared.question.TableKind.{TableKind}
 use Rattle.blz_elf.specs.declared.question.TableKind.TheVariants.{Symtab, Dynsym}
 use Rattle.blz_elf.specs.declared.question.Question.{Question}
+use Rattle.blz_records.specs.declared.sym_type.SymType.TheVariants.{Undefined}
+use Rattle.blz_records.specs.SymbolTypes.{matches}
 use Rattle.blz_elf.specs.Images.{Elf, elf_of}
 use Rattle.blz_elf.specs.SymbolTables.{Symbol, SymbolTable, table_of}
 
@@ -33,9 +35,9 @@ sizeless_covers Dynsym addr value = value == addr
 abbrev pub covers : TableKind → ℕ → Symbol → Bool
 covers kind addr s = if s.size == 0 then sizeless_covers kind addr s.value else nat_lt addr (s.value + s.size)
 
--- it is defined (not SHN_UNDEF), and covers the address
+-- it is defined (not SHN_UNDEF), covers the address, and is of the type that is asked for
 abbrev pub may_answer : Question → Symbol → Bool
-may_answer q s = not (s.section == 0) && covers q.table q.addr s
+may_answer q s = not (s.section == 0) && covers q.table q.addr s && matches s.kind q.sym_type
 
 -- the larger, or the earlier where they are alike
 abbrev pub larger : Option Symbol → Symbol → Option Symbol
@@ -68,9 +70,9 @@ named module_name table s = do
     inlined = [];
   }))
 
--- the answer of a table, where it has one
-unfoldable pub answer_in : Option (List ℕ) → TableKind → SymbolTable → ℕ → Part (Option Answer)
-answer_in module_name kind table addr = of (covering (record { table = kind; addr = addr }) table.symbols)
+-- the answer of a table to a question, where it has one
+unfoldable pub answer_in : Option (List ℕ) → SymbolTable → Question → Part (Option Answer)
+answer_in module_name table q = of (covering q table.symbols)
   where
     of : Option Symbol → Part (Option Answer)
     of None = Good None
@@ -78,11 +80,15 @@ answer_in module_name kind table addr = of (covering (record { table = kind; add
       answer ← named module_name table s
       Good (Some answer)
 
+-- what is asked of a table for an address alone
+abbrev pub at_address : TableKind → ℕ → Question
+at_address kind addr = record { table = kind; addr = addr; sym_type = Undefined }
+
 -- the answer of one of the tables of an image
 unfoldable pub table_answer : Option (List ℕ) → Elf → TableKind → ℕ → Part (Option Answer)
 table_answer module_name elf kind addr = do
   table ← table_of kind elf
-  answer_in module_name kind table addr
+  answer_in module_name table (at_address kind addr)
 
 -- why there is no symbol: `.symtab` has none at all, or none that covers the address
 abbrev pub reason_of : SymbolTable → Reason

@@ -30,6 +30,7 @@ use crate::warm::ElfWarm;
 use blz_bytes::Orders;
 use blz_error::{Error, ErrorKind, Result, Str};
 use blz_model::{Cache, Reason};
+use blz_records::SymType;
 use std::alloc::{AllocError, Global};
 
 /// Sorts the symbols of a table that is kept, where they are not sorted yet.
@@ -59,15 +60,21 @@ pub fn look<'b>(
     alloc: Global,
     module_name: Option<&'b str>,
     image: &Image<'b>,
-    question: &Question,
+    kind: TableKind,
     table: &Cache<Table>,
+    addr: u64,
 ) -> Result<Option<Answer<'b>>>
-    requires kept { Kept (TableFits image.now.image) (table_view image.now.image) table.now (table_of question.now.table image.now) }
+    requires kept { Kept (TableFits image.now.image) (table_view image.now.image) table.now (table_of kind image.now) }
     requires full { is_kept table.now ≡ true }
-    ensures { Exactly (option_map answer_view) result (table_answer (option_map (λ m. m.now) module_name.entry) image.now question.now.table question.now.addr) }
+    ensures { Exactly (option_map answer_view) result (table_answer (option_map (λ m. m.now) module_name.entry) image.now kind addr) }
 {
+    let question = Question {
+        table: kind,
+        addr,
+        sym_type: SymType::Undefined,
+    };
     match table {
-        Cache::Value(table) => answer_in(alloc, module_name, image.bytes(), table, question),
+        Cache::Value(table) => answer_in(alloc, module_name, image.bytes(), table, &question),
         Cache::Mark(kind) => Err(Error::new(*kind, Str::fixed("symbol table"))),
         Cache::Empty => unreachable!(),
     }
@@ -104,11 +111,7 @@ pub fn look_dynamic<'b>(
     requires dynsym_full { is_kept dynsym.now ≡ true }
     ensures { Exactly answer_view result (dynamic_answer (option_map (λ m. m.now) module_name.entry) image.now addr) }
 {
-    let question = Question {
-        table: TableKind::Dynsym,
-        addr,
-    };
-    match look(alloc, module_name, image, &question, dynsym)? {
+    match look(alloc, module_name, image, TableKind::Dynsym, dynsym, addr)? {
         Some(answer) => Ok(answer),
         None => Ok(Answer::NoSym(reason(image, symtab)?)),
     }
@@ -130,11 +133,7 @@ pub fn look_both<'b>(
     requires dynsym_full { is_kept dynsym.now ≡ true }
     ensures { Exactly answer_view result (symbol_for (option_map (λ m. m.now) module_name.entry) image.now addr) }
 {
-    let question = Question {
-        table: TableKind::Symtab,
-        addr,
-    };
-    match look(alloc, module_name, image, &question, symtab)? {
+    match look(alloc, module_name, image, TableKind::Symtab, symtab, addr)? {
         Some(answer) => Ok(answer),
         None => look_dynamic(alloc, module_name, image, symtab, dynsym, addr),
     }

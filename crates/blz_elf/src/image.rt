@@ -1,5 +1,5 @@
 //! An image whose header, section table and section names were read.
-ghost use Rattle.std.specs.Prelude.{◌≡◌, IfOk};
+ghost use Rattle.std.specs.Prelude.{◌≡◌, IfOk, slice_get};
 ghost use Rattle.std.specs.Option.{option_map};
 ghost use Rattle.blz_elf.specs.Images.{elf_of, names_of, section_named, section_called, data_named, holds_bytes, is_relocatable};
 ghost use Rattle.blz_elf.specs.Names.{names_in};
@@ -119,11 +119,7 @@ impl<'b> Image<'b> {
         ensures { option_map section_view result ≡ section_called self.now name.now }
     {
         let index = self.find(name)?;
-        if index < self.sections.len() {
-            Some(self.sections.at(index))
-        } else {
-            None
-        }
+        self.section(index)
     }
 
     /// The data of the first section of that name, nothing where there is none.
@@ -159,5 +155,16 @@ impl<'b> Image<'b> {
         ensures { result ≡ self.now.header.format }
     {
         self.header.format
+    }
+
+    /// The section header at an index, none outside the table.
+    pub fn section(&self, index: usize) -> Option<Section>
+        ensures { option_map section_view result ≡ slice_get self.now.sections index }
+    {
+        if index < self.sections.len() {
+            Some(self.sections.at(index))
+        } else {
+            None
+        }
     }
 }

@@ -28,8 +28,7 @@ fn named<'b>(
     requires { TableFits image.now table.now }
     ensures { Exactly answer_view result (named (option_map (λ m. m.now) module_name.entry) (table_view image.now table.now) (symbol_view symbol.now)) }
 {
-    let strings = table.strings;
-    let name = name(&image[strings.at..strings.at + strings.len], symbol.name)?;
+    let name = name(table.strings_in(image), symbol.name)?;
     Ok(Answer::Sym(ResolvedSym {
         name,
         module: module_name,
@@ -45,7 +44,7 @@ fn named<'b>(
     }))
 }
 
-/// The answer of a table, where it has one.
+/// The answer of a table to a question, where it has one.
 #[tactic(auto, unfolding(crate::specs::SymbolRule::answer_in))]
 pub fn answer_in<'b>(
     alloc: Global,
@@ -55,7 +54,7 @@ pub fn answer_in<'b>(
     question: &Question,
 ) -> Result<Option<Answer<'b>>>
     requires { TableFits image.now table.now }
-    ensures { Exactly (option_map answer_view) result (answer_in (option_map (λ m. m.now) module_name.entry) question.now.table (table_view image.now table.now) question.now.addr) }
+    ensures { Exactly (option_map answer_view) result (answer_in (option_map (λ m. m.now) module_name.entry) (table_view image.now table.now) question.now) }
 {
     match table.covering(image, question) {
         Some(symbol) => match named(alloc, module_name, image, table, &symbol) {

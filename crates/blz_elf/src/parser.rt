@@ -6,6 +6,7 @@ ghost use Rattle.blz_elf.specs.Headers.{header_of};
 ghost use Rattle.blz_elf.specs.Formats.{section_size};
 ghost use Rattle.blz_elf.specs.Images.{elf_of, image_order, image_sections, image_section, image_section_data, image_data_named, image_holds_bytes, image_is_relocatable};
 ghost use Rattle.blz_elf.specs.RelocationTables.{image_relocations};
+ghost use Rattle.blz_elf.specs.NameRule.{image_addresses, image_names};
 ghost use Rattle.blz_elf.specs.Segments.{image_file_place, image_address_of};
 ghost use Rattle.blz_elf.specs.SymbolRule.{image_symbol};
 ghost use Rattle.blz_model.specs.Kept.{Kept, is_kept};
@@ -20,19 +21,25 @@ mod headers;
 
 use crate::answer::Answer;
 use crate::fill::{fill, fill_relocations, fill_table, look, look_both, look_dynamic, sort_table};
+use crate::find_addr_opts::FindAddrOpts;
 use crate::header::{Header, read_header};
 use crate::image::{Frame, Image, read_frame};
+use crate::infos::infos;
+use crate::kept_names::{dynamic_list, static_list};
+use crate::names::Wanted;
 use crate::opts::FindSymOpts;
-use crate::question::{Question, TableKind};
+use crate::question::TableKind;
 use crate::relocating::relocations;
 use crate::relocation::SectionRelocations;
 use crate::section::{data_at, sections};
 use crate::segments::{SegmentTable, segments};
 use crate::span::Rows;
+use crate::sym_info::SymInfos;
 use crate::warm::ElfWarm;
 use blz_bytes::{ByteOrder, Orders};
 use blz_error::{Error, Result, Str};
 use blz_model::Cache;
+use blz_records::SymType;
 use std::alloc::{AllocError, Global};
 use std::marker::Model;
 
@@ -328,11 +335,15 @@ impl<'b> ElfParser<'b> {
             TableKind::Symtab,
             &mut self.warm.symtab,
         )?;
-        let question = Question {
-            table: TableKind::Symtab,
+        let found = look(
+            alloc,
+            self.module,
+            &parts,
+            TableKind::Symtab,
+            &self.warm.symtab,
             addr,
-        };
-        if let Some(answer) = look(alloc, self.module, &parts, &question, &self.warm.symtab)? {
+        )?;
+        if let Some(answer) = found {
             return Ok(answer);
         }
         fill_table(&mut self.warm.dynsym, &parts, TableKind::Dynsym);
@@ -351,6 +362,74 @@ impl<'b> ElfParser<'b> {
             &self.warm.dynsym,
             addr,
         )
+    }
+
+    /// The symbols of a name, defined, in table order: those of `.symtab`, else those of `.dynsym` that `.symtab` does not
+    /// answer (ELF gABI, Symbol Table). Refused as `find_section` is, by a broken table, a name that cannot be read, and
+    /// with places in the file by a section index outside the table: InvalidData, InvalidInput or Unsupported.
+    #[tactic(auto, unfolding(crate::specs::NameRule::image_addresses, crate::specs::NameRule::called_list, crate::specs::SymbolTables::image_table))]
+    pub fn find_addr<O: Orders>(
+        &mut self,
+        alloc: Global,
+        orders: &mut O,
+        name: &str,
+        opts: &FindAddrOpts,
+    ) -> Result<SymInfos<'b>>
+        ensures value { Gives (λ v. v) result (image_addresses self.old.image self.old.module_name name.now opts.now.file_offset) }
+        ensures same { self.new ≡ self.old }
+    {
+        let parts = self.parts()?;
+        let wanted = Wanted::Called(name);
+        fill_table(&mut self.warm.symtab, &parts, TableKind::Symtab);
+        let own = static_list(alloc, &parts, &self.warm.symtab, &wanted)?;
+        if own.len() != 0 {
+            return infos(alloc, &parts, self.module, opts.file_offset, &own);
+        }
+        sort_table(
+            alloc,
+            orders,
+            self.image,
+            TableKind::Symtab,
+            &mut self.warm.symtab,
+        )?;
+        fill_table(&mut self.warm.dynsym, &parts, TableKind::Dynsym);
+        let theirs = dynamic_list(
+            alloc,
+            &parts,
+            &self.warm.symtab,
+            &self.warm.dynsym,
+            &wanted,
+        )?;
+        infos(alloc, &parts, self.module, opts.file_offset, &theirs)
+    }
+
+    /// Reads both tables of symbols and their names, for later calls. Refused by the first mark of header, section table,
+    /// section names, `.symtab`, its names, `.dynsym` and its names.
+    #[tactic(auto, unfolding(crate::specs::NameRule::image_names, crate::specs::SymbolTables::image_table))]
+    pub fn cache<O: Orders>(&mut self, alloc: Global, orders: &mut O) -> Result<()>
+        ensures value { Gives (λ u. u) result (image_names self.old.image) }
+        ensures same { self.new ≡ self.old }
+    {
+        let parts = self.parts()?;
+        let wanted = Wanted::OfType(SymType::Undefined);
+        fill_table(&mut self.warm.symtab, &parts, TableKind::Symtab);
+        sort_table(
+            alloc,
+            orders,
+            self.image,
+            TableKind::Symtab,
+            &mut self.warm.symtab,
+        )?;
+        static_list(alloc, &parts, &self.warm.symtab, &wanted)?;
+        fill_table(&mut self.warm.dynsym, &parts, TableKind::Dynsym);
+        dynamic_list(
+            alloc,
+            &parts,
+            &self.warm.symtab,
+            &self.warm.dynsym,
+            &wanted,
+        )?;
+        Ok(())
     }
 
     /// Puts each part into a cache, as its value or its mark's kind, for `find_sym_prepared`.

@@ -4,6 +4,7 @@ ghost use Rattle.blz_elf.specs.SymbolRule.{covers, may_answer};
 ghost use Rattle.blz_elf.specs.Views.{symbol_view};
 
 use crate::symbols::Symbol;
+use blz_records::SymType;
 
 /// The two tables of symbols (ELF gABI, Symbol Table).
 #[derive(Clone, Copy)]
@@ -21,6 +22,8 @@ pub struct Question {
     pub table: TableKind,
     /// The address.
     pub addr: u64,
+    /// What the symbol is to name.
+    pub sym_type: SymType,
 }
 
 impl Question {
@@ -36,10 +39,10 @@ impl Question {
         self.addr < symbol.value || self.addr - symbol.value < symbol.size
     }
 
-    /// Whether a symbol is defined and covers the address.
+    /// Whether a symbol is defined, covers the address, and is of the type that is asked for.
     pub fn may_be_answered(&self, symbol: &Symbol) -> bool
         ensures { result ≡ may_answer self.now (symbol_view symbol.now) }
     {
-        symbol.section != 0 && self.is_covered(symbol)
+        symbol.section != 0 && self.is_covered(symbol) && symbol.matches(self.sym_type)
     }
 }

@@ -7,11 +7,13 @@ ghost use Rattle.blz_elf.specs.Places.{RowsFit, symbols_in};
 ghost use Rattle.blz_elf.specs.SymbolTables as model;
 ghost use Rattle.blz_elf.specs.SymbolRule as rule;
 ghost use Rattle.blz_elf.specs.SymbolRule.{greatest, covering};
+ghost use Rattle.blz_records.specs.SymbolTypes.{matches};
+ghost use Rattle.blz_elf.specs.NameRule.{type_of};
 ghost use Rattle.blz_elf.specs.Views.{symbol_view};
 
 use crate::format::{Class, Format};
 use crate::number::word_in;
-use blz_records::{u16_in, u32_in};
+use blz_records::{SymType, u16_in, u32_in};
 use crate::question::Question;
 use crate::span::{Rows, place_of};
 use std::marker::Model;
@@ -75,7 +77,29 @@ impl Symbol {
     pub fn is_typed(&self) -> bool
         ensures { result ≡ rule.is_typed (symbol_view self.now) }
     {
-        matches!(self.kind, 0 | 1 | 2 | 10)
+        self.matches(SymType::Undefined)
+    }
+
+    /// Whether it is of a type that is asked for.
+    pub fn matches(&self, sym_type: SymType) -> bool
+        ensures { result ≡ matches self.now.kind sym_type }
+    {
+        match sym_type {
+            SymType::Undefined => matches!(self.kind, 0 | 1 | 2 | 10),
+            SymType::Function => matches!(self.kind, 0 | 2 | 10),
+            SymType::Variable => matches!(self.kind, 0 | 1),
+        }
+    }
+
+    /// What it names.
+    pub fn sym_type(&self) -> SymType
+        ensures { result ≡ type_of (symbol_view self.now) }
+    {
+        match self.kind {
+            1 => SymType::Variable,
+            2 | 10 => SymType::Function,
+            _ => SymType::Undefined,
+        }
     }
 }
 

@@ -125,4 +125,12 @@ impl Table {
             None => symbols.covering(question),
         }
     }
+
+    /// The strings of the symbols' names.
+    pub fn strings_in<'b>(&self, image: &'b [u8]) -> &'b [u8]
+        requires { TableFits image.now self.now }
+        ensures { result.now ≡ span_in image.now self.now.strings }
+    {
+        &image[self.strings.at..self.strings.at + self.strings.len]
+    }
 }

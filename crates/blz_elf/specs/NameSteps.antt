@@ -1,0 +1,28 @@
+-- One symbol more of a table that is listed.
+use Rattle.std.specs.Prelude.{ℕ, Bool, List, [], ◌∷◌, ◌++◌, if◌then◌else◌}
+use Rattle.blz_model.specs.Part.{Part, Good, ◌>>=◌}
+use Rattle.blz_elf.specs.SymbolTables.{Symbol}
+use Rattle.blz_elf.specs.NameRule.{Named, read_name, is_called, is_of_type}
+use Rattle.blz_elf.specs.declared.names.Wanted.{Wanted}
+use Rattle.blz_elf.specs.declared.names.Wanted.TheVariants.{Called, OfType}
+use Rattle.blz_elf.specs.declared.names.NamedSymbol.{NamedSymbol}
+use Rattle.blz_elf.specs.Views.{symbol_view}
+
+abbrev pub named_view : NamedSymbol → Named
+named_view n = record { symbol = symbol_view n.symbol; name = n.name.now }
+
+-- the test of what is wanted
+abbrev pub passes : Wanted → Named → Bool
+passes (Called name) n = is_called name.now n
+passes (OfType sym_type) n = is_of_type sym_type n
+
+abbrev pub with_named : (Named → Bool) → List Named → Named → List Named
+with_named pass listed n = if pass n then listed ++ n ∷ [] else listed
+
+-- A symbol that is asked has its name read, and is listed where it passes.
+unfoldable pub with_symbol : (Symbol → Bool) → List ℕ → (Named → Bool) → List Named → Symbol → Part (List Named)
+with_symbol asked strings pass listed s =
+    if asked s then (do
+      n ← read_name strings s
+      Good (with_named pass listed n))
+    else Good listed
