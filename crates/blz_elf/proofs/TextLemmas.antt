@@ -1,10 +1,9 @@
 -- A text is what a search for the zero byte finds.
 use Rattle.std.proofs.Common.{◌≡◌, ℕ, zero, suc, ◌<◌, Bool, true, false, eqb, List, [], ◌∷◌, length, get_or, take, Option, Some, None, refl, arith}
-use Rattle.std.specs.Str.{IsUtf8, is_utf8}
+use Rattle.std.specs.Str.{is_utf8}
 use Rattle.std.proofs.lemmas.Bool.{false_from_ne_true}
-use Rattle.std.proofs.lemmas.Str.{IsUtf8-from_is_utf8, is_utf8-from_IsUtf8}
 use Rattle.blz_error.specs.declared.kind.ErrorKind.TheVariants.{InvalidData, InvalidInput}
-use Rattle.blz_model.specs.Part.{Good, Broken, ◌>>=◌, or_mark, check}
+use Rattle.blz_model.specs.Part.{Good, ◌>>=◌, or_mark, check}
 use Rattle.blz_model.specs.Texts.{c_string, text_at, name_at}
 
 pub c_string_found : (bytes : List ℕ) (k : ℕ) → k < length bytes → ((j : ℕ) → j < k → eqb (get_or bytes j 0) 0 ≡ true → ⊥) → eqb (get_or bytes k 0) 0 ≡ true → c_string bytes ≡ Some (take k bytes)
@@ -21,14 +20,6 @@ c_string_none (b ∷ bytes) none =
     let more = c_string_none bytes (λ j below. none (suc j) (omega arith)) in
     let first : eqb b 0 ≡ false = false_from_ne_true (eqb b 0) (none 0 (omega arith)) in
     rw (first, more) refl
-
-pub name_is : (table : List ℕ) (at : ℕ) (text name : List ℕ) → Some text ≡ text_at table at → (name ≡ text) × IsUtf8 text → name_at table at ≡ Good name
-unfolding name_at
-name_is table at text name there utf8 = rw (← there, is_utf8-from_IsUtf8 text utf8.1, utf8.0) refl
-
-pub name_is_no_text : (table : List ℕ) (at : ℕ) (text : List ℕ) → Some text ≡ text_at table at → ¬ (IsUtf8 text) → name_at table at ≡ Broken InvalidData
-unfolding name_at
-name_is_no_text table at text there utf8 = rw (← there, false_from_ne_true (is_utf8 text) (λ e. utf8 (IsUtf8-from_is_utf8 text e))) refl
 
 -- a name that is read is the text that is there
 pub name_text : (table : List ℕ) (at : ℕ) (name : List ℕ) → name_at table at ≡ Good name → text_at table at ≡ Some name

@@ -117,7 +117,7 @@ pub struct Entries<'b> {
 impl<'b> Model for Entries<'b> {
     ghost use Rattle.std.specs.Prelude.{List};
     ghost use Rattle.blz_elf.specs.declared.format.Class.TheVariants.{Elf32};
-ghost use Rattle.blz_elf.specs.EntryPlaces.{entries_in};
+    ghost use Rattle.blz_elf.specs.EntryPlaces.{entries_in};
     ghost use Rattle.blz_elf.specs.Places.{RowsFit};
     ghost use Rattle.blz_elf.specs.RelocationTables as model;
     ghost use Rattle.blz_elf.specs.RelocationTables.{entry_size};

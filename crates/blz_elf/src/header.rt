@@ -7,8 +7,8 @@ ghost use Rattle.blz_elf.specs.Views.{header_view};
 
 use crate::format::{Format, class_of, order_of};
 use crate::number::word_in;
-use blz_records::u16_in;
 use blz_error::{Error, ErrorKind, Result, Str};
+use blz_records::u16_in;
 
 /// ET_REL.
 pub const RELOCATABLE: u16 = 1;

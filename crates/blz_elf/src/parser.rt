@@ -393,13 +393,7 @@ impl<'b> ElfParser<'b> {
             &mut self.warm.symtab,
         )?;
         fill_table(&mut self.warm.dynsym, &parts, TableKind::Dynsym);
-        let theirs = dynamic_list(
-            alloc,
-            &parts,
-            &self.warm.symtab,
-            &self.warm.dynsym,
-            &wanted,
-        )?;
+        let theirs = dynamic_list(alloc, &parts, &self.warm.symtab, &self.warm.dynsym, &wanted)?;
         infos(alloc, &parts, self.module, opts.file_offset, &theirs)
     }
 
@@ -422,13 +416,7 @@ impl<'b> ElfParser<'b> {
         )?;
         static_list(alloc, &parts, &self.warm.symtab, &wanted)?;
         fill_table(&mut self.warm.dynsym, &parts, TableKind::Dynsym);
-        dynamic_list(
-            alloc,
-            &parts,
-            &self.warm.symtab,
-            &self.warm.dynsym,
-            &wanted,
-        )?;
+        dynamic_list(alloc, &parts, &self.warm.symtab, &self.warm.dynsym, &wanted)?;
         Ok(())
     }
 

@@ -45,7 +45,13 @@ fn put_entry(
     let target = target as usize;
     let value = value_at(symbols, entry.symbol);
     match entry.addend {
-        Some(addend) => map.insert(alloc, target, entry.offset, value.wrapping_add(addend), false),
+        Some(addend) => map.insert(
+            alloc,
+            target,
+            entry.offset,
+            value.wrapping_add(addend),
+            false,
+        ),
         None => map.insert(alloc, target, entry.offset, value, true),
     }
 }
@@ -90,7 +96,10 @@ fn relocate_by(
 {
     let link = section.link as usize;
     if link >= sections.len() {
-        return Err(Error::new(ErrorKind::InvalidInput, Str::fixed("symbols of relocations")));
+        return Err(Error::new(
+            ErrorKind::InvalidInput,
+            Str::fixed("symbols of relocations"),
+        ));
     }
     let symbols = symbols_of(image, Some(sections.at(link)), format)?;
     let entries = entries_of(image, section, kind, format)?;

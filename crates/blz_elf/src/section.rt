@@ -13,9 +13,9 @@ ghost use Rattle.blz_elf.specs.Views.{header_view, section_view};
 use crate::format::Format;
 use crate::header::Header;
 use crate::number::word_in;
-use blz_records::u32_in;
 use crate::span::{Rows, Span, lie_inside, place_of};
 use blz_error::{Error, ErrorKind, Result, Str};
+use blz_records::u32_in;
 use std::marker::Model;
 
 /// SHT_NOBITS.

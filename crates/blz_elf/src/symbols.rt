@@ -13,9 +13,9 @@ ghost use Rattle.blz_elf.specs.Views.{symbol_view};
 
 use crate::format::{Class, Format};
 use crate::number::word_in;
-use blz_records::{SymType, u16_in, u32_in};
 use crate::question::Question;
 use crate::span::{Rows, place_of};
+use blz_records::{SymType, u16_in, u32_in};
 use std::marker::Model;
 
 /// What is read of a symbol.

@@ -1,6 +1,5 @@
 use Rattle.std.proofs.Common.{◌≡◌, map, drop}
 use Rattle.std.specs.Option.{option_map}
-use Rattle.blz_elf.specs.Places.{symbols_in, span_in}
 use Rattle.blz_elf.specs.Tables.{table_view}
 use Rattle.blz_elf.specs.NameRule.{is_asked, listed_in}
 use Rattle.blz_elf.specs.NameSteps.{named_view, passes}
