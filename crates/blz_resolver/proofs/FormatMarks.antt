@@ -10,6 +10,7 @@ use Rattle.blz_model.specs.Part.{Part, Good, Broken, ◌>>=◌, or_mark, check, 
 use Rattle.blz_model.specs.Texts.{name_at}
 use Rattle.blz_model.specs.Answers.{Unknown}
 use Rattle.blz_elf.specs.declared.format.Format.{Format}
+use Rattle.blz_elf.specs.declared.question.Question.{Question}
 use Rattle.blz_elf.specs.declared.question.TableKind.{TableKind}
 use Rattle.blz_elf.specs.declared.question.TableKind.TheVariants.{Symtab, Dynsym}
 use Rattle.blz_elf.specs.Formats.{compression_size}
@@ -153,14 +154,14 @@ marks_named : (module_name : Option (List ℕ)) (table : SymbolTable) (s : Symbo
 unfolding rule.named
 marks_named module_name table s = search (parts, marks_name_at) depth 20
 
-marks_answer_in : (module_name : Option (List ℕ)) (kind : TableKind) (table : SymbolTable) (addr : ℕ) (o : Option Symbol) → rule.covering (record { table = kind; addr = addr }) table.symbols ≡ o → Marks (rule.answer_in module_name kind table addr)
+marks_answer_in : (module_name : Option (List ℕ)) (table : SymbolTable) (q : Question) (o : Option Symbol) → rule.covering q table.symbols ≡ o → Marks (rule.answer_in module_name table q)
 unfolding rule.answer_in
-marks_answer_in module_name kind table addr None e = rw e (marks_good None)
-marks_answer_in module_name kind table addr (Some s) e = rw e (marks_bind _ _ (marks_named module_name table s) (λ answer. marks_good (Some answer)))
+marks_answer_in module_name table q None e = rw e (marks_good None)
+marks_answer_in module_name table q (Some s) e = rw e (marks_bind _ _ (marks_named module_name table s) (λ answer. marks_good (Some answer)))
 
 marks_table_answer : (module_name : Option (List ℕ)) (elf : image.Elf) (kind : TableKind) (addr : ℕ) → Marks (rule.table_answer module_name elf kind addr)
 unfolding rule.table_answer
-marks_table_answer module_name elf kind addr = marks_bind _ _ (marks_table kind elf) (λ table. marks_answer_in module_name kind table addr (rule.covering (record { table = kind; addr = addr }) table.symbols) refl)
+marks_table_answer module_name elf kind addr = marks_bind _ _ (marks_table kind elf) (λ table. marks_answer_in module_name table (rule.at_address kind addr) (rule.covering (rule.at_address kind addr) table.symbols) refl)
 
 marks_reason : (elf : image.Elf) → Marks (rule.reason_for elf)
 unfolding rule.reason_for
