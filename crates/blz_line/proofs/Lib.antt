@@ -4,3 +4,4 @@ pub mod BestOf
 pub mod Backward
 pub mod Carried
 pub mod Made
+pub mod AllFiles

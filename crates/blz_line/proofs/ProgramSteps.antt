@@ -1,9 +1,9 @@
 -- One more opcode of a program.
-use Rattle.std.proofs.Common.{◌≡◌, ℕ, suc, ◌<◌, ◌≤◌, length, List, Option, Some, None, refl}
+use Rattle.std.proofs.Common.{◌≡◌, ℕ, suc, ◌<◌, ◌≤◌, length, List, Option, Some, None, refl, ap}
 use Rattle.std.proofs.lemmas.Bool.{lt-ltb, le-ltb}
 use Rattle.blz_error.specs.declared.kind.ErrorKind.{ErrorKind}
 use Rattle.blz_error.specs.declared.kind.ErrorKind.TheVariants.{InvalidDwarf}
-use Rattle.blz_model.specs.Part.{Fails, or_mark}
+use Rattle.blz_model.specs.Part.{Broken, Fails, or_mark}
 use Rattle.blz_model.specs.LebNumbers.{uleb}
 use Rattle.blz_model.specs.Reads.{◌>>=◌}
 use Rattle.blz_entry.specs.Contents.{Contents}
@@ -32,8 +32,9 @@ pub run_none : (r : Rules) (counts : List ℕ) (s : Contents) (m n at : ℕ) (ol
 unfolding run_in
 run_none r counts s m n at old e lt h = let t = lt-ltb at (length s.bytes) lt in rw (e, t, h) refl
 
-stopped : (o : Option State) (k : ErrorKind) → Fails k (or_mark o InvalidDwarf) → (rest : State → Option State) → Fails k (or_mark (o >>= rest) InvalidDwarf)
-stopped None k h rest = h
+-- what refuses a first step refuses the whole
+pub stopped : {A B : Type 0} (o : Option A) (k : ErrorKind) → Fails k (or_mark o InvalidDwarf) → (rest : A → Option B) → Fails k (or_mark (o >>= rest) InvalidDwarf)
+stopped None k h rest = λ ne. let e = h ne in let same : InvalidDwarf ≡ k = cc in ap Broken same
 stopped (Some s) k h rest = λ ne. let e = h ne in absurd cc
 
 -- no value is the mark InvalidDwarf

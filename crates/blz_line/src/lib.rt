@@ -5,6 +5,7 @@
 mod best;
 mod broken;
 mod extent;
+mod files;
 mod formats;
 mod header;
 mod opcode;
@@ -14,6 +15,7 @@ mod program;
 mod registers;
 mod row;
 mod rules;
+mod string_stub;
 mod table;
 
 pub use header::LineHeader;

@@ -1,5 +1,6 @@
 //! A list whose first entries may be all alike.
 ghost use Rattle.std.specs.Prelude.{◌≡◌, [], ◌++◌, ◌∷◌, replicate, slice_get, IfOk, IfErr};
+ghost use Rattle.blz_line.specs.Tables.{copies};
 
 use std::alloc::{AllocError, Global};
 use std::marker::Model;
@@ -48,6 +49,13 @@ impl<T: Copy> Table<T> {
     {
         self.listed.push(entry)?;
         Ok(())
+    }
+
+    /// The equal entries in front, and those behind them.
+    pub fn parts(&self) -> (Option<(u64, T)>, &[T])
+        ensures { self.now ≡ copies result.0 ++ result.1.now }
+    {
+        (self.repeated, self.listed.as_slice())
     }
 
     /// The entry at a place.
