@@ -5,3 +5,6 @@ pub mod Backward
 pub mod Carried
 pub mod Made
 pub mod AllFiles
+pub mod RowsUpTo
+pub mod RisingRows
+pub mod Scanning

@@ -1,5 +1,5 @@
 -- The files that rows name by their numbers (DWARF 5 section 6.2.4).
-use Rattle.std.specs.Prelude.{ℕ, ◌-◌, List, [], ◌∷◌, ◌++◌, length, Option, Some, None, ◌==◌, nat_le, if◌then◌else◌, slice_get}
+use Rattle.std.specs.Prelude.{ℕ, ◌-◌, List, [], ◌∷◌, length, Option, Some, None, ◌==◌, nat_le, if◌then◌else◌, slice_get}
 use Rattle.std.specs.Option.{option_map}
 use Rattle.blz_model.specs.Reads.{◌>>=◌}
 use Rattle.blz_bytes.specs.Joined.{joined}
@@ -25,13 +25,18 @@ pub record Naming : Type 0 where
 
 abbrev pub naming_of : Sections → UnitHeader → UnitRoot → ℕ → List FileEntry → Naming
 naming_of sections unit root version directories = record {
-  string_at = string_of sections unit root; unit_name = root.name; comp_dir = root.comp_dir; version = version; directories = directories }
+  string_at = string_of sections unit root;
+  unit_name = root.name;
+  comp_dir = root.comp_dir;
+  version = version;
+  directories = directories;
+}
 
 -- The path of a directory. Number 0 is the unit's own, as is one that the table does not have; before version 5 the table
 -- begins at 1.
 abbrev pub directory_path : Naming → ℕ → Option AttrValue
 directory_path n number = if number == 0 then None
-  else option_map (λ (e : FileEntry). e.path) (slice_get n.directories (if nat_le n.version 4 then number - 1 else number))
+    else option_map (λ (e : FileEntry). e.path) (slice_get n.directories (if nat_le n.version 4 then number - 1 else number))
 
 -- a file by its name, and by the path of its directory
 unfoldable pub file_in : Naming → StrPlace → Option AttrValue → Option FilePlaces
@@ -66,7 +71,7 @@ unit_file comp_dir (Some name) = record { comp_dir = comp_dir; directory = None;
 -- file 0, where the table does not have it: before version 5 it begins at 1
 abbrev pub file_zero : Naming → List FileEntry → Option FilePlaces
 file_zero n entries = if nat_le n.version 4 then Some (unit_file n.comp_dir n.unit_name) else (
-  if length entries == 0 then Some nowhere else None)
+    if length entries == 0 then Some nowhere else None)
 
 abbrev pub at_front : {T : Type 0} → Option T → List T → List T
 at_front None xs = xs

@@ -12,3 +12,8 @@ pub mod RunningEnds
 pub mod StringStub
 pub mod FileNames
 pub mod NamingView
+pub mod UnitLines
+pub mod RowOrder
+pub mod Lookups
+pub mod LinesFields
+pub mod TableView

@@ -110,7 +110,11 @@ impl Namer<'_, '_, '_> {
         if number == 0 {
             return None;
         }
-        let at = if self.version <= 4 { number - 1 } else { number };
+        let at = if self.version <= 4 {
+            number - 1
+        } else {
+            number
+        };
         match self.directories.get(at) {
             Some(entry) => Some(entry.path),
             None => None,

@@ -5,12 +5,14 @@ ghost use Rattle.blz_model.specs.Part.{Gives, or_mark};
 ghost use Rattle.blz_entry.specs.Contents.{section_view, number_at, offset_len};
 ghost use Rattle.blz_line.specs.Headers.{with_address_size, encoding_at, program_at, max_ops_at, signed_byte, is_usable, rules_at, usable_rules_at, paths_at, fields_at, header_at, rules_of};
 ghost use Rattle.blz_line.specs.HeaderFacts.{IsInside, IsReady};
+ghost use Rattle.blz_line.specs.UnitLines.{counts_of};
 
 use crate::broken::broken;
 use crate::extent::{extent_at, up_to};
 use crate::formats::formatted_paths;
-use crate::paths::{Paths, listed_paths};
+use crate::paths::{FileEntry, Paths, listed_paths};
 use crate::rules::Rules;
+use crate::table::Table;
 use blz_bytes::{piece_at, u8_at, u16_at, u32_at, u64_at};
 use blz_entry::{Encoding, Section, Sections};
 use blz_error::Error;
@@ -285,5 +287,21 @@ impl LineHeader {
             line_range: self.line_range,
             opcode_base: self.opcode_base,
         }
+    }
+    /// The numbers of operands of the standard opcodes.
+    pub(crate) fn counts<'b>(&self, section: &Section<'_, 'b>) -> &'b [u8]
+        requires ready { IsReady (rules_of self.now) }
+        requires inside { IsInside self.now section.now.bytes.now }
+        ensures { result.now ≡ counts_of (section_view section.now) self.now }
+    {
+        &section.bytes[self.counts..self.counts + usize::from(self.opcode_base - 1)]
+    }
+
+    /// The tables of directories and files.
+    pub(crate) fn into_paths(self) -> (Table<FileEntry>, Table<FileEntry>)
+        ensures directories { result.0 ≡ self.paths.directories }
+        ensures files { result.1 ≡ self.paths.files }
+    {
+        (self.paths.directories, self.paths.files)
     }
 }

@@ -8,6 +8,8 @@ mod extent;
 mod files;
 mod formats;
 mod header;
+mod lines;
+mod lookup;
 mod opcode;
 mod order;
 mod paths;
@@ -19,4 +21,5 @@ mod string_stub;
 mod table;
 
 pub use header::LineHeader;
+pub use lines::{Lines, Location};
 pub use row::{LineRow, LineSequence};

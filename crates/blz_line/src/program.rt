@@ -79,6 +79,14 @@ impl Machine {
         }
     }
 
+    /// The sequences that have ended, and the files.
+    pub fn into_parts(self) -> (Vec<LineSequence>, Table<FileEntry>)
+        ensures sequences { result.0.items ≡ self.sequences }
+        ensures files { result.1 ≡ self.files }
+    {
+        (self.sequences, self.files)
+    }
+
     #[tactic(auto, unfolding(crate::specs::Program::step, crate::specs::Program::ended))]
     fn step(&mut self, alloc: Global, rules: Rules, op: Op) -> Result<(), Error>
         requires ops { 0 < rules.max_ops }

@@ -1,6 +1,4 @@
-use Rattle.std.proofs.Common.{◌≡◌, ◌-◌, [], replicate, sym, ap, ◌∙◌, arith}
-use Rattle.blz_line.specs.FileNames.{all_files}
-use Rattle.blz_line.specs.NamingView.{naming_view}
+use Rattle.std.proofs.Common.{◌-◌, sym, arith}
 use Rattle.blz_line.proofs.ProgramSteps.{fails_none}
 use Rattle.blz_line.proofs.TableSteps.{or_mark_some}
 use Rattle.blz_line.proofs.AllFiles.{all_nil, all_equal, none_equal}

@@ -1,0 +1,239 @@
+//! The line table of a unit, and the line of an address in it.
+ghost use Rattle.std.specs.Prelude.{◌≡◌, ◌≤◌, length, slice_get, Option, Some, None, IfOk, IfSome, true};
+ghost use Rattle.std.specs.Option.{option_map};
+ghost use Rattle.blz_error.specs.declared.kind.ErrorKind.TheVariants.{InvalidDwarf};
+ghost use Rattle.blz_model.specs.Part.{Gives, Exactly, or_mark};
+ghost use Rattle.blz_line.specs.Best.{best_at};
+ghost use Rattle.blz_line.specs.RunningEnds.{IsAccepted, IsIndexIf};
+ghost use Rattle.blz_line.specs.FileNames.{file_text};
+ghost use Rattle.blz_line.specs.HeaderFacts.{IsInside, IsReady};
+ghost use Rattle.blz_line.specs.Headers.{rules_of};
+ghost use Rattle.blz_line.specs.Lookups.{spans_of, row_in, site_of, line_at, location_view};
+ghost use Rattle.blz_line.specs.TableView.{table_view};
+ghost use Rattle.blz_line.specs.RowOrder.{AreRising};
+ghost use Rattle.blz_line.specs.UnitLines.{LineTable, OrderedLines, program_of, table_of, table_at, lines_of};
+
+use crate::broken::broken;
+use crate::extent::up_to;
+use crate::files::{FilePlaces, Files, Namer, file_text};
+use crate::header::{LineHeader, header_at};
+use crate::lookup::{row_at, scan, spans_of};
+use crate::order::{Ordered, first_places, in_order, keys_of, search};
+use crate::program::{Machine, run};
+use crate::row::{LineRow, LineSequence};
+use blz_bytes::{DirPath, Orders, check_pairs};
+use blz_entry::{Sections, Span, Texts, UnitHeader, UnitRoot};
+use blz_error::Error;
+use std::alloc::{AllocError, Global};
+use std::marker::Model;
+
+/// A place in a source.
+#[derive(Drop)]
+pub struct Location<'b> {
+    /// The directory of the file.
+    pub dir: DirPath<'b>,
+    /// The file's name.
+    pub file: &'b [u8],
+    /// The line, counted from 1; none where the row tells none.
+    pub line: Option<u32>,
+    /// The column, counted from 1, or 0 for the line's begin; none where the row tells no line.
+    pub column: Option<u32>,
+}
+
+/// The sequences and the files of a unit.
+#[derive(Drop)]
+pub struct Lines {
+    sequences: Vec<LineSequence>,
+    files: Files,
+    order: Vec<Ordered>,
+    ordered: bool,
+}
+
+impl Model for Lines {
+    ghost use Rattle.blz_line.specs.UnitLines.{OrderedLines};
+
+    ghost Value = { OrderedLines };
+
+    ghost use Rattle.blz_line.specs.LinesFields.{lines_value, AreIndexed};
+
+    ghost view = { lines_value };
+
+    ghost invariant = { AreIndexed };
+}
+
+/// A table before its order.
+#[derive(Drop)]
+struct Unordered {
+    sequences: Vec<LineSequence>,
+    files: Files,
+}
+
+/// Reads the table of a header and runs its program.
+#[tactic(auto, unfolding(crate::specs::UnitLines::table_of, crate::specs::UnitLines::program_of))]
+fn table_of(
+    alloc: Global,
+    sections: &Sections<'_, '_>,
+    unit: &UnitHeader,
+    root: &UnitRoot,
+    header: LineHeader,
+) -> Result<Unordered, Error>
+    requires ready { IsReady (rules_of header) }
+    requires inside { IsInside header sections.now.line.bytes.now }
+    ensures value { Gives table_view result (or_mark (table_of sections.now unit.now root.now header) InvalidDwarf) }
+    ensures rising { IfOk result (λ t. AreRising (table_view t).sequences) }
+{
+    let rules = header.rules();
+    let program = header.program;
+    let line = up_to(&sections.line, header.end);
+    let counts = header.counts(&sections.line);
+    let (directories, files) = header.into_paths();
+    let mut machine = Machine::new(alloc, files);
+    run(alloc, rules, counts, &line, program, &mut machine)?;
+    let (sequences, entries) = machine.into_parts();
+    let namer = Namer {
+        sections,
+        unit,
+        root,
+        version: rules.version,
+        directories: &directories,
+    };
+    let files = namer.files_of(alloc, &entries)?;
+    Ok(Unordered { sequences, files })
+}
+
+/// The table at an offset of `.debug_line`.
+#[tactic(auto, unfolding(crate::specs::UnitLines::table_at))]
+fn table_at(
+    alloc: Global,
+    sections: &Sections<'_, '_>,
+    unit: &UnitHeader,
+    root: &UnitRoot,
+    at: u64,
+) -> Result<Unordered, Error>
+    ensures value { Gives table_view result (or_mark (table_at sections.now unit.now root.now at) InvalidDwarf) }
+    ensures rising { IfOk result (λ t. AreRising (table_view t).sequences) }
+{
+    let header = header_at(alloc, &sections.line, at as usize, unit.address_size)?;
+    table_of(alloc, sections, unit, root, header)
+}
+
+impl Lines {
+    /// Asks for an order of the sequences, and keeps it where it passes the check.
+    fn new<O: Orders>(alloc: Global, orders: &mut O, table: Unordered) -> Result<Lines, AllocError>
+        requires { AreRising (table_view table).sequences }
+        ensures table { IfOk result (λ l. l.table ≡ table_view table) }
+        ensures accepted { IfOk result (λ l. IsAccepted (O.pair_places orders.old) (spans_of l.table.sequences) l.ordered) }
+        ensures pairs_stay { O.pair_places orders.new ≡ O.pair_places orders.old }
+        ensures names_stay { O.name_places orders.new ≡ O.name_places orders.old }
+    {
+        let Unordered { sequences, files } = table;
+        let spans = spans_of(alloc, sequences.as_slice())?;
+        let keys = keys_of(alloc, spans.as_slice())?;
+        let mut places = first_places(alloc, spans.len())?;
+        orders.by_pair(keys.as_slice(), places.as_mut_slice());
+        let ordered = check_pairs(keys.as_slice(), places.as_slice());
+        let order = in_order(alloc, spans.as_slice(), places.as_slice(), ordered)?;
+        Ok(Lines {
+            sequences,
+            files,
+            order,
+            ordered,
+        })
+    }
+
+    /// The sequences and the files that the line program of a unit gives; None exactly where its root tells no line
+    /// program, and InvalidDwarf exactly where that, or the string of a file, has no value.
+    pub fn parse<O: Orders>(
+        alloc: Global,
+        orders: &mut O,
+        sections: &Sections<'_, '_>,
+        header: &UnitHeader,
+        root: &UnitRoot,
+    ) -> Result<Option<Lines>, Error>
+        ensures value { Gives (λ lines. option_map (λ (l : OrderedLines). l.table) lines) result (lines_of sections.now header.now root.now) }
+        ensures accepted { IfOk result (λ lines. IfSome lines (λ (l : OrderedLines). IsAccepted (O.pair_places orders.old) (spans_of l.table.sequences) l.ordered)) }
+        ensures pairs_stay { O.pair_places orders.new ≡ O.pair_places orders.old }
+        ensures names_stay { O.name_places orders.new ≡ O.name_places orders.old }
+    {
+        let Some(at) = root.line else {
+            return Ok(None);
+        };
+        let table = table_at(alloc, sections, header, root, at)?;
+        let lines = Lines::new(alloc, orders, table)?;
+        Ok(Some(lines))
+    }
+
+    /// The sequences, in the order of the program.
+    pub fn sequences(&self) -> &[LineSequence]
+        ensures { result.now ≡ self.now.table.sequences }
+    {
+        self.sequences.as_slice()
+    }
+
+    /// The directory and the name of the file of a number, counted from 0; None exactly where the table has no such file.
+    /// The texts are those of the sections that were parsed.
+    pub fn file<'b>(&self, texts: &Texts<'b>, index: u64) -> Option<(DirPath<'b>, &'b [u8])>
+        ensures { option_map (λ file. (file.0, file.1.now)) result ≡ option_map (file_text texts.now) (slice_get self.now.table.files index) }
+    {
+        let file = self.files.get(index)?;
+        Some(file_text(texts, &file))
+    }
+
+    fn best_place(&self, probe: u64) -> Option<usize>
+        ensures { result ≡ best_at (spans_of self.now.table.sequences) probe }
+    {
+        if self.ordered {
+            search(self.order.as_slice(), probe)
+        } else {
+            scan(self.sequences.as_slice(), probe)
+        }
+    }
+
+    fn row_in(&self, probe: u64) -> Option<LineRow>
+        ensures { result ≡ row_in self.now.table.sequences probe }
+    {
+        let place = self.best_place(probe)?;
+        let sequence = self.sequences.get(place)?;
+        row_at(sequence.rows(), probe)
+    }
+
+    /// The place in the sources of an address: the last row that does not begin behind it, in the sequence that covers it
+    /// and begins last; None where no sequence covers it. InvalidDwarf exactly where the row's file is not in the table.
+    /// The texts are those of the sections that were parsed.
+    #[tactic(auto, unfolding(crate::specs::Lookups::row_site))]
+    pub fn find_location<'b>(
+        &self,
+        texts: &Texts<'b>,
+        probe: u64,
+    ) -> Result<Option<Location<'b>>, Error>
+        ensures { Exactly (λ o. option_map location_view o) result (line_at texts.now self.now.table probe) }
+    {
+        let Some(row) = self.row_in(probe) else {
+            return Ok(None);
+        };
+        match self.file(texts, row.file_index) {
+            Some((dir, file)) => Ok(Some(located(dir, file, row))),
+            None => Err(broken()),
+        }
+    }
+}
+
+/// A row in its file.
+fn located<'b>(dir: DirPath<'b>, file: &'b [u8], row: LineRow) -> Location<'b>
+    ensures { location_view result ≡ site_of (dir.entry, file.entry.now) row }
+{
+    if row.line == 0 {
+        return Location {
+            dir,
+            file,
+            line: None,
+            column: None,
+        };
+    }
+    Location {
+        dir,
+        file,
+        line: Some(row.line),
+        column: Some(row.column),
+    }
+}
