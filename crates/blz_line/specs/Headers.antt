@@ -3,37 +3,17 @@ use Rattle.std.specs.Prelude.{ℕ, ◌+◌, ◌-◌, Bool, true, false, ◌||◌
 use Rattle.blz_model.specs.Reads.{Read, ◌>>=◌, passed_over}
 use Rattle.blz_bytes.specs.Pieces.{byte}
 use Rattle.blz_entry.specs.Contents.{Contents, number_at, offset_len}
+use Rattle.blz_entry.specs.Headers.{extent_at, cut, is_address_size}
 use Rattle.blz_entry.specs.declared.encoding.Encoding.{Encoding}
 use Rattle.blz_line.specs.declared.paths.Paths.{Paths}
 use Rattle.blz_line.specs.declared.rules.Rules.{Rules}
-use Rattle.blz_line.specs.declared.extent.Extent.{Extent}
 use Rattle.blz_line.specs.declared.header.LineHeader.{LineHeader}
 use Rattle.blz_line.specs.PathTables.{listed_paths}
 use Rattle.blz_line.specs.Formats.{formatted_paths}
 
--- a section up to an end
-abbrev pub up_to : Contents → ℕ → Contents
-up_to s end = record s { bytes = take end s.bytes }
-
--- a length, and whether it has eight bytes, as have then the offsets behind it (DWARF 5 section 7.4)
-unfoldable pub initial_length : Contents → ℕ → Read (Bool × ℕ)
-initial_length s at = do
-  short ← number_at 4 s at
-  if nat_lt short.0 0xffff_fff0 then Some ((false, short.0), short.1) else (
-      if short.0 == 0xffff_ffff then (do
-        long ← number_at 8 s short.1
-        Some ((true, long.0), long.1)) else
-      None)
-
--- what the length spans, which lies inside the section
-unfoldable pub extent_at : Contents → ℕ → Option Extent
-extent_at s at = do
-  len ← initial_length s at
-  if nat_le (len.1 + len.0.1) (length s.bytes) then Some (record { wide = len.0.0; start = len.1; end = len.1 + len.0.1 }) else None
-
 -- an address has four or eight bytes
 abbrev pub with_address_size : Encoding → ℕ → Read Encoding
-with_address_size e at = if e.address_size == 4 || e.address_size == 8 then Some (e, at) else None
+with_address_size e at = if is_address_size e.address_size then Some (e, at) else None
 
 -- The version, and in version 5 the sizes of addresses and of segment selectors, which are not supported. Before that
 -- the address size is the unit's.
@@ -112,9 +92,9 @@ fields_at e program end s at = do
 unfoldable pub header_at : Contents → ℕ → ℕ → Option LineHeader
 header_at s at address_size = do
   extent ← extent_at s at
-  encoding ← encoding_at extent.wide address_size (up_to s extent.end) extent.start
-  program ← program_at extent.wide (up_to s extent.end) encoding.1
-  fields_at encoding.0 program.0 extent.end (up_to s program.0) program.1
+  encoding ← encoding_at extent.0.wide address_size (cut extent.0.end s) extent.1
+  program ← program_at extent.0.wide (cut extent.0.end s) encoding.1
+  fields_at encoding.0 program.0 extent.0.end (cut program.0 s) program.1
 
 abbrev pub rules_of : LineHeader → Rules
 rules_of h = record {

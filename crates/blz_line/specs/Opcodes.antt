@@ -4,6 +4,7 @@ use Rattle.blz_model.specs.Reads.{Read, ◌>>=◌, number}
 use Rattle.blz_model.specs.LebNumbers.{uleb, sleb}
 use Rattle.blz_bytes.specs.Pieces.{byte}
 use Rattle.blz_entry.specs.Contents.{Contents, address_at}
+use Rattle.blz_entry.specs.Headers.{cut}
 use Rattle.blz_line.specs.declared.rules.Rules.{Rules}
 use Rattle.blz_line.specs.PathTables.{file_at}
 use Rattle.blz_line.specs.declared.opcode.Op.{Op}
@@ -30,7 +31,7 @@ extended_at r s at = do
   len ← uleb s.bytes at
   if len.0 == 0 || nat_lt (length s.bytes) (len.1 + len.0) then None else (do
     code ← byte s.bytes len.1
-    op ← extended_op r (record s { bytes = take (len.1 + len.0) s.bytes }) code.0 code.1
+    op ← extended_op r (cut (len.1 + len.0) s) code.0 code.1
     Some (op, len.1 + len.0))
 
 -- The table of standard opcodes and their operands. One that it does not have takes as many numbers as the header says.

@@ -10,7 +10,8 @@ use Rattle.blz_entry.specs.declared.root.UnitRoot.{UnitRoot}
 use Rattle.blz_line.specs.declared.header.LineHeader.{LineHeader}
 use Rattle.blz_line.specs.declared.files.FilePlaces.{FilePlaces}
 use Rattle.blz_line.specs.Sequences.{Sequence}
-use Rattle.blz_line.specs.Headers.{header_at, rules_of, up_to}
+use Rattle.blz_entry.specs.Headers.{cut}
+use Rattle.blz_line.specs.Headers.{header_at, rules_of}
 use Rattle.blz_line.specs.Program.{State, first_state, run_from}
 use Rattle.blz_line.specs.FileNames.{naming_of, files_of}
 
@@ -29,7 +30,7 @@ counts_of s h = slice_range s.bytes h.counts (h.counts + (h.opcode_base - 1))
 
 -- what the program of a header does
 unfoldable pub program_of : Contents → LineHeader → Option State
-program_of s h = run_from (rules_of h) (counts_of s h) (up_to s h.end) (first_state h.paths.files) h.program
+program_of s h = run_from (rules_of h) (counts_of s h) (cut h.end s) (first_state h.paths.files) h.program
 
 -- the table of a header, the whole of which has to have a value
 unfoldable pub table_of : Sections → UnitHeader → UnitRoot → LineHeader → Option LineTable

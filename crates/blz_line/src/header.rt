@@ -8,13 +8,13 @@ ghost use Rattle.blz_line.specs.HeaderFacts.{IsInside, IsReady};
 ghost use Rattle.blz_line.specs.UnitLines.{counts_of};
 
 use crate::broken::broken;
-use crate::extent::{extent_at, up_to};
+use crate::cut::cut;
 use crate::formats::formatted_paths;
 use crate::paths::{FileEntry, Paths, listed_paths};
 use crate::rules::Rules;
 use crate::table::Table;
-use blz_bytes::{piece_at, u8_at, u16_at, u32_at, u64_at};
-use blz_entry::{Encoding, Section, Sections};
+use blz_bytes::{piece_at, u8_at, u16_at};
+use blz_entry::{Encoding, Section, Sections, Width, extent_at, fixed_at};
 use blz_error::Error;
 use std::alloc::Global;
 
@@ -96,10 +96,10 @@ fn header_len_at(wide: bool, section: &Section<'_, '_>, at: usize) -> Option<(u6
     ensures within { IfSome result (λ r. r.1 ≤ length section.now.bytes.now) }
 {
     if wide {
-        return u64_at(section.bytes, at, section.order);
+        fixed_at(Width::Eight, section, at)
+    } else {
+        fixed_at(Width::Four, section, at)
     }
-    let (len, next) = u32_at(section.bytes, at, section.order)?;
-    Some((u64::from(len), next))
 }
 
 /// Where the program begins, and the place behind the header's length.
@@ -247,17 +247,17 @@ pub(crate) fn header_at(
     ensures ready { IfOk result (λ h. IsReady (rules_of h)) }
     ensures inside { IfOk result (λ h. IsInside h section.now.bytes.now) }
 {
-    let Some(extent) = extent_at(section, at) else {
+    let Some((extent, next)) = extent_at(section, at) else {
         return Err(broken());
     };
-    let whole = up_to(section, extent.end);
-    let Some((encoding, next)) = encoding_at(extent.wide, address_size, &whole, extent.start) else {
+    let whole = cut(section, extent.end);
+    let Some((encoding, next)) = encoding_at(extent.wide, address_size, &whole, next) else {
         return Err(broken());
     };
     let Some((program, next)) = program_at(extent.wide, &whole, next) else {
         return Err(broken());
     };
-    let header = up_to(section, program);
+    let header = cut(section, program);
     fields_at(alloc, encoding, program, extent.end, &header, next)
 }
 

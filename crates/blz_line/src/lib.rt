@@ -4,7 +4,7 @@
 
 mod best;
 mod broken;
-mod extent;
+mod cut;
 mod files;
 mod formats;
 mod header;

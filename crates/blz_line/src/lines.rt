@@ -14,7 +14,7 @@ ghost use Rattle.blz_line.specs.RowOrder.{AreRising};
 ghost use Rattle.blz_line.specs.UnitLines.{LineTable, OrderedLines, program_of, table_of, table_at, lines_of};
 
 use crate::broken::broken;
-use crate::extent::up_to;
+use crate::cut::cut;
 use crate::files::{FilePlaces, Files, Namer, file_text};
 use crate::header::{LineHeader, header_at};
 use crate::lookup::{row_at, scan, spans_of};
@@ -84,7 +84,7 @@ fn table_of(
 {
     let rules = header.rules();
     let program = header.program;
-    let line = up_to(&sections.line, header.end);
+    let line = cut(&sections.line, header.end);
     let counts = header.counts(&sections.line);
     let (directories, files) = header.into_paths();
     let mut machine = Machine::new(alloc, files);

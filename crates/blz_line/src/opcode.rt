@@ -3,6 +3,7 @@ ghost use Rattle.std.specs.Prelude.{◌≡◌, ◌≤◌, ◌<◌, ◌+◌, leng
 ghost use Rattle.blz_entry.specs.Contents.{section_view};
 ghost use Rattle.blz_line.specs.Opcodes.{ulebs_passed, extended_op, extended_at, standard_at, op_at};
 
+use crate::cut::cut;
 use crate::paths::{FileEntry, file_at};
 use crate::rules::Rules;
 use blz_bytes::{sleb_at, u8_at, u16_at, uleb_at};
@@ -69,11 +70,7 @@ fn extended_at(rules: Rules, section: &Section<'_, '_>, at: usize) -> Option<(Op
     }
     let end = start + len as usize;
     let (code, operands) = u8_at(section.bytes, start)?;
-    let inside = Section {
-        bytes: &section.bytes[..end],
-        ..*section
-    };
-    let op = extended_op(rules, &inside, code, operands)?;
+    let op = extended_op(rules, &cut(section, end), code, operands)?;
     Some((op, end))
 }
 
