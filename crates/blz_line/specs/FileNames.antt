@@ -3,7 +3,7 @@ use Rattle.std.specs.Prelude.{ℕ, ◌-◌, List, [], ◌∷◌, length, Option,
 use Rattle.std.specs.Option.{option_map}
 use Rattle.blz_model.specs.Reads.{◌>>=◌}
 use Rattle.blz_bytes.specs.Joined.{joined}
-use Rattle.blz_line.specs.StringStub.{string_of}
+use Rattle.blz_entry.specs.StringPlaces.{string_of}
 use Rattle.blz_entry.specs.TextParts.{text_of}
 use Rattle.blz_entry.specs.declared.section.Sections.{Sections}
 use Rattle.blz_entry.specs.declared.units.UnitHeader.{UnitHeader}

@@ -9,7 +9,6 @@ pub mod Sequences
 pub mod Program
 pub mod Best
 pub mod RunningEnds
-pub mod StringStub
 pub mod FileNames
 pub mod NamingView
 pub mod UnitLines

@@ -4,13 +4,13 @@ use Rattle.blz_error.specs.declared.kind.ErrorKind.TheVariants.{InvalidDwarf}
 use Rattle.blz_model.specs.Part.{Part, or_mark}
 use Rattle.blz_model.specs.Reads.{◌>>=◌}
 use Rattle.blz_entry.specs.Contents.{Contents, section_view}
+use Rattle.blz_entry.specs.Headers.{cut}
 use Rattle.blz_entry.specs.declared.section.Sections.{Sections}
 use Rattle.blz_entry.specs.declared.units.UnitHeader.{UnitHeader}
 use Rattle.blz_entry.specs.declared.root.UnitRoot.{UnitRoot}
 use Rattle.blz_line.specs.declared.header.LineHeader.{LineHeader}
 use Rattle.blz_line.specs.declared.files.FilePlaces.{FilePlaces}
 use Rattle.blz_line.specs.Sequences.{Sequence}
-use Rattle.blz_entry.specs.Headers.{cut}
 use Rattle.blz_line.specs.Headers.{header_at, rules_of}
 use Rattle.blz_line.specs.Program.{State, first_state, run_from}
 use Rattle.blz_line.specs.FileNames.{naming_of, files_of}

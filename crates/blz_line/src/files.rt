@@ -1,20 +1,10 @@
 //! The files that rows name.
-ghost use Rattle.std.specs.Prelude.{◌≡◌, ◌∷◌, [], slice_get, Option};
-ghost use Rattle.std.specs.Option.{option_map};
-ghost use Rattle.blz_error.specs.declared.kind.ErrorKind.TheVariants.{InvalidDwarf};
-ghost use Rattle.blz_model.specs.Part.{Gives, or_mark};
-ghost use Rattle.blz_line.specs.Tables.{copies};
-ghost use Rattle.blz_line.specs.FileNames.{at_front, directory_path, file_in, file_of, all_files, nowhere, unit_file, file_zero, files_of, maybe_text, directory_text, file_text};
-ghost use Rattle.blz_line.specs.NamingView.{naming_view};
+ghost use Rattle.std.specs.Prelude.{◌≡◌, slice_get};
+ghost use Rattle.blz_line.specs.FileNames.{at_front, maybe_text, file_text};
 
-use crate::broken::broken;
-use crate::paths::FileEntry;
-use crate::string_stub::attr_string;
 use crate::table::Table;
 use blz_bytes::DirPath;
-use blz_entry::{AttrValue, Sections, StrPlace, Texts, UnitHeader, UnitRoot};
-use blz_error::Error;
-use std::alloc::Global;
+use blz_entry::{StrPlace, Texts};
 use std::marker::Model;
 
 /// Where the parts of a file's name stand; the text of a part that is none is empty.
@@ -28,7 +18,7 @@ pub struct FilePlaces {
 }
 
 /// An empty file in an empty directory.
-const NOWHERE: FilePlaces = FilePlaces {
+pub const NOWHERE: FilePlaces = FilePlaces {
     comp_dir: None,
     directory: None,
     name: None,
@@ -54,6 +44,13 @@ impl Model for Files {
 }
 
 impl Files {
+    /// Files whose table may begin behind file 0.
+    pub fn new(zero: Option<FilePlaces>, table: Table<FilePlaces>) -> Files
+        ensures { result ≡ at_front zero table }
+    {
+        Files { zero, table }
+    }
+
     /// The file of a number.
     pub fn get(&self, number: u64) -> Option<FilePlaces>
         ensures { result ≡ slice_get self.now number }
@@ -91,130 +88,4 @@ pub fn file_text<'b>(texts: &Texts<'b>, file: &FilePlaces) -> (DirPath<'b>, &'b 
         None => DirPath::new(comp_dir),
     };
     (dir, maybe_text(texts, file.name))
-}
-
-/// What the names of a table's files go by.
-#[derive(Clone, Copy)]
-pub struct Namer<'a, 's, 'b> {
-    pub sections: &'a Sections<'s, 'b>,
-    pub unit: &'a UnitHeader,
-    pub root: &'a UnitRoot,
-    pub version: u16,
-    pub directories: &'a Table<FileEntry>,
-}
-
-impl Namer<'_, '_, '_> {
-    fn directory_path(&self, number: u64) -> Option<AttrValue>
-        ensures { result ≡ directory_path (naming_view self.now) number }
-    {
-        if number == 0 {
-            return None;
-        }
-        let at = if self.version <= 4 {
-            number - 1
-        } else {
-            number
-        };
-        match self.directories.get(at) {
-            Some(entry) => Some(entry.path),
-            None => None,
-        }
-    }
-
-    fn string_at(&self, value: AttrValue) -> Option<StrPlace>
-        ensures { result ≡ (naming_view self.now).string_at value }
-    {
-        attr_string(self.sections, self.unit, self.root, value)
-    }
-
-    #[tactic(auto, unfolding(crate::specs::FileNames::file_of, crate::specs::FileNames::file_in))]
-    fn file_of(&self, entry: FileEntry) -> Option<FilePlaces>
-        ensures { result ≡ file_of (naming_view self.now) entry }
-    {
-        let name = self.string_at(entry.path)?;
-        let directory = match self.directory_path(entry.directory) {
-            Some(path) => Some(self.string_at(path)?),
-            None => None,
-        };
-        Some(FilePlaces {
-            comp_dir: self.root.comp_dir,
-            directory,
-            name: Some(name),
-        })
-    }
-
-    /// The file of each of some equal entries.
-    fn equal_files(
-        &self,
-        alloc: Global,
-        repeated: Option<(u64, FileEntry)>,
-    ) -> Result<Table<FilePlaces>, Error>
-        ensures { Gives (λ t. t) result (or_mark (all_files (naming_view self.now) (copies repeated)) InvalidDwarf) }
-    {
-        let Some((count, entry)) = repeated else {
-            return Ok(Table::new(alloc));
-        };
-        if count == 0 {
-            return Ok(Table::new(alloc));
-        }
-        let Some(file) = self.file_of(entry) else {
-            return Err(broken());
-        };
-        Ok(Table::of_equal(alloc, count, file))
-    }
-
-    /// The file of each entry.
-    fn all_files(
-        &self,
-        alloc: Global,
-        entries: &Table<FileEntry>,
-    ) -> Result<Table<FilePlaces>, Error>
-        ensures { Gives (λ t. t) result (or_mark (all_files (naming_view self.now) entries.now) InvalidDwarf) }
-    {
-        let (repeated, listed) = entries.parts();
-        let mut files = self.equal_files(alloc, repeated)?;
-        for entry in listed {
-            let Some(file) = self.file_of(*entry) else {
-                return Err(broken());
-            };
-            files.push(file)?;
-        }
-        Ok(files)
-    }
-
-    fn file_zero(&self, entries: &Table<FileEntry>) -> Option<FilePlaces>
-        ensures { result ≡ file_zero (naming_view self.now) entries.now }
-    {
-        if self.version <= 4 {
-            return Some(unit_file(self.root));
-        }
-        match entries.get(0) {
-            Some(_) => None,
-            None => Some(NOWHERE),
-        }
-    }
-
-    /// The files by their numbers; InvalidDwarf where a path or a directory cannot be read.
-    #[tactic(auto, unfolding(crate::specs::FileNames::files_of))]
-    pub fn files_of(&self, alloc: Global, entries: &Table<FileEntry>) -> Result<Files, Error>
-        ensures { Gives (λ f. f) result (or_mark (files_of (naming_view self.now) entries.now) InvalidDwarf) }
-    {
-        let table = self.all_files(alloc, entries)?;
-        let zero = self.file_zero(entries);
-        Ok(Files { zero, table })
-    }
-}
-
-/// The unit's own file.
-fn unit_file(root: &UnitRoot) -> FilePlaces
-    ensures { result ≡ unit_file root.now.comp_dir root.now.name }
-{
-    match root.name {
-        None => NOWHERE,
-        Some(name) => FilePlaces {
-            comp_dir: root.comp_dir,
-            directory: None,
-            name: Some(name),
-        },
-    }
 }

@@ -10,7 +10,7 @@ use crate::paths::{FileEntry, Paths};
 use crate::table::Table;
 use blz_bytes::{u8_at, uleb_at};
 use blz_entry::{AttrValue, Encoding, Section, StrPart, form_value};
-use blz_error::Error;
+use blz_error::Result;
 use std::alloc::Global;
 
 /// What a value of each entry means, and how it is read (DWARF 5 section 6.2.4.1).
@@ -40,7 +40,7 @@ fn formats_from(
     count: u8,
     bytes: &[u8],
     at: usize,
-) -> Result<(Vec<EntryFormat>, usize), Error>
+) -> Result<(Vec<EntryFormat>, usize)>
     ensures { Gives (λ r. (r.0.items, r.1)) result (or_mark (formats_in count [] bytes.now at) InvalidDwarf) }
 {
     let mut formats = Vec::new(alloc);
@@ -57,7 +57,7 @@ fn formats_from(
 
 /// The formats of a table, and the place behind them.
 #[tactic(auto, unfolding(crate::specs::Formats::formats_at))]
-fn formats_at(alloc: Global, bytes: &[u8], at: usize) -> Result<(Vec<EntryFormat>, usize), Error>
+fn formats_at(alloc: Global, bytes: &[u8], at: usize) -> Result<(Vec<EntryFormat>, usize)>
     ensures { Gives (λ r. (r.0.items, r.1)) result (or_mark (formats_at bytes.now at) InvalidDwarf) }
 {
     let Some((count, next)) = u8_at(bytes, at) else {
@@ -121,7 +121,7 @@ fn entries_at(
     formats: &[EntryFormat],
     count: u64,
     at: usize,
-) -> Result<(Table<FileEntry>, usize), Error>
+) -> Result<(Table<FileEntry>, usize)>
     ensures { Gives (λ r. r) result (or_mark (entries_in encoding (section_view section.now) formats.now count [] at) InvalidDwarf) }
 {
     let mut table = Table::new(alloc);
@@ -145,7 +145,7 @@ fn some_entries_at(
     formats: &[EntryFormat],
     count: u64,
     at: usize,
-) -> Result<(Table<FileEntry>, usize), Error>
+) -> Result<(Table<FileEntry>, usize)>
     requires { 0 < count }
     ensures { Gives (λ r. r) result (or_mark (entries_in encoding (section_view section.now) formats.now count [] at) InvalidDwarf) }
 {
@@ -174,7 +174,7 @@ fn formatted_at(
     encoding: Encoding,
     section: &Section<'_, '_>,
     at: usize,
-) -> Result<(Table<FileEntry>, usize), Error>
+) -> Result<(Table<FileEntry>, usize)>
     ensures { Gives (λ r. r) result (or_mark (formatted_at encoding (section_view section.now) at) InvalidDwarf) }
 {
     let (formats, next) = formats_at(alloc, section.bytes, at)?;
@@ -197,7 +197,7 @@ pub fn formatted_paths(
     encoding: Encoding,
     section: &Section<'_, '_>,
     at: usize,
-) -> Result<Paths, Error>
+) -> Result<Paths>
     ensures { Gives (λ r. r) result (or_mark (formatted_paths encoding (section_view section.now) at) InvalidDwarf) }
 {
     let (directories, next) = formatted_at(alloc, encoding, section, at)?;

@@ -8,14 +8,13 @@ ghost use Rattle.blz_line.specs.HeaderFacts.{IsInside, IsReady};
 ghost use Rattle.blz_line.specs.UnitLines.{counts_of};
 
 use crate::broken::broken;
-use crate::cut::cut;
 use crate::formats::formatted_paths;
 use crate::paths::{FileEntry, Paths, listed_paths};
 use crate::rules::Rules;
 use crate::table::Table;
 use blz_bytes::{piece_at, u8_at, u16_at};
-use blz_entry::{Encoding, Section, Sections, Width, extent_at, fixed_at};
-use blz_error::Error;
+use blz_entry::{Encoding, Section, Sections, Width, cut, extent_at, fixed_at};
+use blz_error::Result;
 use std::alloc::Global;
 
 /// The header of a line table, with its tables of directories and files (DWARF 5 section 6.2.4).
@@ -188,7 +187,7 @@ fn paths_at(
     encoding: Encoding,
     section: &Section<'_, '_>,
     at: usize,
-) -> Result<Paths, Error>
+) -> Result<Paths>
     ensures { Gives (λ p. p) result (or_mark (paths_at encoding (section_view section.now) at) InvalidDwarf) }
 {
     if encoding.version == 5 {
@@ -207,7 +206,7 @@ fn fields_at(
     end: usize,
     section: &Section<'_, '_>,
     at: usize,
-) -> Result<LineHeader, Error>
+) -> Result<LineHeader>
     ensures value { Gives (λ h. h) result (or_mark (fields_at encoding program end (section_view section.now) at) InvalidDwarf) }
     ensures ready { IfOk result (λ h. IsReady (rules_of h)) }
     ensures places { IfOk result (λ h. (h.program ≡ program) × (h.end ≡ end) × (h.counts + (h.opcode_base - 1) ≤ length section.now.bytes.now)) }
@@ -242,7 +241,7 @@ pub(crate) fn header_at(
     section: &Section<'_, '_>,
     at: usize,
     address_size: u8,
-) -> Result<LineHeader, Error>
+) -> Result<LineHeader>
     ensures value { Gives (λ h. h) result (or_mark (header_at (section_view section.now) at address_size) InvalidDwarf) }
     ensures ready { IfOk result (λ h. IsReady (rules_of h)) }
     ensures inside { IfOk result (λ h. IsInside h section.now.bytes.now) }
@@ -269,7 +268,7 @@ impl LineHeader {
         sections: &Sections<'_, '_>,
         at: u64,
         address_size: u8,
-    ) -> Result<LineHeader, Error>
+    ) -> Result<LineHeader>
         ensures { Gives (λ h. h) result (or_mark (header_at (section_view sections.now.line) at address_size) InvalidDwarf) }
     {
         header_at(alloc, &sections.line, at as usize, address_size)

@@ -4,12 +4,12 @@
 
 mod best;
 mod broken;
-mod cut;
 mod files;
 mod formats;
 mod header;
 mod lines;
 mod lookup;
+mod naming;
 mod opcode;
 mod order;
 mod paths;
@@ -17,9 +17,11 @@ mod program;
 mod registers;
 mod row;
 mod rules;
-mod string_stub;
 mod table;
 
 pub use header::LineHeader;
 pub use lines::{Lines, Location};
 pub use row::{LineRow, LineSequence};
+
+#[cfg(test)]
+mod tests;

@@ -14,16 +14,16 @@ ghost use Rattle.blz_line.specs.RowOrder.{AreRising};
 ghost use Rattle.blz_line.specs.UnitLines.{LineTable, OrderedLines, program_of, table_of, table_at, lines_of};
 
 use crate::broken::broken;
-use crate::cut::cut;
-use crate::files::{FilePlaces, Files, Namer, file_text};
+use crate::files::{Files, file_text};
 use crate::header::{LineHeader, header_at};
 use crate::lookup::{row_at, scan, spans_of};
+use crate::naming::Namer;
 use crate::order::{Ordered, first_places, in_order, keys_of, search};
 use crate::program::{Machine, run};
 use crate::row::{LineRow, LineSequence};
 use blz_bytes::{DirPath, Orders, check_pairs};
-use blz_entry::{Sections, Span, Texts, UnitHeader, UnitRoot};
-use blz_error::Error;
+use blz_entry::{Sections, Texts, UnitHeader, UnitRoot, cut};
+use blz_error::Result;
 use std::alloc::{AllocError, Global};
 use std::marker::Model;
 
@@ -76,7 +76,7 @@ fn table_of(
     unit: &UnitHeader,
     root: &UnitRoot,
     header: LineHeader,
-) -> Result<Unordered, Error>
+) -> Result<Unordered>
     requires ready { IsReady (rules_of header) }
     requires inside { IsInside header sections.now.line.bytes.now }
     ensures value { Gives table_view result (or_mark (table_of sections.now unit.now root.now header) InvalidDwarf) }
@@ -109,7 +109,7 @@ fn table_at(
     unit: &UnitHeader,
     root: &UnitRoot,
     at: u64,
-) -> Result<Unordered, Error>
+) -> Result<Unordered>
     ensures value { Gives table_view result (or_mark (table_at sections.now unit.now root.now at) InvalidDwarf) }
     ensures rising { IfOk result (λ t. AreRising (table_view t).sequences) }
 {
@@ -119,7 +119,11 @@ fn table_at(
 
 impl Lines {
     /// Asks for an order of the sequences, and keeps it where it passes the check.
-    fn new<O: Orders>(alloc: Global, orders: &mut O, table: Unordered) -> Result<Lines, AllocError>
+    fn new<O: Orders>(
+        alloc: Global,
+        orders: &mut O,
+        table: Unordered,
+    ) -> std::result::Result<Lines, AllocError>
         requires { AreRising (table_view table).sequences }
         ensures table { IfOk result (λ l. l.table ≡ table_view table) }
         ensures accepted { IfOk result (λ l. IsAccepted (O.pair_places orders.old) (spans_of l.table.sequences) l.ordered) }
@@ -149,7 +153,7 @@ impl Lines {
         sections: &Sections<'_, '_>,
         header: &UnitHeader,
         root: &UnitRoot,
-    ) -> Result<Option<Lines>, Error>
+    ) -> Result<Option<Lines>>
         ensures value { Gives (λ lines. option_map (λ (l : OrderedLines). l.table) lines) result (lines_of sections.now header.now root.now) }
         ensures accepted { IfOk result (λ lines. IfSome lines (λ (l : OrderedLines). IsAccepted (O.pair_places orders.old) (spans_of l.table.sequences) l.ordered)) }
         ensures pairs_stay { O.pair_places orders.new ≡ O.pair_places orders.old }
@@ -201,11 +205,7 @@ impl Lines {
     /// and begins last; None where no sequence covers it. InvalidDwarf exactly where the row's file is not in the table.
     /// The texts are those of the sections that were parsed.
     #[tactic(auto, unfolding(crate::specs::Lookups::row_site))]
-    pub fn find_location<'b>(
-        &self,
-        texts: &Texts<'b>,
-        probe: u64,
-    ) -> Result<Option<Location<'b>>, Error>
+    pub fn find_location<'b>(&self, texts: &Texts<'b>, probe: u64) -> Result<Option<Location<'b>>>
         ensures { Exactly (λ o. option_map location_view o) result (line_at texts.now self.now.table probe) }
     {
         let Some(row) = self.row_in(probe) else {

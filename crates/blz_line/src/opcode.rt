@@ -3,28 +3,37 @@ ghost use Rattle.std.specs.Prelude.{◌≡◌, ◌≤◌, ◌<◌, ◌+◌, leng
 ghost use Rattle.blz_entry.specs.Contents.{section_view};
 ghost use Rattle.blz_line.specs.Opcodes.{ulebs_passed, extended_op, extended_at, standard_at, op_at};
 
-use crate::cut::cut;
 use crate::paths::{FileEntry, file_at};
 use crate::rules::Rules;
 use blz_bytes::{sleb_at, u8_at, u16_at, uleb_at};
-use blz_entry::{Section, address_at};
+use blz_entry::{Section, address_at, cut};
 
 /// An opcode with its operands (DWARF 5 section 6.2.5).
 #[derive(Clone, Copy)]
 pub enum Op {
     /// A special opcode, by its distance from the first one.
     Special(u8),
+    /// `DW_LNS_copy`
     Copy,
+    /// `DW_LNS_advance_pc`
     AdvancePc(u64),
+    /// `DW_LNS_advance_line`
     AdvanceLine(i64),
+    /// `DW_LNS_set_file`
     SetFile(u64),
+    /// `DW_LNS_set_column`
     SetColumn(u64),
     /// One that changes nothing that rows are made of.
     Nothing,
+    /// `DW_LNS_const_add_pc`
     ConstAddPc,
+    /// `DW_LNS_fixed_advance_pc`
     FixedAdvancePc(u16),
+    /// `DW_LNE_end_sequence`
     EndSequence,
+    /// `DW_LNE_set_address`
     SetAddress(u64),
+    /// `DW_LNE_define_file`
     DefineFile(FileEntry),
 }
 

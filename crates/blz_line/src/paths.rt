@@ -8,7 +8,7 @@ use crate::broken::broken;
 use crate::table::Table;
 use blz_bytes::{uleb_at, zero_ended_at};
 use blz_entry::{AttrValue, StrPart, StrPlace};
-use blz_error::Error;
+use blz_error::Result;
 use std::alloc::Global;
 
 /// A directory or a file as its table spells it (DWARF 5 section 6.2.4.1).
@@ -82,7 +82,7 @@ fn listed_at(
     kind: Kind,
     bytes: &[u8],
     at: usize,
-) -> Result<(Table<FileEntry>, usize), Error>
+) -> Result<(Table<FileEntry>, usize)>
     ensures { Gives (λ r. r) result (or_mark (listed_at kind bytes.now at) InvalidDwarf) }
 {
     let mut table = Table::new(alloc);
@@ -105,7 +105,7 @@ fn listed_at(
 
 /// The tables of versions 2 to 4.
 #[tactic(auto, unfolding(crate::specs::PathTables::listed_paths))]
-pub fn listed_paths(alloc: Global, bytes: &[u8], at: usize) -> Result<Paths, Error>
+pub fn listed_paths(alloc: Global, bytes: &[u8], at: usize) -> Result<Paths>
     ensures { Gives (λ r. r) result (or_mark (listed_paths bytes.now at) InvalidDwarf) }
 {
     let (directories, next) = listed_at(alloc, Kind::Directories, bytes, at)?;

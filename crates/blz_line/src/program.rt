@@ -13,7 +13,7 @@ use crate::row::{LineRow, LineSequence};
 use crate::rules::Rules;
 use crate::table::Table;
 use blz_entry::Section;
-use blz_error::Error;
+use blz_error::Result;
 use std::alloc::{AllocError, Global};
 use std::marker::Model;
 use std::mem;
@@ -28,7 +28,7 @@ fn last_is_at(rows: &[LineRow], address: u64) -> bool
 }
 
 #[tactic(auto, unfolding(crate::specs::Program::with_row))]
-fn put_row(rows: &mut Vec<LineRow>, row: LineRow) -> Result<(), AllocError>
+fn put_row(rows: &mut Vec<LineRow>, row: LineRow) -> std::result::Result<(), AllocError>
     ensures { IfOk result (λ _. rows.new.items ≡ with_row rows.old.items row) }
 {
     if last_is_at(rows, row.address) {
@@ -88,7 +88,7 @@ impl Machine {
     }
 
     #[tactic(auto, unfolding(crate::specs::Program::step, crate::specs::Program::ended))]
-    fn step(&mut self, alloc: Global, rules: Rules, op: Op) -> Result<(), Error>
+    fn step(&mut self, alloc: Global, rules: Rules, op: Op) -> Result<()>
         requires ops { 0 < rules.max_ops }
         requires range { 0 < rules.line_range }
         ensures { MatchResult result (λ _. step rules self.old op ≡ Some self.new) (λ e. Fails e.kind (or_mark (step rules self.old op) InvalidDwarf)) }
@@ -111,7 +111,7 @@ impl Machine {
     }
 
     #[tactic(auto, unfolding(crate::specs::Program::ended))]
-    fn end(&mut self, alloc: Global) -> Result<(), AllocError>
+    fn end(&mut self, alloc: Global) -> std::result::Result<(), AllocError>
         ensures { IfOk result (λ _. self.new ≡ ended self.old) }
     {
         let rows = mem::replace(&mut self.rows, Vec::new(alloc));
@@ -133,7 +133,7 @@ pub fn run(
     section: &Section<'_, '_>,
     at: usize,
     machine: &mut Machine,
-) -> Result<(), Error>
+) -> Result<()>
     requires within { at ≤ length section.now.bytes.now }
     requires counted { rules.opcode_base ≤ length counts.now + 1 }
     requires ops { 0 < rules.max_ops }
@@ -141,6 +141,7 @@ pub fn run(
     ensures { MatchResult result (λ _. run_from rules counts.now (section_view section.now) machine.old at ≡ Some machine.new) (λ e. Fails e.kind (or_mark (run_from rules counts.now (section_view section.now) machine.old at) InvalidDwarf)) }
 {
     let mut place = at;
+    // an opcode takes a byte at least, so the bytes end first
     for _ in 0..section.bytes.len() + 1 {
         if place >= section.bytes.len() {
             return Ok(());

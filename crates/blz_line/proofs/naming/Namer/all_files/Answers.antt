@@ -3,7 +3,7 @@ use Rattle.std.proofs.lemmas.Result.{err_from_is_err_and}
 use Rattle.blz_line.proofs.ProgramSteps.{fails_none}
 use Rattle.blz_line.proofs.TableSteps.{or_mark_some}
 use Rattle.blz_line.proofs.AllFiles.{files_start, files_fail, files_more, files_none, files_end}
-use Rattle.blz_line.proofs.files.Namer.all_files.Goals as goal
+use Rattle.blz_line.proofs.naming.Namer.all_files.Goals as goal
 
 pub returns-in_err-files : goal.returns-in_err-files
 returns-in_err-files c =

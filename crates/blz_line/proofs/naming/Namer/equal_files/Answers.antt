@@ -2,7 +2,7 @@ use Rattle.std.proofs.Common.{◌-◌, sym, arith}
 use Rattle.blz_line.proofs.ProgramSteps.{fails_none}
 use Rattle.blz_line.proofs.TableSteps.{or_mark_some}
 use Rattle.blz_line.proofs.AllFiles.{all_nil, all_equal, none_equal}
-use Rattle.blz_line.proofs.files.Namer.equal_files.Goals as goal
+use Rattle.blz_line.proofs.naming.Namer.equal_files.Goals as goal
 
 pub returns-in_default : goal.returns-in_default
 returns-in_default c = rw (c.in_default.is, c.new.ensures) (or_mark_some _ _ (all_nil _))

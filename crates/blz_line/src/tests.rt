@@ -1,0 +1,238 @@
+//! Small line tables, with the rows that the standard or another reader gives for them.
+use crate::{LineHeader, Lines};
+use blz_bytes::{AsTheyStand, ByteOrder};
+use blz_elf::RelocationMap;
+use blz_entry::{
+    RangeAttributes, Section, Sections, StrPart, StrPlace, Texts, UnitHeader, UnitKind, UnitRoot,
+};
+use blz_error::{ErrorKind, Result};
+use std::alloc::Global;
+
+/// A header of version 4 before a program of 19 bytes: minimum length 1, one operation, lines from -5 in a range of 14,
+/// special opcodes from 13, no directory, and the file `a.c`.
+const HEADER: &[u8] =
+    b"\x34\0\0\0\x04\0\x1b\0\0\0\x01\x01\x01\xfb\x0e\x0d\0\x01\x01\x01\x01\0\0\0\x01\0\0\x01\0a.c\0\0\0\0\0";
+
+const BIG_HEADER: &[u8] =
+    b"\0\0\0\x34\0\x04\0\0\0\x1b\x01\x01\x01\xfb\x0e\x0d\0\x01\x01\x01\x01\0\0\0\x01\0\0\x01\0a.c\0\0\0\0\0";
+
+/// Address 0x1000, special opcode 0x4b, const_add_pc, copy, advance_pc 3, end.
+const PROGRAM: &[u8] = b"\0\x09\x02\0\x10\0\0\0\0\0\0\x4b\x08\x01\x02\x03\0\x01\x01";
+
+const BIG_PROGRAM: &[u8] = b"\0\x09\x02\0\0\0\0\0\0\x10\0\x4b\x08\x01\x02\x03\0\x01\x01";
+
+/// Address 0x1000, file 9, copy, advance_pc 8, end.
+const OTHER_FILE: &[u8] = b"\0\x09\x02\0\x10\0\0\0\0\0\0\x04\x09\x01\x02\x08\0\x01\x01";
+
+/// What clang 14 writes in version 2 and in version 5 for a function of seven lines.
+const VERSION_2: &[u8] =
+    b"\x40\0\0\0\x02\0\x1a\0\0\0\x01\x01\xfb\x0e\x0d\0\x01\x01\x01\x01\0\0\0\x01\0\0\x01\0a.c\0\0\0\0\0\
+    \0\x09\x02\0\x10\0\0\0\0\0\0\x13\x05\x0f\x0a\x13\x05\x0b\x3d\x05\x09\x06\x66\x05\x05\x06\x31\x02\x01\0\x01\x01";
+
+const VERSION_5: &[u8] =
+    b"\x61\0\0\0\x05\0\x08\0\x37\0\0\0\x01\x01\x01\xfb\x0e\x0d\0\x01\x01\x01\x01\0\0\0\x01\0\0\x01\
+    \x01\x01\x1f\x01\0\0\0\0\x03\x01\x1f\x02\x0f\x05\x1e\x01\x05\0\0\0\0\x4e\xd2\x70\x02\xc0\x64\x58\x74\xfe\x99\xbb\x7f\xed\x97\xeb\xbb\x04\0\
+    \0\x09\x02\0\x10\0\0\0\0\0\0\x13\x05\x0f\x0a\x13\x05\x0b\x3d\x05\x09\x06\x66\x05\x05\x06\x31\x02\x01\0\x01\x01";
+
+const LINE_STRINGS: &[u8] = b"/src\0a.c\0";
+
+/// A table of version 5 with as many files as a number can say, none of which has a byte.
+const ENDLESS: &[u8] =
+    b"\x29\0\0\0\x05\0\x08\0\x21\0\0\0\x01\x01\x01\xfb\x0e\x0d\0\x01\x01\x01\x01\0\0\0\x01\0\0\x01\
+    \0\0\x01\x01\x19\xff\xff\xff\xff\xff\xff\xff\xff\xff\x01";
+
+fn section<'s, 'b>(bytes: &'b [u8], moves: &'s RelocationMap, order: ByteOrder) -> Section<'s, 'b> {
+    Section {
+        bytes,
+        moves,
+        order,
+    }
+}
+
+/// Sections of which all but the lines and their strings are empty.
+fn sections<'s, 'b>(
+    line: &'b [u8],
+    moves: &'s RelocationMap,
+    order: ByteOrder,
+) -> Sections<'s, 'b> {
+    let empty = section(b"", moves, order);
+    Sections {
+        abbrev: empty,
+        addr: empty,
+        aranges: empty,
+        info: empty,
+        line: section(line, moves, order),
+        line_str: section(LINE_STRINGS, moves, order),
+        ranges: empty,
+        rnglists: empty,
+        strings: empty,
+        str_offsets: empty,
+        sup_strings: None,
+        shift: 0,
+        split: false,
+        sup: false,
+    }
+}
+
+fn texts<'b>(line: &'b [u8]) -> Texts<'b> {
+    Texts {
+        info: b"",
+        line,
+        strings: b"",
+        line_str: LINE_STRINGS,
+        sup_strings: b"",
+        pack_info: b"",
+        pack_strings: b"",
+        sup_info: b"",
+        sup_line_str: b"",
+    }
+}
+
+fn unit() -> UnitHeader {
+    UnitHeader {
+        start: 0,
+        entries: 0,
+        end: 0,
+        version: 4,
+        wide: false,
+        address_size: 8,
+        kind: UnitKind::Compile,
+        abbrev: 0,
+        id: 0,
+    }
+}
+
+/// A unit in `/src` whose line program begins at 0.
+fn root() -> UnitRoot {
+    UnitRoot {
+        name: None,
+        comp_dir: Some(StrPlace {
+            part: StrPart::LineStr,
+            start: 0,
+            len: 4,
+        }),
+        line: Some(0),
+        low_pc: 0,
+        language: None,
+        str_offsets_base: 0,
+        addr_base: 0,
+        rnglists_base: 0,
+        ranges: RangeAttributes {
+            low_pc: None,
+            high_pc: None,
+            size: None,
+            ranges_offset: None,
+        },
+    }
+}
+
+fn lines(alloc: Global, line: &[u8], order: ByteOrder) -> Result<Option<Lines>> {
+    let moves = RelocationMap::new(alloc);
+    Lines::parse(
+        alloc,
+        &mut AsTheyStand,
+        &sections(line, &moves, order),
+        &unit(),
+        &root(),
+    )
+}
+
+/// The line and the column of an address.
+fn place(lines: &Lines, line: &[u8], probe: u64) -> Result<Option<(Option<u32>, Option<u32>)>> {
+    match lines.find_location(&texts(line), probe)? {
+        Some(location) => Ok(Some((location.line, location.column))),
+        None => Ok(None),
+    }
+}
+
+fn joined(alloc: Global, header: &[u8], program: &[u8]) -> Result<Vec<u8>> {
+    let mut table = Vec::new(alloc);
+    table.extend_from_slice(header)?;
+    table.extend_from_slice(program)?;
+    Ok(table)
+}
+
+#[test]
+fn opcodes_make_rows_in_both_byte_orders(rt: HostRuntime) -> Result<()> {
+    let alloc = rt.alloc();
+    for (header, program, order) in [
+        (HEADER, PROGRAM, ByteOrder::Little),
+        (BIG_HEADER, BIG_PROGRAM, ByteOrder::Big),
+    ] {
+        let table = joined(alloc, header, program)?;
+        let Some(lines) = lines(alloc, &table, order)? else {
+            assert!(rt; false, "no lines");
+            return Ok(());
+        };
+        for sequence in lines.sequences() {
+            assert_eq!(rt; sequence.start, 0x1004);
+            assert_eq!(rt; sequence.end, 0x1018);
+            for (row, address) in sequence.rows().iter().zip(&[0x1004u64, 0x1015]) {
+                assert_eq!(rt; row.address, *address);
+                assert_eq!(rt; row.line, 2);
+                assert_eq!(rt; row.column, 0);
+            }
+            assert_eq!(rt; sequence.rows().len(), 2);
+        }
+        assert_eq!(rt; lines.sequences().len(), 1);
+        assert!(rt; place(&lines, &table, 0x1010)? == Some((Some(2), Some(0))));
+        assert!(rt; place(&lines, &table, 0x1018)? == None);
+    }
+    Ok(())
+}
+
+#[test]
+fn a_row_of_a_file_outside_the_table_is_refused(rt: HostRuntime) -> Result<()> {
+    let alloc = rt.alloc();
+    let table = joined(alloc, HEADER, OTHER_FILE)?;
+    if let Some(lines) = lines(alloc, &table, ByteOrder::Little)? {
+        match place(&lines, &table, 0x1000) {
+            Ok(_) => assert!(rt; false, "a file"),
+            Err(e) => assert!(rt; e.kind() == ErrorKind::InvalidDwarf),
+        }
+        assert!(rt; place(&lines, &table, 0x1008)? == None);
+    }
+    Ok(())
+}
+
+#[test]
+fn the_rows_of_a_compiler(rt: HostRuntime) -> Result<()> {
+    let alloc = rt.alloc();
+    for table in [VERSION_2, VERSION_5] {
+        if let Some(lines) = lines(alloc, table, ByteOrder::Little)? {
+            for (probe, line, column) in [
+                (0x1000u64, 3u32, 15u32),
+                (0x1008, 4, 11),
+                (0x1009, 4, 9),
+                (0x100b, 7, 5),
+            ] {
+                assert!(rt;
+                    place(&lines, table, probe)? == Some((Some(line), Some(column))),
+                    "at {probe}"
+                );
+            }
+            assert!(rt; place(&lines, table, 0x100c)? == None);
+            if let Some(location) = lines.find_location(&texts(table), 0x1000)? {
+                let mut dir = Vec::new(alloc);
+                location.dir.write_to(&mut dir)?;
+                assert!(rt; dir.as_slice() == b"/src".as_slice());
+                assert!(rt; location.file == b"a.c".as_slice());
+            }
+        }
+    }
+    Ok(())
+}
+
+#[test]
+fn a_count_that_no_byte_backs(rt: HostRuntime) -> Result<()> {
+    let alloc = rt.alloc();
+    let moves = RelocationMap::new(alloc);
+    let sections = sections(ENDLESS, &moves, ByteOrder::Little);
+    let header = LineHeader::parse(alloc, &sections, 0, 8)?;
+    assert_eq!(rt; header.version, 5);
+    match lines(alloc, ENDLESS, ByteOrder::Little) {
+        Ok(_) => assert!(rt; false, "a file"),
+        Err(e) => assert!(rt; e.kind() == ErrorKind::InvalidDwarf),
+    }
+    Ok(())
+}
