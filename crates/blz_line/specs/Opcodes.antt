@@ -3,8 +3,7 @@ use Rattle.std.specs.Prelude.{ℕ, zero, suc, ◌+◌, ◌-◌, ◌||◌, ◌&&�
 use Rattle.blz_model.specs.Reads.{Read, ◌>>=◌, number}
 use Rattle.blz_model.specs.LebNumbers.{uleb, sleb}
 use Rattle.blz_bytes.specs.Pieces.{byte}
-use Rattle.blz_entry.specs.Contents.{Contents, address_at}
-use Rattle.blz_entry.specs.Headers.{cut}
+use Rattle.blz_entry.specs.Contents.{Contents, address_at, cut}
 use Rattle.blz_line.specs.declared.rules.Rules.{Rules}
 use Rattle.blz_line.specs.PathTables.{file_at}
 use Rattle.blz_line.specs.declared.opcode.Op.{Op}
