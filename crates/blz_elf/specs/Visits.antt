@@ -8,9 +8,10 @@ abbrev pub is_break : Flow → Bool
 is_break Continue = false
 is_break Break = true
 
--- where the infos shown are told, there is one more, unless they are told no longer
+-- where the infos shown are told, there is one more, unless they are told no longer, and then never again
 abbrev pub ShowsOne : Option (List Info) → Option (List Info) → Info → Type 0
-ShowsOne None after info = ⊤
+ShowsOne None None info = ⊤
+ShowsOne None (Some more) info = ⊥
 ShowsOne (Some infos) None info = ⊤
 ShowsOne (Some infos) (Some more) info = more ≡ infos ++ info ∷ []
 

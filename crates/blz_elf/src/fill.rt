@@ -54,6 +54,25 @@ pub fn sort_table<O: Orders>(
     Ok(())
 }
 
+/// The same, by the image as it was read.
+pub fn sort_kept<O: Orders>(
+    alloc: Global,
+    orders: &mut O,
+    image: &Image<'_>,
+    kind: TableKind,
+    table: &mut Cache<Table>,
+) -> std::result::Result<(), AllocError>
+    requires { Kept (TableFits image.now.image) (table_view image.now.image) table.old (table_of kind image.now) }
+    ensures kept { Kept (TableFits image.now.image) (table_view image.now.image) table.new (table_of kind image.now) }
+    ensures filled { is_kept table.new ≡ is_kept table.old }
+    ensures before { is_sorted table.old ≡ true → is_sorted table.new ≡ true }
+{
+    if let Cache::Value(table) = table {
+        table.sort(alloc, orders, image.bytes())?;
+    }
+    Ok(())
+}
+
 /// The answer of a table that is kept, where it has one.
 #[tactic(auto, unfolding(crate::specs::SymbolRule::table_answer))]
 pub fn look<'b>(

@@ -21,6 +21,7 @@ mod relocating;
 mod relocation;
 mod section;
 mod segments;
+mod show;
 mod sorted;
 mod span;
 mod sym_info;

@@ -18,6 +18,7 @@ ghost use Rattle.blz_elf.specs.Views.{header_view};
 ghost use Rattle.blz_elf.specs.Frames.{FrameFits, frame_view};
 
 mod headers;
+mod listing;
 
 use crate::answer::Answer;
 use crate::fill::{fill, fill_relocations, fill_table, look, look_both, look_dynamic, sort_table};

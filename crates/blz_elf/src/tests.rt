@@ -1,5 +1,5 @@
 //! Symbols, names, segments and sections of small images, with the answers that the rules give by hand.
-use crate::{Answer, ElfParser, FindAddrOpts, FindSymOpts, Reason};
+use crate::{Answer, Collect, ElfParser, FindAddrOpts, FindSymOpts, Reason};
 use blz_bytes::{AsTheyStand, ByStdSort};
 use blz_error::{ErrorKind, Result};
 use blz_images::{ByteOrder, Class, Image, Section};
@@ -147,5 +147,27 @@ fn lists_the_symbols_of_a_name(rt: HostRuntime) -> Result<()> {
     }
     let none = parser.find_addr(alloc, &mut AsTheyStand, "C", &FindAddrOpts::default())?;
     assert_eq!(rt; none.len(), 0);
+    Ok(())
+}
+
+#[test]
+fn shows_symbols_until_the_visitor_breaks(rt: HostRuntime) -> Result<()> {
+    let alloc = rt.alloc();
+    let image = Image::elf64(alloc)
+        .symbol("A", 0, 100)?
+        .symbol("B", 10, 10)?
+        .dynamic_symbol("D", 0x140, 8)?
+        .bytes()?;
+    let mut parser = ElfParser::from_mem(alloc, &image, None);
+    for (stop_after, count) in [(None, 3usize), (Some(1usize), 1)] {
+        let mut collect = Collect::new(alloc, stop_after);
+        parser.for_each(
+            alloc,
+            &mut ByStdSort,
+            &FindAddrOpts::default(),
+            &mut collect,
+        )?;
+        assert_eq!(rt; collect.infos().len(), count);
+    }
     Ok(())
 }
