@@ -57,10 +57,10 @@ fn the_last_address_has_a_symbol_that_ends_past_it(rt: HostRuntime) -> Result<()
     let alloc = rt.alloc();
     let image = Image::elf64(alloc).symbol("S", u64::MAX - 15, 32)?.bytes()?;
     let answer = found(alloc, &image, u64::MAX)?;
-    assert_eq!(rt; answer.0, "S");
+    assert!(rt; answer.0 == "S");
     let empty = Image::elf64(alloc).bytes()?;
     let answer = found(alloc, &empty, 0)?;
-    assert_eq!(rt; answer.0, "no symbols");
+    assert!(rt; answer.0 == "no symbols");
     Ok(())
 }
 
@@ -72,9 +72,9 @@ fn a_dynamic_symbol_without_a_size_covers_its_value_alone(rt: HostRuntime) -> Re
         .dynamic_symbol("S", 0x40, 0)?
         .bytes()?;
     let answer = found(alloc, &image, 0x90)?;
-    assert_eq!(rt; answer.0, "unknown address");
+    assert!(rt; answer.0 == "unknown address");
     let answer = found(alloc, &image, 0x40)?;
-    assert_eq!(rt; answer.0, "S");
+    assert!(rt; answer.0 == "S");
     Ok(())
 }
 
