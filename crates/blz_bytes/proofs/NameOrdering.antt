@@ -25,7 +25,8 @@ level Less Less up down e = absurd cc
 level Less Equal up down e = absurd cc
 level Less Greater up down e = absurd cc
 
-both_ways : (a b : List ℕ) → is_gt (name_cmp a b) ≡ false → is_gt (name_cmp b a) ≡ false → name_cmp a b ≡ Equal
+-- names of which neither is above the other
+pub both_ways : (a b : List ℕ) → is_gt (name_cmp a b) ≡ false → is_gt (name_cmp b a) ≡ false → name_cmp a b ≡ Equal
 both_ways a b up down = level (name_cmp a b) (name_cmp b a) up down (nat_list_cmp_total.antisymm a b)
 
 across : (a b c : List ℕ) (p q r : ℕ) → TextBefore a p b q → TextBefore b q c r → TextBefore a p c r

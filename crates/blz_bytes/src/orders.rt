@@ -1,8 +1,11 @@
 //! Orders of a list, handed in by a caller.
 ghost use Rattle.std.specs.Prelude.{◌≡◌, List, ℕ, Option, Some, length};
+ghost use Rattle.blz_bytes.specs.NameOrder.{text_in};
 ghost use Rattle.blz_bytes.specs.ToldPlaces.{counting, TellsPlaces};
 ghost use Rattle.blz_bytes.specs.declared.orders.Key.{Key};
 ghost use Rattle.blz_bytes.specs.declared.orders.NameSpan.{NameSpan};
+
+use crate::piece_at;
 
 /// What a place of a list is sorted by, before the place itself.
 #[derive(Clone, Copy, Debug, PartialEq, Eq)]
@@ -20,6 +23,18 @@ pub struct NameSpan {
     pub start: usize,
     /// The number of bytes.
     pub len: usize,
+}
+
+impl NameSpan {
+    /// The bytes of the name in its table; a span that passes the table's end counts as empty.
+    pub fn text<'s>(&self, strs: &'s [u8]) -> &'s [u8]
+        ensures { result.now ≡ text_in strs.entry.now (Some self.now) }
+    {
+        match piece_at(strs, self.start, self.len) {
+            Some((name, _)) => name,
+            None => &[],
+        }
+    }
 }
 
 /// Puts the places of a list into an order. Nothing is assumed of what a slice holds afterwards: what comes back is

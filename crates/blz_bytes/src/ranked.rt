@@ -5,7 +5,7 @@ ghost use Rattle.blz_bytes.specs.NameOrder.{accepts_names, IsNameOrder, name_bef
 ghost use Rattle.blz_bytes.specs.PairOrder.{accepts, IsOrder, pair_before, is_before, key_at};
 ghost use Rattle.blz_bytes.specs.Rising.{puts_in_order, rises, follows};
 
-use crate::{Key, NameSpan, piece_at};
+use crate::{Key, NameSpan};
 use std::cmp::Ordering;
 
 trait Ranked {
@@ -55,10 +55,7 @@ pub(crate) fn name_of<'s>(strs: &'s [u8], names: &[NameSpan], place: usize) -> &
     ensures { result.now ≡ name_in strs.entry.now names.now place }
 {
     match names.get(place) {
-        Some(span) => match piece_at(strs, span.start, span.len) {
-            Some((name, _)) => name,
-            None => &[],
-        },
+        Some(span) => span.text(strs),
         None => &[],
     }
 }
