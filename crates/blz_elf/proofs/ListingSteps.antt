@@ -1,12 +1,11 @@
 -- A list that is shown one symbol after another.
-use Rattle.std.proofs.Common.{◌≡◌, ◌≢◌, ℕ, ◌+◌, ◌<◌, ◌≤◌, Bool, true, false, List, [], ◌∷◌, ◌++◌, length, get_or, drop, map, Option, Some, None, refl, sym, ap, ◌∙◌, append_assoc, length-append, arith}
+use Rattle.std.proofs.Common.{◌≡◌, ℕ, ◌+◌, ◌<◌, ◌≤◌, Bool, true, false, List, [], ◌∷◌, ◌++◌, length, get_or, drop, map, Some, None, refl, sym, ap, ◌∙◌, append_assoc, length-append, arith}
 use Rattle.std.proofs.lemmas.List.{append-nil, at_drop_more, at_drop_all}
 use Rattle.blz_error.specs.declared.kind.ErrorKind.{ErrorKind}
-use Rattle.blz_error.specs.declared.kind.ErrorKind.TheVariants.{OutOfMemory}
 use Rattle.blz_model.specs.Part.{Part, Good, Broken}
 use Rattle.blz_elf.specs.Infos.{Info}
 use Rattle.blz_elf.specs.Visits.{ShowsOne}
-use Rattle.blz_elf.specs.Listings.{Listing, one_before, broken_by, listing_of, Told, Shown, IsShown, Breaks, IsRefused}
+use Rattle.blz_elf.specs.Listings.{Listing, broken_by, listing_of, Told, Shown, IsShown, Breaks, IsRefused}
 use Rattle.blz_elf.proofs.ListingLemmas.{shown_none, shown_more}
 
 abbrev pub behind : List Info → Listing → Listing

@@ -1,10 +1,13 @@
 -- A text is what a search for the zero byte finds.
-use Rattle.std.proofs.Common.{◌≡◌, ℕ, zero, suc, ◌<◌, Bool, true, false, eqb, List, [], ◌∷◌, length, get_or, take, Option, Some, None, refl, arith}
+use Rattle.std.proofs.Common.{◌≡◌, ℕ, zero, suc, ◌+◌, ◌-◌, ◌<◌, ◌≤◌, Bool, true, false, cond, eqb, List, [], ◌∷◌, length, get_or, take, drop, Option, Some, None, refl, ap, ◌∙◌, arith, length-drop}
+use Rattle.std.specs.Option.{option_map}
 use Rattle.std.specs.Str.{is_utf8}
-use Rattle.std.proofs.lemmas.Bool.{false_from_ne_true}
+use Rattle.std.proofs.lemmas.Bool.{false_from_ne_true, le-leb}
 use Rattle.blz_error.specs.declared.kind.ErrorKind.TheVariants.{InvalidData, InvalidInput}
 use Rattle.blz_model.specs.Part.{Good, ◌>>=◌, or_mark, check}
 use Rattle.blz_model.specs.Texts.{c_string, text_at, name_at}
+use Rattle.blz_bytes.specs.declared.orders.NameSpan.{NameSpan}
+use Rattle.blz_bytes.specs.NameOrder.{text_in}
 
 pub c_string_found : (bytes : List ℕ) (k : ℕ) → k < length bytes → ((j : ℕ) → j < k → eqb (get_or bytes j 0) 0 ≡ true → ⊥) → eqb (get_or bytes k 0) 0 ≡ true → c_string bytes ≡ Some (take k bytes)
 c_string_found [] k lt none z = absurd (omega arith)
@@ -33,3 +36,31 @@ name_text table at name e = by (text_at table at) e
         utf8 : (t : Bool) → (check t InvalidData >>= λ u. Good text) ≡ Good name → Some text ≡ Some name
         utf8 true e = cc
         utf8 false e = absurd cc
+
+-- a text stands at the front of the bytes, and a zero behind it
+pub record Fronts (bytes text : List ℕ) : Type 0 where
+  pub shorter : length text < length bytes
+  pub is : take (length text) bytes ≡ text
+
+pub c_string_fronts : (bytes text : List ℕ) → c_string bytes ≡ Some text → Fronts bytes text
+c_string_fronts [] text e = absurd cc
+c_string_fronts (b ∷ bytes) text e = by (c_string_fronts bytes) (eqb b 0) e
+  where
+    more : ((u : List ℕ) → c_string bytes ≡ Some u → Fronts bytes u) → (o : Option (List ℕ)) → c_string bytes ≡ o → option_map (λ (u : List ℕ). b ∷ u) o ≡ Some text → Fronts (b ∷ bytes) text
+    more k None is f = absurd cc
+    more k (Some u) is f =
+        let t : b ∷ u ≡ text = cc in
+        let h = k u is in
+        rw (← t) (record { shorter = omega (arith, h.shorter); is = ap (λ (v : List ℕ). b ∷ v) h.is })
+
+    by : ((u : List ℕ) → c_string bytes ≡ Some u → Fronts bytes u) → (t : Bool) → cond t (Some []) (option_map (λ (u : List ℕ). b ∷ u) (c_string bytes)) ≡ Some text → Fronts (b ∷ bytes) text
+    by k true f = let t : [] ≡ text = cc in rw (← t) (record { shorter = omega arith; is = refl })
+    by k false f = more k (c_string bytes) refl f
+
+-- the span of a text that was found holds it
+pub span_of_text : (table text : List ℕ) (at : ℕ) (s : NameSpan) → text_at table at ≡ Some text → s.start ≡ at → s.len ≡ length text → text_in table (Some s) ≡ text
+span_of_text table text at s found start len =
+    let h = c_string_fronts (drop at table) text found in
+    let low : at + length text ≤ length table = omega (arith, h.shorter, length-drop at table) in
+    let n : at + length text - at ≡ length text = omega arith in
+    rw (start, len, le-leb (at + length text) (length table) low) (ap (λ (k : ℕ). take k (drop at table)) n ∙ h.is)

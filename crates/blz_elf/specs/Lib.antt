@@ -8,6 +8,7 @@ pub mod Segments
 pub mod SegmentViews
 pub mod NameRule
 pub mod NameSteps
+pub mod NameOrders
 pub mod Listings
 pub mod Relocations
 pub mod RelocationTables

@@ -7,7 +7,8 @@ use Rattle.blz_model.specs.Part.{Part, Good, Broken}
 use Rattle.blz_records.specs.declared.sym_type.SymType.{SymType}
 use Rattle.blz_elf.specs.Images.{Elf, elf_of}
 use Rattle.blz_elf.specs.Infos.{Info}
-use Rattle.blz_elf.specs.NameRule.{Named, is_of_type, static_list, dynamic_list, info_of}
+use Rattle.blz_elf.specs.NameRule.{Named, is_of_type, listed_names, info_of}
+use Rattle.blz_elf.specs.declared.question.TableKind.TheVariants.{Symtab, Dynsym}
 use Rattle.blz_elf.specs.declared.visit.Flow.{Flow}
 use Rattle.blz_elf.specs.declared.visit.Flow.TheVariants.{Continue, Break}
 
@@ -45,7 +46,7 @@ infos_of elf with_place named = listing_of (map (info_of elf None with_place) na
 
 -- the defined symbols of a type: those of `.symtab`, then those of `.dynsym` that it does not answer
 abbrev pub all_symbols : SymType → Bool → Elf → Listing
-all_symbols sym_type with_place elf = then_list (listing_if (infos_of elf with_place) (static_list elf (is_of_type sym_type))) (listing_if (infos_of elf with_place) (dynamic_list elf (is_of_type sym_type)))
+all_symbols sym_type with_place elf = then_list (listing_if (infos_of elf with_place) (listed_names Symtab elf (is_of_type sym_type))) (listing_if (infos_of elf with_place) (listed_names Dynsym elf (is_of_type sym_type)))
 
 abbrev pub image_symbols : List ℕ → SymType → Bool → Listing
 image_symbols image sym_type with_place = listing_if (all_symbols sym_type with_place) (elf_of image)

@@ -8,6 +8,7 @@ use Rattle.blz_model.specs.Texts.{name_bytes, name_at}
 use Rattle.blz_records.specs.declared.sym_type.SymType.{SymType}
 use Rattle.blz_records.specs.declared.sym_type.SymType.TheVariants.{Undefined}
 use Rattle.blz_records.specs.SymbolTypes.{matches, sym_type_of}
+use Rattle.blz_elf.specs.declared.question.TableKind.{TableKind}
 use Rattle.blz_elf.specs.declared.question.TableKind.TheVariants.{Symtab, Dynsym}
 use Rattle.blz_elf.specs.Images.{Elf, elf_of}
 use Rattle.blz_elf.specs.Sections.{Section, is_nobits}
@@ -60,22 +61,36 @@ is_called name n = not (n.symbol.section == 0) && bytes_eq n.name name
 abbrev pub is_of_type : SymType → Named → Bool
 is_of_type sym_type n = not (n.symbol.section == 0) && matches n.symbol.kind sym_type
 
--- The symbols of a table that pass a test, in table order, once the names of all that are asked were read.
-unfoldable pub listed_in : Option SymbolTable → SymbolTable → (Named → Bool) → Part (List Named)
-listed_in symtab table passes = do
-  names ← all_good (map (read_name table.strings) (filter (is_asked symtab) table.symbols))
-  Good (filter passes names)
+-- the symbols of a table whose names are read, in table order, with their names
+unfoldable pub asked_names : Option SymbolTable → SymbolTable → Part (List Named)
+asked_names symtab table = all_good (map (read_name table.strings) (filter (is_asked symtab) table.symbols))
 
-unfoldable pub static_list : Elf → (Named → Bool) → Part (List Named)
-static_list elf passes = do
+-- those of one of the two tables: of `.dynsym` without those that `.symtab` has too
+unfoldable pub symbol_names : TableKind → Elf → Part (List Named)
+symbol_names Symtab elf = do
   symtab ← table_of Symtab elf
-  listed_in None symtab passes
-
-unfoldable pub dynamic_list : Elf → (Named → Bool) → Part (List Named)
-dynamic_list elf passes = do
+  asked_names None symtab
+symbol_names Dynsym elf = do
   symtab ← table_of Symtab elf
   dynsym ← table_of Dynsym elf
-  listed_in (Some symtab) dynsym passes
+  asked_names (Some symtab) dynsym
+
+-- those that pass a test, in table order, once all names were read
+unfoldable pub listed_names : TableKind → Elf → (Named → Bool) → Part (List Named)
+listed_names kind elf passes = do
+  names ← symbol_names kind elf
+  Good (filter passes names)
+
+unfoldable pub image_symbol_names : TableKind → List ℕ → Part (List Named)
+image_symbol_names kind image = do
+  elf ← elf_of image
+  symbol_names kind elf
+
+-- the names of a table can be read
+unfoldable pub names_read : TableKind → Elf → Part (Unit {0})
+names_read kind elf = do
+  names ← symbol_names kind elf
+  Good tt
 
 -- ---- infos
 
@@ -118,8 +133,8 @@ info_of elf module_name with_place n = do
 -- the symbols of a name: those of `.symtab`, else those of `.dynsym`
 unfoldable pub called_list : Elf → List ℕ → Part (List Named)
 called_list elf name = do
-  own ← static_list elf (is_called name)
-  if length own == 0 then dynamic_list elf (is_called name) else Good own
+  own ← listed_names Symtab elf (is_called name)
+  if length own == 0 then listed_names Dynsym elf (is_called name) else Good own
 
 unfoldable pub image_addresses : List ℕ → Option (List ℕ) → List ℕ → Bool → Part (List Info)
 image_addresses image module_name name with_place = do
@@ -131,6 +146,5 @@ image_addresses image module_name name with_place = do
 unfoldable pub image_names : List ℕ → Part (Unit {0})
 image_names image = do
   elf ← elf_of image
-  own ← static_list elf (is_of_type Undefined)
-  theirs ← dynamic_list elf (is_of_type Undefined)
-  Good tt
+  own ← names_read Symtab elf
+  names_read Dynsym elf

@@ -1,4 +1,4 @@
--- One symbol more of a table that is listed.
+-- One symbol more of a table whose names are read, and one name more of a list.
 use Rattle.std.specs.Prelude.{ℕ, Bool, List, [], ◌∷◌, ◌++◌, if◌then◌else◌}
 use Rattle.blz_model.specs.Part.{Part, Good, ◌>>=◌}
 use Rattle.blz_elf.specs.SymbolTables.{Symbol}
@@ -16,13 +16,14 @@ abbrev pub passes : Wanted → Named → Bool
 passes (Called name) n = is_called name.now n
 passes (OfType sym_type) n = is_of_type sym_type n
 
+-- a name that passes is put behind the others
 abbrev pub with_named : (Named → Bool) → List Named → Named → List Named
 with_named pass listed n = if pass n then listed ++ n ∷ [] else listed
 
--- A symbol that is asked has its name read, and is listed where it passes.
-unfoldable pub with_symbol : (Symbol → Bool) → List ℕ → (Named → Bool) → List Named → Symbol → Part (List Named)
-with_symbol asked strings pass listed s =
+-- the name of a symbol that is asked is read, and put behind the others
+unfoldable pub with_symbol : (Symbol → Bool) → List ℕ → List Named → Symbol → Part (List Named)
+with_symbol asked strings listed s =
     if asked s then (do
       n ← read_name strings s
-      Good (with_named pass listed n))
+      Good (listed ++ n ∷ []))
     else Good listed

@@ -1,6 +1,11 @@
 -- What a kept table of symbols stands for in its image.
 use Rattle.std.specs.Prelude.{◌≡◌, ℕ, List, map, filter, IfSome}
+use Rattle.blz_model.specs.declared.cache.Cache.{Cache}
+use Rattle.blz_model.specs.Kept.{Kept}
+use Rattle.blz_elf.specs.declared.question.TableKind.{TableKind}
+use Rattle.blz_elf.specs.Images.{Elf}
 use Rattle.blz_elf.specs.SymbolTables as symbols
+use Rattle.blz_elf.specs.SymbolTables.{table_of}
 use Rattle.blz_elf.specs.SymbolRule.{is_typed}
 use Rattle.blz_elf.specs.declared.table.Table.{Table}
 use Rattle.blz_elf.specs.declared.sorted.Sorted.{Sorted}
@@ -21,3 +26,7 @@ pub record TableFits (image : List ℕ) (t : Table) : Type 0 where
   pub symbols : RowsFit symbol_size image t.symbols
   pub strings : SpanFits image t.strings
   pub sorted : IfSome t.sorted (Sorts (symbols_in image t.symbols))
+
+-- the cache is empty, or holds one of the tables or its mark
+abbrev pub TableKept : TableKind → Elf → Cache Table → Type 0
+TableKept kind elf table = Kept (TableFits elf.image) (table_view elf.image) table (table_of kind elf)

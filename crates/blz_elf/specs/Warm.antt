@@ -14,6 +14,8 @@ use Rattle.blz_elf.specs.Frames.{FrameFits, frame_view}
 use Rattle.blz_elf.specs.declared.question.TableKind.TheVariants.{Symtab, Dynsym}
 use Rattle.blz_elf.specs.SymbolTables.{image_table}
 use Rattle.blz_elf.specs.RelocationTables.{image_relocations}
+use Rattle.blz_elf.specs.NameOrders.{NamesFit, names_view}
+use Rattle.blz_elf.specs.NameRule.{image_symbol_names}
 use Rattle.blz_elf.specs.Tables.{TableFits, table_view}
 
 -- a table, with its order where it has one
@@ -26,6 +28,8 @@ pub record AllKept (w : ElfWarm) : Type 0 where
   pub frame : is_kept w.frame ≡ true
   pub symtab : is_sorted w.symtab ≡ true
   pub dynsym : is_sorted w.dynsym ≡ true
+  pub symtab_names : is_kept w.symtab_names ≡ true
+  pub dynsym_names : is_kept w.dynsym_names ≡ true
 
 -- Each cache is empty, or holds what its part is. A prepared one has them all.
 pub record Fits (image : List ℕ) (w : ElfWarm) : Type 0 where
@@ -34,6 +38,8 @@ pub record Fits (image : List ℕ) (w : ElfWarm) : Type 0 where
   pub frame : Kept (FrameFits image) (frame_view image) w.frame (elf_of image)
   pub symtab : Kept (TableFits image) (table_view image) w.symtab (image_table Symtab image)
   pub dynsym : Kept (TableFits image) (table_view image) w.dynsym (image_table Dynsym image)
+  pub symtab_names : Kept (NamesFit image) (names_view image) w.symtab_names (image_symbol_names Symtab image)
+  pub dynsym_names : Kept (NamesFit image) (names_view image) w.dynsym_names (image_symbol_names Dynsym image)
   pub relocations : Kept (λ _. Unit {0}) (λ m. m) w.relocations (image_relocations image)
   pub full : w.prepared ≡ true → AllKept w
 

@@ -1,60 +1,278 @@
-//! Lists of symbols, by tables that are kept.
-ghost use Rattle.std.specs.Prelude.{◌≡◌, true, map};
-ghost use Rattle.blz_model.specs.Part.{Gives};
+//! The names of both tables of symbols, filled and looked at.
+ghost use Rattle.std.specs.Prelude.{◌≡◌, true, List, map, IfOk};
+ghost use Rattle.blz_model.specs.Part.{Exactly, Gives, Part};
 ghost use Rattle.blz_model.specs.Kept.{Kept, is_kept};
 ghost use Rattle.blz_elf.specs.declared.question.TableKind.TheVariants.{Symtab, Dynsym};
-ghost use Rattle.blz_elf.specs.SymbolTables.{table_of};
-ghost use Rattle.blz_elf.specs.NameRule.{static_list, dynamic_list};
+ghost use Rattle.blz_elf.specs.Frames.{FrameFits, frame_view};
+ghost use Rattle.blz_elf.specs.Images.{elf_of};
+ghost use Rattle.blz_elf.specs.SymbolTables.{image_table};
+ghost use Rattle.blz_elf.specs.NameOrders.{NamesFit, NamesKept, names_view};
+ghost use Rattle.blz_elf.specs.NameRule.{Named, image_symbol_names, listed_names, names_read, symbol_names};
 ghost use Rattle.blz_elf.specs.NameSteps.{named_view, passes};
-ghost use Rattle.blz_elf.specs.Tables.{TableFits, table_view};
+ghost use Rattle.blz_elf.specs.Tables.{TableFits, TableKept, table_view};
+ghost use Rattle.blz_elf.specs.Warm.{is_sorted};
 
-use crate::image::Image;
-use crate::names::{NamedSymbol, Wanted, list};
+use crate::fill::{fill_table, sort_kept};
+use crate::image::{Frame, Image};
+use crate::name_order::KeptNames;
+use crate::names::{NamedSymbol, Wanted};
+use crate::question::TableKind;
 use crate::table::Table;
-use blz_error::{Error, Result, Str};
+use blz_bytes::Orders;
+use blz_error::{Error, ErrorKind, Result, Str};
 use blz_model::Cache;
-use std::alloc::Global;
+use std::alloc::{AllocError, Global};
 
-/// The wanted symbols of `.symtab`.
-#[tactic(auto, unfolding(crate::specs::NameRule::static_list))]
-pub fn static_list<'b>(
+/// The names of `.symtab`.
+#[tactic(auto, unfolding(crate::specs::NameRule::symbol_names))]
+fn read_static<O: Orders>(
     alloc: Global,
-    image: &Image<'b>,
+    orders: &mut O,
+    image: &Image<'_>,
     symtab: &Cache<Table>,
-    wanted: &Wanted<'_>,
-) -> Result<Vec<NamedSymbol<'b>>>
-    requires kept { Kept (TableFits image.now.image) (table_view image.now.image) symtab.now (table_of Symtab image.now) }
+) -> Result<KeptNames>
+    requires kept { TableKept Symtab image.now symtab.now }
     requires full { is_kept symtab.now ≡ true }
-    ensures { Gives (λ v. map named_view v.items) result (static_list image.now (passes wanted.now)) }
+    ensures value { Gives (names_view image.now.image) result (symbol_names Symtab image.now) }
+    ensures fits { IfOk result (NamesFit image.now.image) }
 {
     match symtab {
-        Cache::Value(table) => list(alloc, image.bytes(), None, table, wanted),
+        Cache::Value(table) => KeptNames::read(alloc, orders, image.bytes(), None, table),
         Cache::Mark(kind) => Err(Error::new(*kind, Str::fixed("symbol table"))),
         Cache::Empty => unreachable!(),
     }
 }
 
-/// The wanted symbols of `.dynsym` that `.symtab` does not have.
-#[tactic(auto, unfolding(crate::specs::NameRule::dynamic_list))]
-pub fn dynamic_list<'b>(
+/// The names of `.dynsym` that `.symtab` does not have.
+#[tactic(auto, unfolding(crate::specs::NameRule::symbol_names))]
+fn read_dynamic<O: Orders>(
     alloc: Global,
-    image: &Image<'b>,
+    orders: &mut O,
+    image: &Image<'_>,
     symtab: &Cache<Table>,
     dynsym: &Cache<Table>,
-    wanted: &Wanted<'_>,
-) -> Result<Vec<NamedSymbol<'b>>>
-    requires symtab { Kept (TableFits image.now.image) (table_view image.now.image) symtab.now (table_of Symtab image.now) }
-    requires dynsym { Kept (TableFits image.now.image) (table_view image.now.image) dynsym.now (table_of Dynsym image.now) }
-    requires full { is_kept symtab.now ≡ true }
+) -> Result<KeptNames>
+    requires symtab { TableKept Symtab image.now symtab.now }
+    requires symtab_full { is_kept symtab.now ≡ true }
+    requires dynsym { TableKept Dynsym image.now dynsym.now }
     requires dynsym_full { is_kept dynsym.now ≡ true }
-    ensures { Gives (λ v. map named_view v.items) result (dynamic_list image.now (passes wanted.now)) }
+    ensures value { Gives (names_view image.now.image) result (symbol_names Dynsym image.now) }
+    ensures fits { IfOk result (NamesFit image.now.image) }
 {
     match (symtab, dynsym) {
         (Cache::Value(symtab), Cache::Value(dynsym)) => {
-            list(alloc, image.bytes(), Some(symtab), dynsym, wanted)
+            KeptNames::read(alloc, orders, image.bytes(), Some(symtab), dynsym)
         },
         (Cache::Mark(kind), _) => Err(Error::new(*kind, Str::fixed("symbol table"))),
         (_, Cache::Mark(kind)) => Err(Error::new(*kind, Str::fixed("dynamic symbol table"))),
         (Cache::Empty, _) | (_, Cache::Empty) => unreachable!(),
     }
+}
+
+/// Keeps what was read where nothing is kept; want of memory is not kept.
+fn keep(
+    image: &Image<'_>,
+    kind: TableKind,
+    names: &mut Cache<KeptNames>,
+    read: Result<KeptNames>,
+) -> std::result::Result<(), AllocError>
+    requires value { Gives (names_view image.now.image) read (symbol_names kind image.now) }
+    requires fits { IfOk read (NamesFit image.now.image) }
+    requires kept { NamesKept kind image.now names.old }
+    ensures kept { NamesKept kind image.now names.new }
+    ensures full { IfOk result (λ _. is_kept names.new ≡ true) }
+    ensures before { is_kept names.old ≡ true → is_kept names.new ≡ true }
+{
+    match read {
+        Ok(read) => {
+            *names = Cache::Value(read);
+            Ok(())
+        },
+        Err(e) if e.kind() == ErrorKind::OutOfMemory => Err(AllocError),
+        Err(e) => {
+            *names = Cache::Mark(e.kind());
+            Ok(())
+        },
+    }
+}
+
+/// Keeps `.symtab` and its names.
+pub fn fill_static<O: Orders>(
+    alloc: Global,
+    orders: &mut O,
+    image: &Image<'_>,
+    symtab: &mut Cache<Table>,
+    names: &mut Cache<KeptNames>,
+) -> std::result::Result<(), AllocError>
+    requires symtab { TableKept Symtab image.now symtab.old }
+    requires names { NamesKept Symtab image.now names.old }
+    ensures symtab { TableKept Symtab image.now symtab.new }
+    ensures symtab_full { is_kept symtab.new ≡ true }
+    ensures symtab_sorted { is_sorted symtab.old ≡ true → is_sorted symtab.new ≡ true }
+    ensures names { NamesKept Symtab image.now names.new }
+    ensures names_full { IfOk result (λ _. is_kept names.new ≡ true) }
+    ensures names_before { is_kept names.old ≡ true → is_kept names.new ≡ true }
+{
+    fill_table(symtab, image, TableKind::Symtab);
+    if let Cache::Empty = names {
+        let read = read_static(alloc, orders, image, symtab);
+        return keep(image, TableKind::Symtab, names, read);
+    }
+    Ok(())
+}
+
+/// Keeps `.dynsym` and its names, by the symbols of `.symtab`.
+pub fn fill_dynamic<O: Orders>(
+    alloc: Global,
+    orders: &mut O,
+    image: &Image<'_>,
+    symtab: &mut Cache<Table>,
+    dynsym: &mut Cache<Table>,
+    names: &mut Cache<KeptNames>,
+) -> std::result::Result<(), AllocError>
+    requires symtab { TableKept Symtab image.now symtab.old }
+    requires symtab_full { is_kept symtab.old ≡ true }
+    requires dynsym { TableKept Dynsym image.now dynsym.old }
+    requires names { NamesKept Dynsym image.now names.old }
+    ensures symtab { TableKept Symtab image.now symtab.new }
+    ensures symtab_sorted { is_sorted symtab.old ≡ true → is_sorted symtab.new ≡ true }
+    ensures dynsym { TableKept Dynsym image.now dynsym.new }
+    ensures dynsym_sorted { is_sorted dynsym.old ≡ true → is_sorted dynsym.new ≡ true }
+    ensures names { NamesKept Dynsym image.now names.new }
+    ensures names_full { IfOk result (λ _. is_kept names.new ≡ true) }
+    ensures names_before { is_kept names.old ≡ true → is_kept names.new ≡ true }
+{
+    fill_table(dynsym, image, TableKind::Dynsym);
+    if let Cache::Empty = names {
+        sort_kept(alloc, orders, image, TableKind::Symtab, symtab)?;
+        let read = read_dynamic(alloc, orders, image, symtab, dynsym);
+        return keep(image, TableKind::Dynsym, names, read);
+    }
+    Ok(())
+}
+
+/// Keeps the names of both tables of an image, as their value or their mark.
+#[tactic(auto, unfolding(crate::specs::NameRule::image_symbol_names, crate::specs::SymbolTables::image_table))]
+pub fn fill_names<O: Orders>(
+    alloc: Global,
+    orders: &mut O,
+    image: &[u8],
+    frame: &Cache<Frame>,
+    symtab: &mut Cache<Table>,
+    dynsym: &mut Cache<Table>,
+    symtab_names: &mut Cache<KeptNames>,
+    dynsym_names: &mut Cache<KeptNames>,
+) -> std::result::Result<(), AllocError>
+    requires frame { Kept (FrameFits image.now) (frame_view image.now) frame.now (elf_of image.now) }
+    requires frame_full { is_kept frame.now ≡ true }
+    requires symtab { Kept (TableFits image.now) (table_view image.now) symtab.old (image_table Symtab image.now) }
+    requires dynsym { Kept (TableFits image.now) (table_view image.now) dynsym.old (image_table Dynsym image.now) }
+    requires symtab_names { Kept (NamesFit image.now) (names_view image.now) symtab_names.old (image_symbol_names Symtab image.now) }
+    requires dynsym_names { Kept (NamesFit image.now) (names_view image.now) dynsym_names.old (image_symbol_names Dynsym image.now) }
+    ensures symtab { Kept (TableFits image.now) (table_view image.now) symtab.new (image_table Symtab image.now) }
+    ensures symtab_sorted { is_sorted symtab.old ≡ true → is_sorted symtab.new ≡ true }
+    ensures dynsym { Kept (TableFits image.now) (table_view image.now) dynsym.new (image_table Dynsym image.now) }
+    ensures dynsym_sorted { is_sorted dynsym.old ≡ true → is_sorted dynsym.new ≡ true }
+    ensures symtab_names { Kept (NamesFit image.now) (names_view image.now) symtab_names.new (image_symbol_names Symtab image.now) }
+    ensures dynsym_names { Kept (NamesFit image.now) (names_view image.now) dynsym_names.new (image_symbol_names Dynsym image.now) }
+    ensures symtab_before { is_kept symtab_names.old ≡ true → is_kept symtab_names.new ≡ true }
+    ensures dynsym_before { is_kept dynsym_names.old ≡ true → is_kept dynsym_names.new ≡ true }
+    ensures symtab_full { IfOk result (λ _. is_kept symtab_names.new ≡ true) }
+    ensures dynsym_full { IfOk result (λ _. is_kept dynsym_names.new ≡ true) }
+{
+    match frame {
+        Cache::Value(frame) => {
+            let parts = Image::open(image, *frame);
+            fill_static(alloc, orders, &parts, symtab, symtab_names)?;
+            fill_dynamic(alloc, orders, &parts, symtab, dynsym, dynsym_names)
+        },
+        Cache::Mark(kind) => {
+            *symtab_names = Cache::Mark(*kind);
+            *dynsym_names = Cache::Mark(*kind);
+            Ok(())
+        },
+        Cache::Empty => unreachable!(),
+    }
+}
+
+/// The wanted symbols, by names that are kept.
+#[tactic(auto, unfolding(crate::specs::NameRule::listed_names))]
+pub fn list_kept<'b>(
+    alloc: Global,
+    image: &Image<'b>,
+    kind: TableKind,
+    names: &Cache<KeptNames>,
+    wanted: &Wanted<'_>,
+) -> Result<Vec<NamedSymbol<'b>>>
+    requires kept { NamesKept kind image.now names.now }
+    requires full { is_kept names.now ≡ true }
+    ensures { Gives (λ v. map named_view v.items) result (listed_names kind image.now (passes wanted.now)) }
+{
+    match names {
+        Cache::Value(names) => Ok(names.list(alloc, image.bytes(), wanted)?),
+        Cache::Mark(kind) => Err(Error::new(*kind, Str::fixed("names of symbols"))),
+        Cache::Empty => unreachable!(),
+    }
+}
+
+/// Whether names that are kept could be read.
+#[tactic(auto, unfolding(crate::specs::NameRule::names_read))]
+pub fn check_kept(image: &Image<'_>, kind: TableKind, names: &Cache<KeptNames>) -> Result<()>
+    requires kept { NamesKept kind image.now names.now }
+    requires full { is_kept names.now ≡ true }
+    ensures { Exactly (λ u. u) result (names_read kind image.now) }
+{
+    match names {
+        Cache::Value(_) => Ok(()),
+        Cache::Mark(kind) => Err(Error::new(*kind, Str::fixed("names of symbols"))),
+        Cache::Empty => unreachable!(),
+    }
+}
+
+/// The wanted symbols of `.symtab`, whose names are kept from then on.
+pub fn static_list<'b, O: Orders>(
+    alloc: Global,
+    orders: &mut O,
+    image: &Image<'b>,
+    symtab: &mut Cache<Table>,
+    names: &mut Cache<KeptNames>,
+    wanted: &Wanted<'_>,
+) -> Result<Vec<NamedSymbol<'b>>>
+    requires symtab { TableKept Symtab image.now symtab.old }
+    requires names { NamesKept Symtab image.now names.old }
+    ensures value { Gives (λ v. map named_view v.items) result (listed_names Symtab image.now (passes wanted.now)) }
+    ensures symtab { TableKept Symtab image.now symtab.new }
+    ensures symtab_full { is_kept symtab.new ≡ true }
+    ensures symtab_sorted { is_sorted symtab.old ≡ true → is_sorted symtab.new ≡ true }
+    ensures names { NamesKept Symtab image.now names.new }
+    ensures names_before { is_kept names.old ≡ true → is_kept names.new ≡ true }
+{
+    fill_static(alloc, orders, image, symtab, names)?;
+    list_kept(alloc, image, TableKind::Symtab, names, wanted)
+}
+
+/// The wanted symbols of `.dynsym` that `.symtab` does not have, whose names are kept from then on.
+pub fn dynamic_list<'b, O: Orders>(
+    alloc: Global,
+    orders: &mut O,
+    image: &Image<'b>,
+    symtab: &mut Cache<Table>,
+    dynsym: &mut Cache<Table>,
+    names: &mut Cache<KeptNames>,
+    wanted: &Wanted<'_>,
+) -> Result<Vec<NamedSymbol<'b>>>
+    requires symtab { TableKept Symtab image.now symtab.old }
+    requires symtab_full { is_kept symtab.old ≡ true }
+    requires dynsym { TableKept Dynsym image.now dynsym.old }
+    requires names { NamesKept Dynsym image.now names.old }
+    ensures value { Gives (λ v. map named_view v.items) result (listed_names Dynsym image.now (passes wanted.now)) }
+    ensures symtab { TableKept Symtab image.now symtab.new }
+    ensures symtab_sorted { is_sorted symtab.old ≡ true → is_sorted symtab.new ≡ true }
+    ensures dynsym { TableKept Dynsym image.now dynsym.new }
+    ensures dynsym_sorted { is_sorted dynsym.old ≡ true → is_sorted dynsym.new ≡ true }
+    ensures names { NamesKept Dynsym image.now names.new }
+    ensures names_before { is_kept names.old ≡ true → is_kept names.new ≡ true }
+{
+    fill_dynamic(alloc, orders, image, symtab, dynsym, names)?;
+    list_kept(alloc, image, TableKind::Dynsym, names, wanted)
 }

@@ -11,6 +11,7 @@ mod image;
 mod infos;
 mod kept_names;
 mod lookup;
+mod name_order;
 mod names;
 mod number;
 mod opts;

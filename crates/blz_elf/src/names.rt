@@ -1,9 +1,10 @@
-//! The symbols of a name, and the listing of all symbols.
-ghost use Rattle.std.specs.Prelude.{◌≡◌, List, map, IfSome};
+//! The symbols of a table with their names.
+ghost use Rattle.std.specs.Prelude.{◌≡◌, List, map, IfOk, IfSome};
 ghost use Rattle.std.specs.Option.{option_map};
 ghost use Rattle.blz_model.specs.Part.{Exactly, Gives};
-ghost use Rattle.blz_elf.specs.NameRule.{is_excluded, is_asked, read_name, listed_in};
-ghost use Rattle.blz_elf.specs.NameSteps.{named_view, passes, with_symbol};
+ghost use Rattle.blz_elf.specs.NameOrders.{name_view, named_in};
+ghost use Rattle.blz_elf.specs.NameRule.{is_excluded, is_asked, read_name, asked_names};
+ghost use Rattle.blz_elf.specs.NameSteps.{named_view, passes, with_named, with_symbol};
 ghost use Rattle.blz_elf.specs.Places.{span_in};
 ghost use Rattle.blz_elf.specs.Tables.{TableFits, table_view};
 ghost use Rattle.blz_elf.specs.Views.{symbol_view};
@@ -12,9 +13,10 @@ use crate::question::{Question, TableKind};
 use crate::symbols::{Symbol, Symbols};
 use crate::table::Table;
 use crate::text::{bytes_at, name};
+use blz_bytes::NameSpan;
 use blz_error::{Error, ErrorKind, Result, Str};
 use blz_records::SymType;
-use std::alloc::Global;
+use std::alloc::{AllocError, Global};
 
 /// A symbol, and the bytes of its name.
 #[derive(Clone, Copy)]
@@ -23,6 +25,27 @@ pub struct NamedSymbol<'b> {
     pub symbol: Symbol,
     /// Its name.
     pub name: &'b [u8],
+}
+
+/// A symbol, and where its name stands in the strings.
+#[derive(Clone, Copy)]
+pub struct SymbolName {
+    /// The symbol.
+    pub symbol: Symbol,
+    /// Its name.
+    pub name: NameSpan,
+}
+
+impl SymbolName {
+    /// The symbol with the bytes of its name.
+    pub fn named<'b>(&self, strings: &'b [u8]) -> NamedSymbol<'b>
+        ensures { named_view result ≡ name_view strings.entry.now self.now }
+    {
+        NamedSymbol {
+            symbol: self.symbol,
+            name: self.name.text(strings),
+        }
+    }
 }
 
 /// Which symbols are listed.
@@ -45,6 +68,20 @@ impl Wanted<'_> {
             Wanted::Called(name) => named.name == name.as_bytes(),
             Wanted::OfType(sym_type) => named.symbol.matches(*sym_type),
         }
+    }
+
+    /// Lists a symbol, where it is wanted.
+    pub fn list<'b>(
+        &self,
+        listed: &mut Vec<NamedSymbol<'b>>,
+        named: NamedSymbol<'b>,
+    ) -> std::result::Result<(), AllocError>
+        ensures { IfOk result (λ _. map named_view listed.new.items ≡ with_named (passes self.now) (map named_view listed.old.items) (named_view named.entry)) }
+    {
+        if self.takes(&named) {
+            listed.push(named)?;
+        }
+        Ok(())
     }
 }
 
@@ -79,60 +116,58 @@ fn is_asked(image: &[u8], symtab: Option<&Table>, symbol: &Symbol) -> bool
     }
 }
 
-/// A symbol with its name.
+/// A symbol with the place of its name.
 #[tactic(auto, unfolding(crate::specs::NameRule::read_name, blz_model::specs::Texts::name_bytes))]
-fn read_name<'b>(strings: &'b [u8], symbol: &Symbol) -> Result<NamedSymbol<'b>>
-    ensures { Exactly named_view result (read_name strings.now (symbol_view symbol.now)) }
+fn read_name(strings: &[u8], symbol: &Symbol) -> Result<SymbolName>
+    ensures { Exactly (name_view strings.now) result (read_name strings.now (symbol_view symbol.now)) }
 {
     match bytes_at(strings, symbol.name) {
-        Some(name) => Ok(NamedSymbol {
+        Some(name) => Ok(SymbolName {
             symbol: *symbol,
-            name,
+            name: NameSpan {
+                start: symbol.name as usize,
+                len: name.len(),
+            },
         }),
         None => Err(Error::new(ErrorKind::InvalidInput, Str::fixed("invalid string table"))),
     }
 }
 
-/// Lists a symbol, where its name is read and it is wanted.
+/// Reads the name of a symbol, where it is asked.
 #[tactic(auto, unfolding(crate::specs::NameSteps::with_symbol))]
-fn list_symbol<'b>(
-    listed: &mut Vec<NamedSymbol<'b>>,
-    image: &'b [u8],
+fn ask_symbol(
+    names: &mut Vec<SymbolName>,
+    image: &[u8],
     symtab: Option<&Table>,
-    strings: &'b [u8],
+    strings: &[u8],
     symbol: &Symbol,
-    wanted: &Wanted<'_>,
 ) -> Result<()>
     requires { IfSome symtab (λ t. TableFits image.now t.now) }
-    ensures { Gives (λ _. map named_view listed.new.items) result (with_symbol (is_asked (option_map (λ t. table_view image.now t.now) symtab.entry)) strings.now (passes wanted.now) (map named_view listed.old.items) (symbol_view symbol.now)) }
+    ensures { Gives (λ _. named_in strings.now names.new.items) result (with_symbol (is_asked (option_map (λ t. table_view image.now t.now) symtab.entry)) strings.now (named_in strings.now names.old.items) (symbol_view symbol.now)) }
 {
     if !is_asked(image, symtab, symbol) {
         return Ok(());
     }
-    let named = read_name(strings, symbol)?;
-    if wanted.takes(&named) {
-        listed.push(named)?;
-    }
+    names.push(read_name(strings, symbol)?)?;
     Ok(())
 }
 
-/// The wanted symbols of a table, without those that another has too.
-pub fn list<'b>(
+/// The symbols of a table whose names are read, without those that another has too.
+pub fn asked_names(
     alloc: Global,
-    image: &'b [u8],
+    image: &[u8],
     symtab: Option<&Table>,
     table: &Table,
-    wanted: &Wanted<'_>,
-) -> Result<Vec<NamedSymbol<'b>>>
+) -> Result<Vec<SymbolName>>
     requires symtab { IfSome symtab (λ t. TableFits image.now t.now) }
     requires table { TableFits image.now table.now }
-    ensures { Gives (λ v. map named_view v.items) result (listed_in (option_map (λ t. table_view image.now t.now) symtab.entry) (table_view image.now table.now) (passes wanted.now)) }
+    ensures { Gives (λ v. named_in (span_in image.now table.now.strings) v.items) result (asked_names (option_map (λ t. table_view image.now t.now) symtab.entry) (table_view image.now table.now)) }
 {
     let symbols = Symbols::open(image, table.symbols);
     let strings = table.strings_in(image);
-    let mut listed = Vec::new(alloc);
+    let mut names = Vec::new(alloc);
     for i in 0..symbols.len() {
-        list_symbol(&mut listed, image, symtab, strings, &symbols.at(i), wanted)?;
+        ask_symbol(&mut names, image, symtab, strings, &symbols.at(i))?;
     }
-    Ok(listed)
+    Ok(names)
 }

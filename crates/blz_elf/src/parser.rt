@@ -1,33 +1,27 @@
 //! One image, as it is asked.
-ghost use Rattle.std.specs.Prelude.{◌≡◌, true, false, IfOk, IfErr};
+ghost use Rattle.std.specs.Prelude.{◌≡◌, false, IfOk};
 ghost use Rattle.std.specs.Option.{option_map};
-ghost use Rattle.blz_model.specs.Part.{Part, Gives};
+ghost use Rattle.blz_model.specs.Part.{Exactly, Gives};
 ghost use Rattle.blz_elf.specs.Headers.{header_of};
 ghost use Rattle.blz_elf.specs.Formats.{section_size};
 ghost use Rattle.blz_elf.specs.Images.{elf_of, image_order, image_sections, image_section, image_section_data, image_data_named, image_holds_bytes, image_is_relocatable};
 ghost use Rattle.blz_elf.specs.RelocationTables.{image_relocations};
-ghost use Rattle.blz_elf.specs.NameRule.{image_addresses, image_names};
 ghost use Rattle.blz_elf.specs.Segments.{image_file_place, image_address_of};
 ghost use Rattle.blz_elf.specs.SymbolRule.{image_symbol};
-ghost use Rattle.blz_model.specs.Kept.{Kept, is_kept};
 ghost use Rattle.blz_elf.specs.AnswerView.{answer_view};
-ghost use Rattle.blz_elf.specs.Warm.{Fits, is_sorted, warm_prepared};
 ghost use Rattle.blz_elf.specs.Places.{RowsFit, sections_in};
-ghost use Rattle.blz_model.specs.Part.{Exactly};
 ghost use Rattle.blz_elf.specs.Views.{header_view};
 ghost use Rattle.blz_elf.specs.Frames.{FrameFits, frame_view};
 
 mod headers;
 mod listing;
+mod naming;
+mod prepared;
 
 use crate::answer::Answer;
-use crate::fill::{fill, fill_relocations, fill_table, look, look_both, look_dynamic, sort_table};
-use crate::find_addr_opts::FindAddrOpts;
+use crate::fill::{fill_relocations, fill_table, look, look_dynamic, sort_table};
 use crate::header::{Header, read_header};
 use crate::image::{Frame, Image, read_frame};
-use crate::infos::infos;
-use crate::kept_names::{dynamic_list, static_list};
-use crate::names::Wanted;
 use crate::opts::FindSymOpts;
 use crate::question::TableKind;
 use crate::relocating::relocations;
@@ -35,13 +29,11 @@ use crate::relocation::SectionRelocations;
 use crate::section::{data_at, sections};
 use crate::segments::{SegmentTable, segments};
 use crate::span::Rows;
-use crate::sym_info::SymInfos;
 use crate::warm::ElfWarm;
 use blz_bytes::{ByteOrder, Orders};
 use blz_error::{Error, Result, Str};
 use blz_model::Cache;
-use blz_records::SymType;
-use std::alloc::{AllocError, Global};
+use std::alloc::Global;
 use std::marker::Model;
 
 /// One ELF image: its sections, and the symbols of its addresses. What was read is kept.
@@ -77,6 +69,8 @@ impl<'b> ElfParser<'b> {
             frame: Cache::Empty,
             symtab: Cache::Empty,
             dynsym: Cache::Empty,
+            symtab_names: Cache::Empty,
+            dynsym_names: Cache::Empty,
             relocations: Cache::Empty,
             prepared: false,
             alloc,
@@ -263,8 +257,8 @@ impl<'b> ElfParser<'b> {
     }
 
     /// The place in the file of `size` bytes at an address (ELF gABI, Program Header): by the first loaded segment that
-    /// holds the address; none where no segment does. Refused by the first mark of header and segments: InvalidData or
-    /// Unsupported.
+    /// holds the address; none where no segment does. Where no two loaded segments share a place in the file, the place of
+    /// some bytes leads back to the address. Refused by the first mark of header and segments: InvalidData or Unsupported.
     #[tactic(auto, unfolding(crate::specs::Segments::image_file_place, crate::specs::Segments::image_segments))]
     pub fn find_file_offset(&mut self, addr: u64, size: u64) -> Result<Option<u64>>
         ensures value { Exactly (λ o. o) result (image_file_place self.old.image addr size) }
@@ -363,135 +357,5 @@ impl<'b> ElfParser<'b> {
             &self.warm.dynsym,
             addr,
         )
-    }
-
-    /// The symbols of a name, defined, in table order: those of `.symtab`, else those of `.dynsym` that `.symtab` does not
-    /// answer (ELF gABI, Symbol Table). Refused as `find_section` is, by a broken table, a name that cannot be read, and
-    /// with places in the file by a section index outside the table: InvalidData, InvalidInput or Unsupported.
-    #[tactic(auto, unfolding(crate::specs::NameRule::image_addresses, crate::specs::NameRule::called_list, crate::specs::SymbolTables::image_table))]
-    pub fn find_addr<O: Orders>(
-        &mut self,
-        alloc: Global,
-        orders: &mut O,
-        name: &str,
-        opts: &FindAddrOpts,
-    ) -> Result<SymInfos<'b>>
-        ensures value { Gives (λ v. v) result (image_addresses self.old.image self.old.module_name name.now opts.now.file_offset) }
-        ensures same { self.new ≡ self.old }
-    {
-        let parts = self.parts()?;
-        let wanted = Wanted::Called(name);
-        fill_table(&mut self.warm.symtab, &parts, TableKind::Symtab);
-        let own = static_list(alloc, &parts, &self.warm.symtab, &wanted)?;
-        if own.len() != 0 {
-            return infos(alloc, &parts, self.module, opts.file_offset, &own);
-        }
-        sort_table(
-            alloc,
-            orders,
-            self.image,
-            TableKind::Symtab,
-            &mut self.warm.symtab,
-        )?;
-        fill_table(&mut self.warm.dynsym, &parts, TableKind::Dynsym);
-        let theirs = dynamic_list(alloc, &parts, &self.warm.symtab, &self.warm.dynsym, &wanted)?;
-        infos(alloc, &parts, self.module, opts.file_offset, &theirs)
-    }
-
-    /// Reads both tables of symbols and their names, for later calls. Refused by the first mark of header, section table,
-    /// section names, `.symtab`, its names, `.dynsym` and its names.
-    #[tactic(auto, unfolding(crate::specs::NameRule::image_names, crate::specs::SymbolTables::image_table))]
-    pub fn cache<O: Orders>(&mut self, alloc: Global, orders: &mut O) -> Result<()>
-        ensures value { Gives (λ u. u) result (image_names self.old.image) }
-        ensures same { self.new ≡ self.old }
-    {
-        let parts = self.parts()?;
-        let wanted = Wanted::OfType(SymType::Undefined);
-        fill_table(&mut self.warm.symtab, &parts, TableKind::Symtab);
-        sort_table(
-            alloc,
-            orders,
-            self.image,
-            TableKind::Symtab,
-            &mut self.warm.symtab,
-        )?;
-        static_list(alloc, &parts, &self.warm.symtab, &wanted)?;
-        fill_table(&mut self.warm.dynsym, &parts, TableKind::Dynsym);
-        dynamic_list(alloc, &parts, &self.warm.symtab, &self.warm.dynsym, &wanted)?;
-        Ok(())
-    }
-
-    /// Puts each part into a cache, as its value or its mark's kind, for `find_sym_prepared`.
-    #[tactic(auto, unfolding(crate::specs::SymbolTables::image_table))]
-    pub fn prepare<O: Orders>(
-        &mut self,
-        alloc: Global,
-        orders: &mut O,
-    ) -> std::result::Result<(), AllocError>
-        ensures image { self.new.image ≡ self.old.image }
-        ensures module_name { self.new.module_name ≡ self.old.module_name }
-        ensures prepared { IfOk result (λ _. self.new.prepared ≡ true) }
-        ensures refused { IfErr result (λ _. self.new.prepared ≡ self.old.prepared) }
-    {
-        let read = self.frame();
-        fill(&mut self.warm, self.image, read);
-        sort_table(
-            alloc,
-            orders,
-            self.image,
-            TableKind::Symtab,
-            &mut self.warm.symtab,
-        )?;
-        sort_table(
-            alloc,
-            orders,
-            self.image,
-            TableKind::Dynsym,
-            &mut self.warm.dynsym,
-        )?;
-        self.warm.prepared = true;
-        Ok(())
-    }
-
-    /// The symbol of an address, as `find_sym` has it, from what is kept: it takes no memory.
-    #[tactic(auto, unfolding(crate::specs::SymbolRule::image_symbol, crate::specs::SymbolTables::image_table))]
-    pub fn find_sym_prepared(&self, addr: u64) -> Result<Answer<'b>>
-        requires { self.now.prepared ≡ true }
-        ensures { Exactly answer_view result (image_symbol self.now.image self.now.module_name addr) }
-    {
-        match &self.warm.frame {
-            Cache::Value(frame) => look_both(
-                self.warm.alloc,
-                self.module,
-                &Image::open(self.image, *frame),
-                &self.warm.symtab,
-                &self.warm.dynsym,
-                addr,
-            ),
-            Cache::Mark(kind) => Err(Error::new(*kind, Str::fixed("names"))),
-            Cache::Empty => unreachable!(),
-        }
-    }
-
-    /// What is kept, without the image.
-    pub fn into_warm(self) -> ElfWarm
-        ensures fits { Fits self.entry.image result }
-        ensures prepared { warm_prepared result ≡ self.entry.prepared }
-    {
-        self.warm
-    }
-
-    /// A parser of the image that the kept parts fit.
-    pub fn from_warm(image: &'b [u8], module: Option<&'b str>, warm: ElfWarm) -> ElfParser<'b>
-        requires { Fits image.now warm }
-        ensures image { result.image ≡ image.now }
-        ensures module_name { result.module_name ≡ option_map (λ m. m.now) «module».entry }
-        ensures prepared { result.prepared ≡ warm_prepared warm }
-    {
-        ElfParser {
-            image,
-            module,
-            warm,
-        }
     }
 }

@@ -1,22 +1,21 @@
 //! Shows the symbols of a listing.
 ghost use Rattle.std.specs.Prelude.{◌≡◌, true, false, List, map};
 ghost use Rattle.blz_model.specs.Part.{Part, Gives};
-ghost use Rattle.blz_model.specs.Kept.{Kept};
+ghost use Rattle.blz_model.specs.Kept.{is_kept};
 ghost use Rattle.blz_elf.specs.declared.question.TableKind.TheVariants.{Symtab, Dynsym};
 ghost use Rattle.blz_elf.specs.Listings.{Shows, ShowsAll, infos_of, listing_if, all_symbols};
 ghost use Rattle.blz_elf.specs.NameRule.{Named};
 ghost use Rattle.blz_elf.specs.NameSteps.{named_view};
-ghost use Rattle.blz_elf.specs.SymbolTables.{table_of};
-ghost use Rattle.blz_elf.specs.Tables.{TableFits, table_view};
+ghost use Rattle.blz_elf.specs.NameOrders.{NamesKept};
+ghost use Rattle.blz_elf.specs.Tables.{TableKept};
 ghost use Rattle.blz_elf.specs.Warm.{is_sorted};
 
-use crate::fill::{fill_table, sort_kept};
 use crate::find_addr_opts::FindAddrOpts;
 use crate::image::Image;
 use crate::infos::info_of;
 use crate::kept_names::{dynamic_list, static_list};
+use crate::name_order::KeptNames;
 use crate::names::{NamedSymbol, Wanted};
-use crate::question::TableKind;
 use crate::table::Table;
 use crate::visit::{Flow, Visit};
 use blz_bytes::Orders;
@@ -59,34 +58,39 @@ fn show_read<'b, V: Visit>(
     }
 }
 
-/// Shows the symbols of `.symtab`, then those of `.dynsym` that it does not answer, and keeps the tables.
+/// Shows the symbols of `.symtab`, then those of `.dynsym` that it does not answer, and keeps tables and names.
 pub fn show_all<'b, O: Orders, V: Visit>(
     alloc: Global,
     orders: &mut O,
     image: &Image<'b>,
     symtab: &mut Cache<Table>,
     dynsym: &mut Cache<Table>,
+    symtab_names: &mut Cache<KeptNames>,
+    dynsym_names: &mut Cache<KeptNames>,
     opts: &FindAddrOpts,
     visit: &mut V,
 ) -> Result<()>
     requires goes_on { V.stopped visit.old ≡ false }
-    requires symtab { Kept (TableFits image.now.image) (table_view image.now.image) symtab.old (table_of Symtab image.now) }
-    requires dynsym { Kept (TableFits image.now.image) (table_view image.now.image) dynsym.old (table_of Dynsym image.now) }
-    ensures symtab { Kept (TableFits image.now.image) (table_view image.now.image) symtab.new (table_of Symtab image.now) }
-    ensures dynsym { Kept (TableFits image.now.image) (table_view image.now.image) dynsym.new (table_of Dynsym image.now) }
+    requires symtab { TableKept Symtab image.now symtab.old }
+    requires dynsym { TableKept Dynsym image.now dynsym.old }
+    requires symtab_names { NamesKept Symtab image.now symtab_names.old }
+    requires dynsym_names { NamesKept Dynsym image.now dynsym_names.old }
+    ensures symtab { TableKept Symtab image.now symtab.new }
+    ensures dynsym { TableKept Dynsym image.now dynsym.new }
     ensures symtab_sorted { is_sorted symtab.old ≡ true → is_sorted symtab.new ≡ true }
     ensures dynsym_sorted { is_sorted dynsym.old ≡ true → is_sorted dynsym.new ≡ true }
+    ensures symtab_names { NamesKept Symtab image.now symtab_names.new }
+    ensures dynsym_names { NamesKept Dynsym image.now dynsym_names.new }
+    ensures symtab_names_before { is_kept symtab_names.old ≡ true → is_kept symtab_names.new ≡ true }
+    ensures dynsym_names_before { is_kept dynsym_names.old ≡ true → is_kept dynsym_names.new ≡ true }
     ensures shows { ShowsAll (all_symbols opts.now.sym_type opts.now.file_offset image.now) (V.shown visit.old) (V.shown visit.new) (V.stopped visit.new) result }
 {
     let wanted = Wanted::OfType(opts.sym_type);
-    fill_table(symtab, image, TableKind::Symtab);
-    let own = static_list(alloc, image, symtab, &wanted);
+    let own = static_list(alloc, orders, image, symtab, symtab_names, &wanted);
     if let Flow::Break = show_read(visit, image, opts.file_offset, own)? {
         return Ok(());
     }
-    sort_kept(alloc, orders, image, TableKind::Symtab, symtab)?;
-    fill_table(dynsym, image, TableKind::Dynsym);
-    let theirs = dynamic_list(alloc, image, symtab, dynsym, &wanted);
+    let theirs = dynamic_list(alloc, orders, image, symtab, dynsym, dynsym_names, &wanted);
     show_read(visit, image, opts.file_offset, theirs)?;
     Ok(())
 }

@@ -107,7 +107,7 @@ fn keys_of(alloc: Global, typed: &[Symbol]) -> Result<Vec<Key>, AllocError>
 }
 
 /// The places 0, 1, 2 and so on.
-fn first_places(alloc: Global, count: usize) -> Result<Vec<usize>, AllocError>
+pub fn first_places(alloc: Global, count: usize) -> Result<Vec<usize>, AllocError>
     ensures { IfOk result (λ v. v.items ≡ counting count) }
 {
     let mut places = Vec::with_capacity(alloc, count)?;

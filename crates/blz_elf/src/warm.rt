@@ -1,6 +1,7 @@
 //! What is kept of an image.
 use crate::header::Header;
 use crate::image::Frame;
+use crate::name_order::KeptNames;
 use crate::relocation::SectionRelocations;
 use crate::span::Rows;
 use crate::table::Table;
@@ -15,6 +16,8 @@ pub struct ElfWarm {
     pub(crate) frame: Cache<Frame>,
     pub(crate) symtab: Cache<Table>,
     pub(crate) dynsym: Cache<Table>,
+    pub(crate) symtab_names: Cache<KeptNames>,
+    pub(crate) dynsym_names: Cache<KeptNames>,
     pub(crate) relocations: Cache<SectionRelocations>,
     pub(crate) prepared: bool,
     pub(crate) alloc: Global,

@@ -15,7 +15,7 @@ impl ElfParser<'_> {
     /// does not answer (ELF gABI, Symbol Table). It ends where the visitor breaks. Refused by the first mark of header,
     /// section table, section names, a table, its names and the infos, once all before it was shown: InvalidData,
     /// InvalidInput or Unsupported.
-    #[tactic(auto, unfolding(crate::specs::SymbolTables::image_table))]
+    #[tactic(auto, unfolding(crate::specs::NameRule::image_symbol_names, crate::specs::SymbolTables::image_table))]
     pub fn for_each<O: Orders, V: Visit>(
         &mut self,
         alloc: Global,
@@ -34,6 +34,8 @@ impl ElfParser<'_> {
             &parts,
             &mut self.warm.symtab,
             &mut self.warm.dynsym,
+            &mut self.warm.symtab_names,
+            &mut self.warm.dynsym_names,
             opts,
             visit,
         )

@@ -1,0 +1,59 @@
+-- The names of a table of symbols as they are kept, and an accepted order of them.
+use Rattle.std.specs.Prelude.{◌≡◌, ℕ, ◌<◌, ◌≤◌, true, false, List, [], length, map, get_or, Some, IfSome}
+use Rattle.std.specs.Ordering.{is_gt}
+use Rattle.blz_bytes.specs.declared.orders.NameSpan.{NameSpan}
+use Rattle.blz_bytes.specs.NameOrder.{text_in, name_cmp, TextBefore}
+use Rattle.blz_bytes.specs.Rising.{StandsAt}
+use Rattle.blz_model.specs.declared.cache.Cache.{Cache}
+use Rattle.blz_model.specs.Kept.{Kept}
+use Rattle.blz_elf.specs.declared.names.SymbolName.{SymbolName}
+use Rattle.blz_elf.specs.declared.name_order.KeptNames.{KeptNames}
+use Rattle.blz_elf.specs.declared.question.TableKind.{TableKind}
+use Rattle.blz_elf.specs.Accepted.{no_symbol}
+use Rattle.blz_elf.specs.Images.{Elf}
+use Rattle.blz_elf.specs.NameRule.{Named, symbol_names}
+use Rattle.blz_elf.specs.Places.{SpanFits, span_in}
+use Rattle.blz_elf.specs.Views.{symbol_view}
+
+abbrev pub name_view : List ℕ → SymbolName → Named
+name_view strings n = record { symbol = symbol_view n.symbol; name = text_in strings (Some n.name) }
+
+abbrev pub span_of : SymbolName → NameSpan
+span_of n = n.name
+
+abbrev pub named_in : List ℕ → List SymbolName → List Named
+named_in strings listed = map (name_view strings) listed
+
+abbrev pub names_view : List ℕ → KeptNames → List Named
+names_view image n = named_in (span_in image n.strings) n.listed.items
+
+-- ---- an accepted order: by the bytes of the name, then by the place in the table
+
+abbrev pub no_name : Named
+no_name = record { symbol = no_symbol; name = [] }
+
+-- the name at the k-th place
+abbrev pub named_at : List Named → List ℕ → ℕ → Named
+named_at names places k = get_or names (get_or places k 0) no_name
+
+-- each place in the list, each name at one, and rising
+pub record AreSorted (names : List Named) (places : List ℕ) : Type 0 where
+  pub inside : (k : ℕ) → k < length places → get_or places k 0 < length names
+  pub every : (i : ℕ) → i < length names → StandsAt places i
+  pub rising : (j k : ℕ) → j < k → k < length places → TextBefore (named_at names places j).name (get_or places j 0) (named_at names places k).name (get_or places k 0)
+
+-- the first n places have names below a name, and the others none below it
+pub record SplitsNames (names : List Named) (places : List ℕ) (n : ℕ) (name : List ℕ) : Type 0 where
+  pub within : n ≤ length places
+  pub low : (k : ℕ) → k < n → is_gt (name_cmp name (named_at names places k).name) ≡ true
+  pub high : (k : ℕ) → n ≤ k → k < length places → is_gt (name_cmp name (named_at names places k).name) ≡ false
+
+-- ---- what a cache of names holds
+
+pub record NamesFit (image : List ℕ) (n : KeptNames) : Type 0 where
+  pub strings : SpanFits image n.strings
+  pub order : IfSome n.order (λ o. AreSorted (names_view image n) o.items)
+
+-- the cache is empty, or holds the names of one of the tables or their mark
+abbrev pub NamesKept : TableKind → Elf → Cache KeptNames → Type 0
+NamesKept kind elf names = Kept (NamesFit elf.image) (names_view elf.image) names (symbol_names kind elf)

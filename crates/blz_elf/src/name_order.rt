@@ -1,0 +1,192 @@
+//! The names of a table of symbols, and an order of them.
+ghost use Rattle.std.specs.Prelude.{◌≡◌, ◌<◌, length, map, filter, IfOk, IfSome};
+ghost use Rattle.std.specs.Option.{option_map};
+ghost use Rattle.std.specs.Ordering.{is_gt};
+ghost use Rattle.blz_bytes.specs.NameOrder.{name_cmp};
+ghost use Rattle.blz_model.specs.Part.{Gives};
+ghost use Rattle.blz_elf.specs.NameOrders.{AreSorted, NamesFit, SplitsNames, named_at, named_in, names_view, span_of};
+ghost use Rattle.blz_elf.specs.NameRule.{asked_names, is_called};
+ghost use Rattle.blz_elf.specs.NameSteps.{named_view, passes};
+ghost use Rattle.blz_elf.specs.Places.{SpanFits, span_in};
+ghost use Rattle.blz_elf.specs.Tables.{TableFits, table_view};
+
+use crate::names::{NamedSymbol, SymbolName, Wanted, asked_names};
+use crate::sorted::first_places;
+use crate::span::Span;
+use crate::table::Table;
+use blz_bytes::{NameSpan, Orders, check_names};
+use std::alloc::{AllocError, Global};
+
+/// The symbols of a table whose names are read, in table order, and an order of the names that was accepted.
+#[derive(Drop)]
+pub struct KeptNames {
+    /// Where the strings lie.
+    pub strings: Span,
+    /// The symbols with their names.
+    pub listed: Vec<SymbolName>,
+    /// The order.
+    pub order: Option<Vec<usize>>,
+}
+
+/// The places of the names.
+fn spans_of(alloc: Global, listed: &[SymbolName]) -> Result<Vec<NameSpan>, AllocError>
+    ensures { IfOk result (λ v. v.items ≡ map span_of listed.now) }
+{
+    let mut spans = Vec::new(alloc);
+    for name in listed {
+        spans.push(name.name)?;
+    }
+    Ok(spans)
+}
+
+/// An order of the names, if the one that was handed in passes the check.
+fn order_of<O: Orders>(
+    alloc: Global,
+    orders: &mut O,
+    strings: &[u8],
+    listed: &[SymbolName],
+) -> Result<Option<Vec<usize>>, AllocError>
+    ensures { IfOk result (λ o. IfSome o (λ o. AreSorted (named_in strings.now listed.now) o.items)) }
+{
+    let spans = spans_of(alloc, listed)?;
+    let mut places = first_places(alloc, spans.len())?;
+    orders.by_name(strings, &spans, &mut places);
+    if check_names(strings, &spans, &places) {
+        Ok(Some(places))
+    } else {
+        Ok(None)
+    }
+}
+
+/// The symbol at the k-th place, with its name.
+fn name_at_place<'b>(
+    strings: &'b [u8],
+    listed: &[SymbolName],
+    places: &[usize],
+    k: usize,
+) -> NamedSymbol<'b>
+    requires sorted { AreSorted (named_in strings.now listed.now) places.now }
+    requires inside { k < length places.now }
+    ensures { named_view result ≡ named_at (named_in strings.now listed.now) places.now k }
+{
+    listed[places[k]].named(strings)
+}
+
+/// Whether the k-th name is below another.
+fn is_below(strings: &[u8], listed: &[SymbolName], places: &[usize], k: usize, name: &[u8]) -> bool
+    requires sorted { AreSorted (named_in strings.now listed.now) places.now }
+    requires inside { k < length places.now }
+    ensures { result ≡ is_gt (name_cmp name.now (named_at (named_in strings.now listed.now) places.now k).name) }
+{
+    name.cmp(name_at_place(strings, listed, places, k).name)
+        .is_gt()
+}
+
+/// How many places have a name below another.
+fn count_below(strings: &[u8], listed: &[SymbolName], places: &[usize], name: &[u8]) -> usize
+    requires { AreSorted (named_in strings.now listed.now) places.now }
+    ensures { SplitsNames (named_in strings.now listed.now) places.now result name.now }
+{
+    let mut low = 0;
+    let mut high = places.len();
+    while low < high {
+        let middle = low + (high - low) / 2;
+        if is_below(strings, listed, places, middle, name) {
+            low = middle + 1;
+        } else {
+            high = middle;
+        }
+    }
+    low
+}
+
+/// The symbols of a name, by an order.
+fn search<'b>(
+    alloc: Global,
+    strings: &'b [u8],
+    listed: &[SymbolName],
+    places: &[usize],
+    name: &str,
+) -> Result<Vec<NamedSymbol<'b>>, AllocError>
+    requires { AreSorted (named_in strings.now listed.now) places.now }
+    ensures { IfOk result (λ v. map named_view v.items ≡ filter (is_called name.now) (named_in strings.now listed.now)) }
+{
+    let wanted = Wanted::Called(name);
+    let begin = count_below(strings, listed, places, name.as_bytes());
+    let mut found = Vec::new(alloc);
+    for k in begin..places.len() {
+        let named = name_at_place(strings, listed, places, k);
+        if named.name != name.as_bytes() {
+            return Ok(found);
+        }
+        wanted.list(&mut found, named)?;
+    }
+    Ok(found)
+}
+
+/// The wanted symbols, by a scan.
+fn scan<'b>(
+    alloc: Global,
+    strings: &'b [u8],
+    listed: &[SymbolName],
+    wanted: &Wanted<'_>,
+) -> Result<Vec<NamedSymbol<'b>>, AllocError>
+    ensures { IfOk result (λ v. map named_view v.items ≡ filter (passes wanted.now) (named_in strings.now listed.now)) }
+{
+    let mut found = Vec::new(alloc);
+    for name in listed {
+        wanted.list(&mut found, name.named(strings))?;
+    }
+    Ok(found)
+}
+
+impl KeptNames {
+    /// The names of a table's symbols, without those that another has too, and the order that is handed in.
+    pub fn read<O: Orders>(
+        alloc: Global,
+        orders: &mut O,
+        image: &[u8],
+        symtab: Option<&Table>,
+        table: &Table,
+    ) -> blz_error::Result<KeptNames>
+        requires symtab { IfSome symtab (λ t. TableFits image.now t.now) }
+        requires table { TableFits image.now table.now }
+        ensures value { Gives (names_view image.now) result (asked_names (option_map (λ t. table_view image.now t.now) symtab.entry) (table_view image.now table.now)) }
+        ensures fits { IfOk result (NamesFit image.now) }
+    {
+        let listed = asked_names(alloc, image, symtab, table)?;
+        let order = order_of(alloc, orders, table.strings_in(image), &listed)?;
+        Ok(KeptNames {
+            strings: table.strings,
+            listed,
+            order,
+        })
+    }
+
+    /// The bytes of the strings.
+    fn strings_in<'b>(&self, image: &'b [u8]) -> &'b [u8]
+        requires { SpanFits image.now self.now.strings }
+        ensures { result.now ≡ span_in image.now self.now.strings }
+    {
+        &image[self.strings.at..self.strings.at + self.strings.len]
+    }
+
+    /// The wanted symbols, in table order: those of a name by the order, where there is one, others by a scan.
+    pub fn list<'b>(
+        &self,
+        alloc: Global,
+        image: &'b [u8],
+        wanted: &Wanted<'_>,
+    ) -> Result<Vec<NamedSymbol<'b>>, AllocError>
+        requires { NamesFit image.now self.now }
+        ensures { IfOk result (λ v. map named_view v.items ≡ filter (passes wanted.now) (names_view image.now self.now)) }
+    {
+        let strings = self.strings_in(image);
+        match (wanted, &self.order) {
+            (Wanted::Called(name), Some(places)) => {
+                search(alloc, strings, &self.listed, places, name)
+            },
+            _ => scan(alloc, strings, &self.listed, wanted),
+        }
+    }
+}
