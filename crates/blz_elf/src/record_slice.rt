@@ -1,6 +1,7 @@
 //! The records of a table, where they lie in the image.
-ghost use Rattle.std.specs.Prelude.{◌≡◌, ◌≤◌, ◌<◌, ◌==◌, ◌+◌, ◌-◌, ◌*◌, [], length, drop, take, slice_get, IfOk, option_copied};
-ghost use Rattle.std.specs.Iterator.{YieldsFirst, item_count};
+ghost use Rattle.std.specs.Prelude.{◌≡◌, ◌≤◌, ◌<◌, ◌==◌, ◌+◌, ◌-◌, ◌*◌, [], length, drop, take, slice_get, IfOk, IfSome, Some, option_copied};
+ghost use Rattle.std.specs.Iterator.{UpTo, YieldsFirst, item_count};
+ghost use Rattle.std.specs.Iterator.SizeHint.{IsWithinCount};
 ghost use Rattle.blz_elf.specs.Places.{RowsFit};
 ghost use Rattle.blz_elf.specs.RecordLists.{of_class, record_at, records_in};
 
@@ -217,7 +218,11 @@ impl<'b, T: Pod + Has32BitTy> Iterator for ElfNIter<'b, T> {
         Some(first)
     }
 
-    fn size_hint(&self) -> (usize, Option<usize>) {
+    fn size_hint(&self) -> (usize, Option<usize>)
+        ensures lower { IsWithinCount result.0 (item_count (λ s. s) self.now) }
+        ensures upper { IfSome result.1 (UpTo (item_count (λ s. s) self.now)) }
+        ensures exact { result ≡ (length self.now, Some (length self.now)) }
+    {
         let count = self.rest.len();
         (count, Some(count))
     }
