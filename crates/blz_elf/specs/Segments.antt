@@ -1,5 +1,5 @@
 -- The segments of an image (ELF gABI, Program Header).
-use Rattle.std.specs.Prelude.{ℕ, ◌+◌, ◌-◌, ◌*◌, ◌^◌, Bool, ◌&&◌, ◌||◌, List, [], ◌∷◌, length, map, nat_le, nat_lt, ◌==◌, not, Option, Some, None, if◌then◌else◌}
+use Rattle.std.specs.Prelude.{◌≡◌, ℕ, ◌+◌, ◌-◌, ◌*◌, ◌^◌, ◌<◌, ⊤, Bool, true, false, ◌&&◌, ◌||◌, List, [], ◌∷◌, length, map, slice_get, nat_le, nat_lt, ◌==◌, not, Option, Some, None, if◌then◌else◌}
 use Rattle.std.specs.List.{range_with_len}
 use Rattle.blz_error.specs.declared.kind.ErrorKind.TheVariants.{InvalidData}
 use Rattle.blz_model.specs.Numbers.{field}
@@ -54,11 +54,13 @@ file_place addr size s =
     if is_load s && (nat_le s.addr addr && (nat_lt addr (s.addr + s.file_size) || ((addr == s.addr + s.file_size) && (size == 0)))) then if_fits (addr - s.addr + s.offset)
     else None
 
+-- a place in the file that a loaded segment holds
+abbrev pub holds_place : ℕ → Segment → Bool
+holds_place place s = is_load s && (nat_le s.offset place && nat_lt place (s.offset + s.file_size))
+
 -- the address of a place in the file, by one segment
 abbrev pub address_of : ℕ → Segment → Option ℕ
-address_of offset s =
-    if is_load s && (nat_le s.offset offset && nat_lt offset (s.offset + s.file_size)) then if_fits (offset - s.offset + s.addr)
-    else None
+address_of place s = if holds_place place s then if_fits (place - s.offset + s.addr) else None
 
 abbrev pub or_else : Option ℕ → Option ℕ → Option ℕ
 or_else None later = later
@@ -83,3 +85,14 @@ unfoldable pub image_address_of : List ℕ → ℕ → Part (Option ℕ)
 image_address_of image offset = do
   segments ← image_segments image
   Good (first_given (address_of offset) segments)
+
+-- ---- there and back
+
+-- no place in the file is held by two of them
+pub record AreApart (segments : List Segment) : Type 0 where
+  pub apart : (i j : ℕ) (s t : Segment) (place : ℕ) → i < j → slice_get segments i ≡ Some s → slice_get segments j ≡ Some t → holds_place place s ≡ true → holds_place place t ≡ false
+
+-- The place of an address whose bytes are asked leads back to the address, where the segments are apart.
+abbrev pub ComesBack : List ℕ → ℕ → ℕ → Option ℕ → Type 0
+ComesBack image addr size None = ⊤
+ComesBack image addr size (Some place) = (segments : List Segment) → image_segments image ≡ Good segments → AreApart segments → 0 < size → image_address_of image place ≡ Good (Some addr)

@@ -6,7 +6,7 @@ ghost use Rattle.blz_elf.specs.Headers.{header_of};
 ghost use Rattle.blz_elf.specs.Formats.{section_size};
 ghost use Rattle.blz_elf.specs.Images.{elf_of, image_order, image_sections, image_section, image_section_data, image_data_named, image_holds_bytes, image_is_relocatable};
 ghost use Rattle.blz_elf.specs.RelocationTables.{image_relocations};
-ghost use Rattle.blz_elf.specs.Segments.{image_file_place, image_address_of};
+ghost use Rattle.blz_elf.specs.Segments.{ComesBack, image_file_place, image_address_of};
 ghost use Rattle.blz_elf.specs.SymbolRule.{image_symbol};
 ghost use Rattle.blz_elf.specs.AnswerView.{answer_view};
 ghost use Rattle.blz_elf.specs.Places.{RowsFit, sections_in};
@@ -262,6 +262,7 @@ impl<'b> ElfParser<'b> {
     #[tactic(auto, unfolding(crate::specs::Segments::image_file_place, crate::specs::Segments::image_segments))]
     pub fn find_file_offset(&mut self, addr: u64, size: u64) -> Result<Option<u64>>
         ensures value { Exactly (λ o. o) result (image_file_place self.old.image addr size) }
+        ensures round_trip { IfOk result (ComesBack self.old.image addr size) }
         ensures same { self.new ≡ self.old }
     {
         let header = self.header()?;
