@@ -1,12 +1,14 @@
 //! One bundle, as it is asked.
 ghost use Rattle.std.specs.Prelude.{◌≡◌, ◌⊎◌, ◌≤◌, Some, IfOk, IfErr};
-ghost use Rattle.blz_model.specs.Part.{Gives, Good, Broken};
+ghost use Rattle.blz_model.specs.Part.{Exactly, Gives, Good, Broken};
 ghost use Rattle.blz_elf.specs.AnswerView.{answer_view};
+ghost use Rattle.blz_elf.specs.Segments.{image_address_of};
 ghost use Rattle.blz_resolver.specs.BundleViews.{bundle_view};
 ghost use Rattle.blz_resolver.specs.Counts.{Rose};
 ghost use Rattle.blz_resolver.specs.FormatKinds.{IsMemoryOrFormat};
 ghost use Rattle.blz_resolver.specs.Opening.{Opens, HasKindCause, has_section, has_link, opened_from};
-ghost use Rattle.blz_resolver.specs.Scan.{frame_of, answer_of};
+ghost use Rattle.blz_resolver.specs.Resolver.{resolved, symbols_alone, with_debug};
+ghost use Rattle.blz_resolver.specs.Scan.{frame_of};
 
 use crate::files::Files;
 use crate::frame::read_frame;
@@ -18,24 +20,36 @@ use blz_error::{Error, ErrorKind, Result, Str};
 use std::alloc::Global;
 use std::marker::Model;
 
+mod names;
+
+/// What a resolver answers from.
+#[derive(Clone, Copy)]
+enum Reach {
+    /// The debug file with its debug information.
+    Debug,
+    /// The symbols of the image alone.
+    Symbols,
+}
+
 /// Answers for the addresses of one bundle. What was read is kept.
 #[derive(Drop)]
 pub struct ElfResolver<'b> {
     bundle: Bundle<'b>,
-    // the parser of the debug file
+    reach: Reach,
+    // the parser of the file whose symbols are asked
     parser: ElfParser<'b>,
+    alloc: Global,
 }
 
 impl<'b> Model for ElfResolver<'b> {
-    ghost use Rattle.blz_resolver.specs.Images.{ImageSet};
     ghost use Rattle.blz_resolver.specs.BundleViews.{bundle_view};
-    ghost use Rattle.blz_resolver.specs.Resolver.{Answers};
+    ghost use Rattle.blz_resolver.specs.Resolver.{Answers, Resolving, has_debug_of};
 
-    ghost Value = { ImageSet };
+    ghost Value = { Resolving };
 
-    ghost view = { λ r. bundle_view r.bundle };
+    ghost view = { λ r. record { images = bundle_view r.bundle; has_debug = has_debug_of r.reach } };
 
-    ghost invariant = { λ r. Answers (bundle_view r.bundle) r.parser };
+    ghost invariant = { λ r. Answers (record { images = bundle_view r.bundle; has_debug = has_debug_of r.reach }) r.parser };
 }
 
 impl<'b> ElfResolver<'b> {
@@ -60,7 +74,7 @@ impl<'b> ElfResolver<'b> {
         bundle: &Bundle<'b>,
     ) -> Result<ElfResolver<'b>>
         ensures frame { Gives (λ _. tt) result (frame_of (bundle_view bundle.now)) }
-        ensures same { IfOk result (λ r. r ≡ bundle_view bundle.now) }
+        ensures same { IfOk result (λ r. r ≡ with_debug (bundle_view bundle.now)) }
         ensures kinds { IfErr result (λ e. IsMemoryOrFormat e.kind) }
     {
         let file = bundle.debug_file();
@@ -68,12 +82,27 @@ impl<'b> ElfResolver<'b> {
         read_frame(alloc, &mut parser, bundle)?;
         Ok(ElfResolver {
             bundle: *bundle,
+            reach: Reach::Debug,
             parser,
+            alloc,
         })
     }
 
-    /// The symbol of an address: of the debug file's symbols that cover it, the one with the greatest value (ELF gABI,
-    /// Symbol Table). Refused by the first mark that the search meets.
+    /// A resolver of the image's symbols alone; reads nothing.
+    pub fn from_bundle_elf(alloc: Global, bundle: &Bundle<'b>) -> ElfResolver<'b>
+        ensures { result ≡ symbols_alone (bundle_view bundle.now) }
+    {
+        ElfResolver {
+            bundle: *bundle,
+            reach: Reach::Symbols,
+            parser: ElfParser::from_mem(alloc, bundle.image, bundle.module),
+            alloc,
+        }
+    }
+
+    /// The symbol of an address: of the symbols that cover it, the one with the greatest value (ELF gABI, Symbol Table). The
+    /// symbols are those of the debug file, or of the image where its symbols alone are asked. Refused by the first mark
+    /// that the search meets.
     pub fn find_sym<O: Orders>(
         &mut self,
         alloc: Global,
@@ -81,11 +110,23 @@ impl<'b> ElfResolver<'b> {
         addr: u64,
         opts: &FindSymOpts,
     ) -> Result<Answer<'b>>
-        ensures value { Gives answer_view result (answer_of self.old addr) }
+        ensures value { Gives answer_view result (resolved self.old addr) }
         ensures same { self.new ≡ self.old }
         ensures kinds { IfErr result (λ e. IsMemoryOrFormat e.kind) }
     {
         self.parser.find_sym(alloc, orders, addr, opts)
+    }
+
+    /// The address of a place in the image's file, by the first loaded segment that holds it (ELF gABI, Program Header);
+    /// none where no segment does. Refused by the first mark of the image's header and segments: InvalidData or
+    /// Unsupported.
+    pub fn file_offset_to_virt_offset(&mut self, file_offset: u64) -> Result<Option<u64>>
+        ensures value { Exactly (λ a. a) result (image_address_of self.old.images.main.image file_offset) }
+        ensures same { self.new ≡ self.old }
+    {
+        let bundle = self.bundle;
+        let mut image = ElfParser::from_mem(self.alloc, bundle.image, bundle.module);
+        image.file_offset_to_virt_offset(file_offset)
     }
 }
 

@@ -4,7 +4,8 @@ ghost use Rattle.blz_model.specs.Part.{Gives, all_good};
 ghost use Rattle.blz_elf.specs.AnswerView.{answer_view};
 ghost use Rattle.blz_resolver.specs.BundleViews.{bundle_view};
 ghost use Rattle.blz_resolver.specs.FormatKinds.{IsMemoryOrFormat};
-ghost use Rattle.blz_resolver.specs.Scan.{answer_of, scan_of};
+ghost use Rattle.blz_resolver.specs.Resolver.{resolved};
+ghost use Rattle.blz_resolver.specs.Scan.{scan_of};
 
 use crate::{Bundle, ElfResolver};
 use blz_bytes::Orders;
@@ -50,7 +51,7 @@ fn answers<'b, O: Orders>(
     addrs: &[u64],
     opts: &FindSymOpts,
 ) -> Result<Vec<Answer<'b>>>
-    ensures value { Gives (λ v. map answer_view v.items) result (all_good (map (answer_of resolver.old) addrs.now)) }
+    ensures value { Gives (λ v. map answer_view v.items) result (all_good (map (resolved resolver.old) addrs.now)) }
     ensures one_each { IfOk result (λ v. length v.items ≡ length addrs.now) }
 {
     let mut answers = Vec::with_capacity(alloc, addrs.len())?;

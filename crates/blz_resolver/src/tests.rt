@@ -2,8 +2,8 @@
 use crate::files::{Files, FilesFault, MemoryFiles, Stamp};
 use crate::outside::{MemorySink, RealFiles, RealSink, Sink, SinkFault};
 use crate::{Bundle, Companion, ElfResolver, symbolize};
-use blz_bytes::AsTheyStand;
-use blz_elf::{Answer, FindSymOpts};
+use blz_bytes::{AsTheyStand, ByStdSort};
+use blz_elf::{Answer, Collect, FindAddrOpts, FindSymOpts, Reason, SymType};
 use blz_error::{ErrorKind, Result};
 use blz_images::{Image, Section, nested_functions, prefix};
 use std::alloc::Global;
@@ -192,5 +192,61 @@ fn opening_follows_no_link(rt: HostRuntime) -> std::result::Result<(), Fail> {
         refusal(ElfResolver::open(alloc, &mut files, "linked")),
         Some(ErrorKind::Unsupported)
     );
+    Ok(())
+}
+
+#[test]
+fn names_are_looked_up_in_symbols_alone(rt: HostRuntime) -> std::result::Result<(), Fail> {
+    let alloc = rt.alloc();
+    let image = nested_functions(alloc)?;
+    let opts = FindAddrOpts::default();
+    let mut alone = ElfResolver::from_bundle_elf(alloc, &bundle(&image));
+    let infos = alone.find_addr(alloc, &mut ByStdSort, "A", &opts)?;
+    let listed = match infos.as_slice() {
+        [info] => info.addr == 0 && info.size == Some(100),
+        _ => false,
+    };
+    assert!(rt; listed);
+    let mut collect = Collect::new(alloc, Some(1));
+    alone.for_each(alloc, &mut ByStdSort, &opts, &mut collect)?;
+    let shown = match collect.infos() {
+        [info] => info.name.as_str() == "A",
+        _ => false,
+    };
+    assert!(rt; shown);
+    let mut whole = ElfResolver::from_bundle(alloc, &mut AsTheyStand, &bundle(&image))?;
+    let variables = FindAddrOpts {
+        file_offset: false,
+        sym_type: SymType::Variable,
+    };
+    let refused = refusal(whole.find_addr(alloc, &mut AsTheyStand, "A", &variables));
+    assert_eq!(rt; refused, Some(ErrorKind::Unsupported));
+    let mut nothing = Collect::new(alloc, None);
+    let refused = refusal(whole.for_each(alloc, &mut AsTheyStand, &variables, &mut nothing));
+    assert_eq!(rt; refused, Some(ErrorKind::Unsupported));
+    assert!(rt; nothing.infos().is_empty());
+    Ok(())
+}
+
+#[test]
+fn the_image_alone_is_asked_where_its_symbols_are(
+    rt: HostRuntime,
+) -> std::result::Result<(), Fail> {
+    let alloc = rt.alloc();
+    let stripped = Image::elf64(alloc).segment(0x1000, 0x200, 0x100)?.bytes()?;
+    let linkee = nested_functions(alloc)?;
+    let linked = Bundle {
+        linkee: Some(Companion {
+            image: &linkee,
+            module: Some("linkee"),
+        }),
+        ..bundle(&stripped)
+    };
+    let mut alone = ElfResolver::from_bundle_elf(alloc, &linked);
+    let answer = alone.find_sym(alloc, &mut AsTheyStand, 15, &FindSymOpts::Basic)?;
+    assert!(rt; matches!(&answer, Answer::NoSym(Reason::MissingSyms)));
+    assert_eq!(rt; alone.file_offset_to_virt_offset(0x210)?, Some(0x1010));
+    let mut whole = ElfResolver::from_bundle(alloc, &mut AsTheyStand, &linked)?;
+    assert_eq!(rt; whole.file_offset_to_virt_offset(0x210)?, Some(0x1010));
     Ok(())
 }
