@@ -1,8 +1,8 @@
-//! The debug sections of an image.
-ghost use Rattle.std.specs.Prelude.{◌≡◌, IfOk};
+//! The debug sections of an image, and its units.
+ghost use Rattle.std.specs.Prelude.{◌≡◌, ◌+◌, ◌<◌, ◌^◌, length, IfOk};
 
 use blz_elf::{ElfParser, RelocationMap};
-use blz_entry::{Section, Sections};
+use blz_entry::{Abbreviations, Section, Sections, UnitHeader, UnitHeaders, UnitRoot};
 use blz_error::Result;
 use std::alloc::Global;
 
@@ -43,4 +43,25 @@ fn section<'s, 'b>(
         moves: none,
         order: parser.order()?,
     })
+}
+
+/// The headers of all units.
+pub fn units_of(alloc: Global, info: Section<'_, '_>) -> Result<Vec<UnitHeader>> {
+    let mut headers = UnitHeaders::new(info);
+    let mut units = Vec::new(alloc);
+    for _ in 0..u64::MAX {
+        let Some(header) = headers.next_header()? else {
+            break;
+        };
+        units.push(header)?;
+    }
+    Ok(units)
+}
+
+/// What the first entry of a unit says.
+pub fn root_of(alloc: Global, sections: &Sections<'_, '_>, header: &UnitHeader) -> Result<UnitRoot>
+    requires { sections.now.shift + length sections.now.info.bytes.now < 2 ^ 64 }
+{
+    let abbreviations = Abbreviations::parse(alloc, sections.abbrev.bytes, header.abbrev)?;
+    UnitRoot::parse(sections, header, &abbreviations)
 }

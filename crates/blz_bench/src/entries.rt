@@ -1,9 +1,9 @@
 //! The entries of all units of a file.
 ghost use Rattle.std.specs.Prelude.{◌+◌, ◌<◌, ◌^◌, length};
 
-use crate::debug_sections::sections_of;
+use crate::debug_sections::{sections_of, units_of};
 use blz_elf::RelocationMap;
-use blz_entry::{Abbreviations, Entries, Sections, UnitHeader, UnitHeaders, UnitRoot, attr_string};
+use blz_entry::{Abbreviations, Entries, Sections, UnitHeader, UnitRoot, attr_string};
 use blz_error::Result;
 use std::alloc::Global;
 
@@ -13,13 +13,10 @@ const NAME: u64 = 0x03;
 pub fn count_entries(alloc: Global, image: &[u8]) -> Result<u64> {
     let none = RelocationMap::new(alloc);
     let sections = sections_of(alloc, image, &none)?;
-    let mut units = UnitHeaders::new(sections.info);
-    let mut count = 0;
-    for _ in 0..image.len() {
-        let Some(header) = units.next_header()? else {
-            break;
-        };
-        count = u64::saturating_add(count, entries_of(alloc, sections, header)?);
+    let units = units_of(alloc, sections.info)?;
+    let mut count: u64 = 0;
+    for header in &units {
+        count = count.saturating_add(entries_of(alloc, sections, *header)?);
     }
     Ok(count)
 }
@@ -45,13 +42,10 @@ fn entries_of(alloc: Global, sections: Sections<'_, '_>, header: UnitHeader) -> 
 pub fn count_names(alloc: Global, image: &[u8]) -> Result<u64> {
     let none = RelocationMap::new(alloc);
     let sections = sections_of(alloc, image, &none)?;
-    let mut units = UnitHeaders::new(sections.info);
-    let mut count = 0;
-    for _ in 0..image.len() {
-        let Some(header) = units.next_header()? else {
-            break;
-        };
-        count = u64::saturating_add(count, names_of(alloc, sections, header)?);
+    let units = units_of(alloc, sections.info)?;
+    let mut count: u64 = 0;
+    for header in &units {
+        count = count.saturating_add(names_of(alloc, sections, *header)?);
     }
     Ok(count)
 }

@@ -1,15 +1,19 @@
-//! Runs one layer over a file and prints what it counted, for the scripts in bench/. No part of the product.
+//! Runs one layer over a file and prints what it counted, for the scripts in bench/ and scripts/. No part of the product.
 #![tactic(auto)]
 
 mod debug_sections;
 mod entries;
+mod lines;
+mod rows;
 mod symbols;
 mod words;
 
+use blz_bytes::{AsTheyStand, ByStdSort};
 use blz_error::Result;
 use blz_resolver::files::Files;
 use blz_resolver::outside::RealFiles;
-use std::alloc::Global;
+use lines::LineCounts;
+use std::alloc::{AllocError, Global};
 use std::process::ExitCode;
 use std::{env, io};
 use words::Layer;
@@ -23,13 +27,15 @@ fn main(rt: HostRuntime) -> io::Result<ExitCode> {
         }
     }
     let Some((layer, path, rest)) = words::asked(&words) else {
-        println!(rt; "usage: blz_bench entries|names|symbols|find FILE [WORD..]")?;
+        println!(rt;
+            "usage: blz_bench entries|names|lines|rows|symbols|symbols-by-scan|find|find-by-scan FILE [WORD..]"
+        )?;
         return Ok(ExitCode::SUCCESS);
     };
     let mut files = RealFiles::new(&rt);
-    match counted(alloc, &mut files, layer, path, rest) {
-        Ok(count) => {
-            println!(rt; "{count}")?;
+    match report(alloc, &mut files, layer, path, rest) {
+        Ok(text) => {
+            print!(rt; "{text}")?;
             Ok(ExitCode::SUCCESS)
         }
         Err(error) => {
@@ -39,19 +45,36 @@ fn main(rt: HostRuntime) -> io::Result<ExitCode> {
     }
 }
 
-// What the layer counts in a file.
-fn counted<F: Files>(
+// What the layer finds in a file.
+fn report<F: Files>(
     alloc: Global,
     files: &mut F,
     layer: Layer,
     path: &str,
     rest: &[String],
-) -> Result<u64> {
+) -> Result<String> {
     let image = files.read(alloc, path)?;
-    match layer {
-        Layer::Entries => entries::count_entries(alloc, &image),
-        Layer::Names => entries::count_names(alloc, &image),
-        Layer::Symbols => symbols::count_prepared(alloc, &image, rest),
-        Layer::Find => symbols::count_named(alloc, &image, rest),
-    }
+    let count = match layer {
+        Layer::Lines => {
+            let counts = lines::count_lines(alloc, &image)?;
+            return Ok(line_counts(alloc, counts)?);
+        }
+        Layer::Rows => return rows::list_rows(alloc, &image),
+        Layer::Entries => entries::count_entries(alloc, &image)?,
+        Layer::Names => entries::count_names(alloc, &image)?,
+        Layer::Symbols => symbols::count_found(alloc, &image, &mut ByStdSort, rest)?,
+        Layer::SymbolsByScan => symbols::count_found(alloc, &image, &mut AsTheyStand, rest)?,
+        Layer::Find => symbols::count_named(alloc, &image, &mut ByStdSort, rest)?,
+        Layer::FindByScan => symbols::count_named(alloc, &image, &mut AsTheyStand, rest)?,
+    };
+    Ok(format!(in alloc; "{count}\n")?)
+}
+
+fn line_counts(alloc: Global, counts: LineCounts) -> std::result::Result<String, AllocError> {
+    let LineCounts {
+        units,
+        sequences,
+        rows,
+    } = counts;
+    format!(in alloc; "{units} {sequences} {rows}\n")
 }
