@@ -1,5 +1,5 @@
 //! Small line tables, with the rows that the standard or another reader gives for them.
-use crate::{LineHeader, Lines};
+use crate::{LineHeader, LineRow, Lines};
 use blz_bytes::{AsTheyStand, ByteOrder};
 use blz_elf::RelocationMap;
 use blz_entry::{
@@ -235,4 +235,9 @@ fn a_count_that_no_byte_backs(rt: HostRuntime) -> Result<()> {
         Err(e) => assert!(rt; e.kind() == ErrorKind::InvalidDwarf),
     }
     Ok(())
+}
+
+#[test]
+fn a_row_takes_24_bytes(rt: HostRuntime) {
+    assert_eq!(rt; size_of::<LineRow>(), 24);
 }
