@@ -1,5 +1,5 @@
 -- The names of a table of symbols as they are kept, and an accepted order of them.
-use Rattle.std.specs.Prelude.{◌≡◌, ℕ, ◌<◌, ◌≤◌, true, false, List, [], length, map, get_or, Some, IfSome}
+use Rattle.std.specs.Prelude.{◌≡◌, ℕ, ◌<◌, ◌≤◌, ⊤, true, false, List, [], length, map, get_or, Some}
 use Rattle.std.specs.Ordering.{is_gt}
 use Rattle.blz_bytes.specs.declared.orders.NameSpan.{NameSpan}
 use Rattle.blz_bytes.specs.NameOrder.{text_in, name_cmp, TextBefore}
@@ -8,6 +8,8 @@ use Rattle.blz_model.specs.declared.cache.Cache.{Cache}
 use Rattle.blz_model.specs.Kept.{Kept}
 use Rattle.blz_elf.specs.declared.names.SymbolName.{SymbolName}
 use Rattle.blz_elf.specs.declared.name_order.KeptNames.{KeptNames}
+use Rattle.blz_elf.specs.declared.name_order.NameOrder.{NameOrder}
+use Rattle.blz_elf.specs.declared.name_order.NameOrder.TheVariants.{Unasked, Refused, Accepted}
 use Rattle.blz_elf.specs.declared.question.TableKind.{TableKind}
 use Rattle.blz_elf.specs.Accepted.{no_symbol}
 use Rattle.blz_elf.specs.Images.{Elf}
@@ -50,9 +52,15 @@ pub record SplitsNames (names : List Named) (places : List ℕ) (n : ℕ) (name 
 
 -- ---- what a cache of names holds
 
+-- where an order is kept, it is an accepted one
+abbrev pub OrderFits : List Named → NameOrder → Type 0
+OrderFits names Unasked = ⊤
+OrderFits names Refused = ⊤
+OrderFits names (Accepted places) = AreSorted names places.items
+
 pub record NamesFit (image : List ℕ) (n : KeptNames) : Type 0 where
   pub strings : SpanFits image n.strings
-  pub order : IfSome n.order (λ o. AreSorted (names_view image n) o.items)
+  pub order : OrderFits (names_view image n) n.order
 
 -- the cache is empty, or holds the names of one of the tables or their mark
 abbrev pub NamesKept : TableKind → Elf → Cache KeptNames → Type 0

@@ -25,19 +25,14 @@ use std::alloc::{AllocError, Global};
 
 /// The names of `.symtab`.
 #[tactic(auto, unfolding(crate::specs::NameRule::symbol_names))]
-fn read_static<O: Orders>(
-    alloc: Global,
-    orders: &mut O,
-    image: &Image<'_>,
-    symtab: &Cache<Table>,
-) -> Result<KeptNames>
+fn read_static(alloc: Global, image: &Image<'_>, symtab: &Cache<Table>) -> Result<KeptNames>
     requires kept { TableKept Symtab image.now symtab.now }
     requires full { is_kept symtab.now ≡ true }
     ensures value { Gives (names_view image.now.image) result (symbol_names Symtab image.now) }
     ensures fits { IfOk result (NamesFit image.now.image) }
 {
     match symtab {
-        Cache::Value(table) => KeptNames::read(alloc, orders, image.bytes(), None, table),
+        Cache::Value(table) => KeptNames::read(alloc, image.bytes(), None, table),
         Cache::Mark(kind) => Err(Error::new(*kind, Str::fixed("symbol table"))),
         Cache::Empty => unreachable!(),
     }
@@ -45,9 +40,8 @@ fn read_static<O: Orders>(
 
 /// The names of `.dynsym` that `.symtab` does not have.
 #[tactic(auto, unfolding(crate::specs::NameRule::symbol_names))]
-fn read_dynamic<O: Orders>(
+fn read_dynamic(
     alloc: Global,
-    orders: &mut O,
     image: &Image<'_>,
     symtab: &Cache<Table>,
     dynsym: &Cache<Table>,
@@ -61,7 +55,7 @@ fn read_dynamic<O: Orders>(
 {
     match (symtab, dynsym) {
         (Cache::Value(symtab), Cache::Value(dynsym)) => {
-            KeptNames::read(alloc, orders, image.bytes(), Some(symtab), dynsym)
+            KeptNames::read(alloc, image.bytes(), Some(symtab), dynsym)
         },
         (Cache::Mark(kind), _) => Err(Error::new(*kind, Str::fixed("symbol table"))),
         (_, Cache::Mark(kind)) => Err(Error::new(*kind, Str::fixed("dynamic symbol table"))),
@@ -97,9 +91,8 @@ fn keep(
 }
 
 /// Keeps `.symtab` and its names.
-pub fn fill_static<O: Orders>(
+pub fn fill_static(
     alloc: Global,
-    orders: &mut O,
     image: &Image<'_>,
     symtab: &mut Cache<Table>,
     names: &mut Cache<KeptNames>,
@@ -115,7 +108,7 @@ pub fn fill_static<O: Orders>(
 {
     fill_table(symtab, image, TableKind::Symtab);
     if let Cache::Empty = names {
-        let read = read_static(alloc, orders, image, symtab);
+        let read = read_static(alloc, image, symtab);
         return keep(image, TableKind::Symtab, names, read);
     }
     Ok(())
@@ -145,7 +138,7 @@ pub fn fill_dynamic<O: Orders>(
     fill_table(dynsym, image, TableKind::Dynsym);
     if let Cache::Empty = names {
         sort_kept(alloc, orders, image, TableKind::Symtab, symtab)?;
-        let read = read_dynamic(alloc, orders, image, symtab, dynsym);
+        let read = read_dynamic(alloc, image, symtab, dynsym);
         return keep(image, TableKind::Dynsym, names, read);
     }
     Ok(())
@@ -183,7 +176,7 @@ pub fn fill_names<O: Orders>(
     match frame {
         Cache::Value(frame) => {
             let parts = Image::open(image, *frame);
-            fill_static(alloc, orders, &parts, symtab, symtab_names)?;
+            fill_static(alloc, &parts, symtab, symtab_names)?;
             fill_dynamic(alloc, orders, &parts, symtab, dynsym, dynsym_names)
         },
         Cache::Mark(kind) => {
@@ -192,6 +185,43 @@ pub fn fill_names<O: Orders>(
             Ok(())
         },
         Cache::Empty => unreachable!(),
+    }
+}
+
+/// Asks for the order of names that are kept, where none was asked for.
+pub fn sort_names<O: Orders>(
+    alloc: Global,
+    orders: &mut O,
+    image: &Image<'_>,
+    kind: TableKind,
+    names: &mut Cache<KeptNames>,
+) -> std::result::Result<(), AllocError>
+    requires { NamesKept kind image.now names.old }
+    ensures kept { NamesKept kind image.now names.new }
+    ensures filled { is_kept names.new ≡ is_kept names.old }
+{
+    if let Cache::Value(names) = names {
+        names.sort(alloc, orders, image.bytes())?;
+    }
+    Ok(())
+}
+
+/// The same, where symbols of a name are wanted.
+fn sort_for<O: Orders>(
+    alloc: Global,
+    orders: &mut O,
+    image: &Image<'_>,
+    kind: TableKind,
+    names: &mut Cache<KeptNames>,
+    wanted: &Wanted<'_>,
+) -> std::result::Result<(), AllocError>
+    requires { NamesKept kind image.now names.old }
+    ensures kept { NamesKept kind image.now names.new }
+    ensures filled { is_kept names.new ≡ is_kept names.old }
+{
+    match wanted {
+        Wanted::Called(_) => sort_names(alloc, orders, image, kind, names),
+        Wanted::OfType(_) => Ok(()),
     }
 }
 
@@ -247,7 +277,8 @@ pub fn static_list<'b, O: Orders>(
     ensures names { NamesKept Symtab image.now names.new }
     ensures names_before { is_kept names.old ≡ true → is_kept names.new ≡ true }
 {
-    fill_static(alloc, orders, image, symtab, names)?;
+    fill_static(alloc, image, symtab, names)?;
+    sort_for(alloc, orders, image, TableKind::Symtab, names, wanted)?;
     list_kept(alloc, image, TableKind::Symtab, names, wanted)
 }
 
@@ -274,5 +305,6 @@ pub fn dynamic_list<'b, O: Orders>(
     ensures names_before { is_kept names.old ≡ true → is_kept names.new ≡ true }
 {
     fill_dynamic(alloc, orders, image, symtab, dynsym, names)?;
+    sort_for(alloc, orders, image, TableKind::Dynsym, names, wanted)?;
     list_kept(alloc, image, TableKind::Dynsym, names, wanted)
 }

@@ -4,7 +4,7 @@ ghost use Rattle.std.specs.Option.{option_map};
 ghost use Rattle.std.specs.Ordering.{is_gt};
 ghost use Rattle.blz_bytes.specs.NameOrder.{name_cmp};
 ghost use Rattle.blz_model.specs.Part.{Gives};
-ghost use Rattle.blz_elf.specs.NameOrders.{AreSorted, NamesFit, SplitsNames, named_at, named_in, names_view, span_of};
+ghost use Rattle.blz_elf.specs.NameOrders.{AreSorted, NamesFit, OrderFits, SplitsNames, named_at, named_in, names_view, span_of};
 ghost use Rattle.blz_elf.specs.NameRule.{asked_names, is_called};
 ghost use Rattle.blz_elf.specs.NameSteps.{named_view, passes};
 ghost use Rattle.blz_elf.specs.Places.{SpanFits, span_in};
@@ -17,7 +17,18 @@ use crate::table::Table;
 use blz_bytes::{NameSpan, Orders, check_names};
 use std::alloc::{AllocError, Global};
 
-/// The symbols of a table whose names are read, in table order, and an order of the names that was accepted.
+/// What is known of an order of names.
+#[derive(Drop)]
+pub enum NameOrder {
+    /// None was asked for.
+    Unasked,
+    /// The one that was handed in did not pass the check.
+    Refused,
+    /// The places of the names in their order, which passed it.
+    Accepted(Vec<usize>),
+}
+
+/// The symbols of a table whose names are read, in table order, and the order of the names.
 #[derive(Drop)]
 pub struct KeptNames {
     /// Where the strings lie.
@@ -25,7 +36,7 @@ pub struct KeptNames {
     /// The symbols with their names.
     pub listed: Vec<SymbolName>,
     /// The order.
-    pub order: Option<Vec<usize>>,
+    pub order: NameOrder,
 }
 
 /// The places of the names.
@@ -39,22 +50,22 @@ fn spans_of(alloc: Global, listed: &[SymbolName]) -> Result<Vec<NameSpan>, Alloc
     Ok(spans)
 }
 
-/// An order of the names, if the one that was handed in passes the check.
+/// The order of the names that is handed in, where it passes the check.
 fn order_of<O: Orders>(
     alloc: Global,
     orders: &mut O,
     strings: &[u8],
     listed: &[SymbolName],
-) -> Result<Option<Vec<usize>>, AllocError>
-    ensures { IfOk result (λ o. IfSome o (λ o. AreSorted (named_in strings.now listed.now) o.items)) }
+) -> Result<NameOrder, AllocError>
+    ensures { IfOk result (OrderFits (named_in strings.now listed.now)) }
 {
     let spans = spans_of(alloc, listed)?;
     let mut places = first_places(alloc, spans.len())?;
     orders.by_name(strings, &spans, &mut places);
     if check_names(strings, &spans, &places) {
-        Ok(Some(places))
+        Ok(NameOrder::Accepted(places))
     } else {
-        Ok(None)
+        Ok(NameOrder::Refused)
     }
 }
 
@@ -141,10 +152,9 @@ fn scan<'b>(
 }
 
 impl KeptNames {
-    /// The names of a table's symbols, without those that another has too, and the order that is handed in.
-    pub fn read<O: Orders>(
+    /// The names of a table's symbols, without those that another has too, in no order yet.
+    pub fn read(
         alloc: Global,
-        orders: &mut O,
         image: &[u8],
         symtab: Option<&Table>,
         table: &Table,
@@ -154,12 +164,10 @@ impl KeptNames {
         ensures value { Gives (names_view image.now) result (asked_names (option_map (λ t. table_view image.now t.now) symtab.entry) (table_view image.now table.now)) }
         ensures fits { IfOk result (NamesFit image.now) }
     {
-        let listed = asked_names(alloc, image, symtab, table)?;
-        let order = order_of(alloc, orders, table.strings_in(image), &listed)?;
         Ok(KeptNames {
             strings: table.strings,
-            listed,
-            order,
+            listed: asked_names(alloc, image, symtab, table)?,
+            order: NameOrder::Unasked,
         })
     }
 
@@ -169,6 +177,24 @@ impl KeptNames {
         ensures { result.now ≡ span_in image.now self.now.strings }
     {
         &image[self.strings.at..self.strings.at + self.strings.len]
+    }
+
+    /// Asks for the order of the names, where none was asked for.
+    pub fn sort<O: Orders>(
+        &mut self,
+        alloc: Global,
+        orders: &mut O,
+        image: &[u8],
+    ) -> Result<(), AllocError>
+        requires { NamesFit image.now self.old }
+        ensures strings { self.new.strings ≡ self.old.strings }
+        ensures listed { self.new.listed ≡ self.old.listed }
+        ensures fits { NamesFit image.now self.new }
+    {
+        if let NameOrder::Unasked = self.order {
+            self.order = order_of(alloc, orders, self.strings_in(image), &self.listed)?;
+        }
+        Ok(())
     }
 
     /// The wanted symbols, in table order: those of a name by the order, where there is one, others by a scan.
@@ -183,7 +209,7 @@ impl KeptNames {
     {
         let strings = self.strings_in(image);
         match (wanted, &self.order) {
-            (Wanted::Called(name), Some(places)) => {
+            (Wanted::Called(name), NameOrder::Accepted(places)) => {
                 search(alloc, strings, &self.listed, places, name)
             },
             _ => scan(alloc, strings, &self.listed, wanted),

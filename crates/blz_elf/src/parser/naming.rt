@@ -5,7 +5,9 @@ ghost use Rattle.blz_elf.specs.NameRule.{image_addresses, image_names};
 
 use crate::find_addr_opts::FindAddrOpts;
 use crate::infos::infos;
-use crate::kept_names::{check_kept, dynamic_list, fill_dynamic, fill_static, static_list};
+use crate::kept_names::{
+    check_kept, dynamic_list, fill_dynamic, fill_static, sort_names, static_list,
+};
 use crate::names::Wanted;
 use crate::parser::ElfParser;
 use crate::question::TableKind;
@@ -54,7 +56,7 @@ impl<'b> ElfParser<'b> {
         infos(alloc, &parts, self.module, opts.file_offset, &theirs)
     }
 
-    /// Reads both tables of symbols and their names, for later calls. Refused by the first mark of header, section table,
+    /// Reads both tables of symbols and their names, and asks for their orders, for later calls. Refused by the first mark of header, section table,
     /// section names, `.symtab`, its names, `.dynsym` and its names.
     #[tactic(auto, unfolding(crate::specs::NameRule::image_names, crate::specs::NameRule::image_symbol_names, crate::specs::SymbolTables::image_table))]
     pub fn cache<O: Orders>(&mut self, alloc: Global, orders: &mut O) -> Result<()>
@@ -64,9 +66,15 @@ impl<'b> ElfParser<'b> {
         let parts = self.parts()?;
         fill_static(
             alloc,
-            orders,
             &parts,
             &mut self.warm.symtab,
+            &mut self.warm.symtab_names,
+        )?;
+        sort_names(
+            alloc,
+            orders,
+            &parts,
+            TableKind::Symtab,
             &mut self.warm.symtab_names,
         )?;
         check_kept(&parts, TableKind::Symtab, &self.warm.symtab_names)?;
@@ -76,6 +84,13 @@ impl<'b> ElfParser<'b> {
             &parts,
             &mut self.warm.symtab,
             &mut self.warm.dynsym,
+            &mut self.warm.dynsym_names,
+        )?;
+        sort_names(
+            alloc,
+            orders,
+            &parts,
+            TableKind::Dynsym,
             &mut self.warm.dynsym_names,
         )?;
         check_kept(&parts, TableKind::Dynsym, &self.warm.dynsym_names)
