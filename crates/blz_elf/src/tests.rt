@@ -1,7 +1,7 @@
 //! Symbols, names, segments and sections of small images, with the answers that the rules give by hand.
 ghost use Rattle.std.specs.Prelude.{◌≡◌, None};
 
-use crate::{Answer, Collect, ElfParser, FindAddrOpts, FindSymOpts, Reason};
+use crate::{Answer, Collect, ElfParser, FindAddrOpts, FindSymOpts, Reason, SectionRelocations};
 use blz_bytes::{AsTheyStand, ByStdSort, Key, NameSpan, Orders, check_pairs};
 use blz_error::{ErrorKind, Result};
 use blz_images::{ByteOrder, Class, Image, Section, Writer, nested_functions, patched};
@@ -320,5 +320,64 @@ fn lists_the_symbols_of_a_name_whatever_order_comes(rt: HostRuntime) -> Result<(
     for name in ["", "AA", "C"] {
         assert!(rt; addresses(alloc, &mut ByStdSort, &image, name)?.is_empty());
     }
+    Ok(())
+}
+
+#[test]
+fn what_was_prepared_is_kept_without_the_image(rt: HostRuntime) -> Result<()> {
+    let alloc = rt.alloc();
+    let image = nested_functions(alloc)?;
+    let mut parser = ElfParser::from_mem(alloc, &image, Some("first"));
+    parser.prepare(alloc, &mut ByStdSort)?;
+    let warm = parser.into_warm();
+    let module = Some("second");
+    let kept = ElfParser::from_warm(&image, module, warm);
+    assert!(rt; kept.is_prepared());
+    for (addr, name) in [(15u64, "B"), (5, "A"), (50, "none")] {
+        let answer = match kept.find_sym_prepared(addr)? {
+            Answer::Sym(symbol) => symbol.name,
+            Answer::NoSym(_) => "none",
+        };
+        assert!(rt; answer == name, "at {addr}");
+    }
+    Ok(())
+}
+
+// what stands for 999 at a place of a section
+fn relocated(relocations: &SectionRelocations, section: usize, at: u64) -> u64 {
+    relocations.get(section).relocate(at, 999)
+}
+
+// the same, by the relocations that a parser keeps
+fn relocated_by_kept(
+    alloc: Global,
+    parser: &mut ElfParser<'_>,
+    section: usize,
+    at: u64,
+) -> Result<u64> {
+    match parser.section_relocations(alloc) {
+        Ok(relocations) => Ok(relocated(relocations, section, at)),
+        Err(error) => Err(error),
+    }
+}
+
+#[test]
+fn a_relocation_moves_a_place_to_its_symbol(rt: HostRuntime) -> Result<()> {
+    let alloc = rt.alloc();
+    // r_offset 8, the symbol with the index 1 in r_info, r_addend 5
+    let entry = b"\x08\0\0\0\0\0\0\0\x01\0\0\0\x01\0\0\0\x05\0\0\0\0\0\0\0";
+    let moves = Section::new(".rela.text", 4, entry).linked(2, 4);
+    let image = Image::elf64(alloc)
+        .file_type(1)
+        .symbol("A", 0x10, 4)?
+        .section(".text", 1, b"sixteen bytes ..")?
+        .add_section(moves)?
+        .bytes()?;
+    let mut parser = ElfParser::from_mem(alloc, &image, None);
+    let read = parser.read_relocations(alloc)?;
+    assert_eq!(rt; relocated(&read, 4, 8), 0x15);
+    assert_eq!(rt; relocated(&read, 4, 9), 999);
+    assert_eq!(rt; relocated(&read, 3, 8), 999);
+    assert_eq!(rt; relocated_by_kept(alloc, &mut parser, 4, 8)?, 0x15);
     Ok(())
 }
