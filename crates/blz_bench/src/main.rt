@@ -1,6 +1,7 @@
 //! Runs one layer over a file and prints what it counted, for the scripts in bench/ and scripts/. No part of the product.
 #![tactic(auto)]
 
+mod clocked;
 mod debug_sections;
 mod entries;
 mod lines;
@@ -13,9 +14,11 @@ use blz_error::Result;
 use blz_resolver::files::Files;
 use blz_resolver::outside::RealFiles;
 use lines::LineCounts;
-use std::alloc::{AllocError, Global};
+use std::alloc::Global;
 use std::process::ExitCode;
+use std::time::CpuClock;
 use std::{env, io};
+use symbols::Searched;
 use words::Layer;
 
 fn main(rt: HostRuntime) -> io::Result<ExitCode> {
@@ -33,7 +36,7 @@ fn main(rt: HostRuntime) -> io::Result<ExitCode> {
         return Ok(ExitCode::SUCCESS);
     };
     let mut files = RealFiles::new(&rt);
-    match report(alloc, &mut files, layer, path, rest) {
+    match report(alloc, &rt, &mut files, layer, path, rest) {
         Ok(text) => {
             print!(rt; "{text}")?;
             Ok(ExitCode::SUCCESS)
@@ -46,35 +49,57 @@ fn main(rt: HostRuntime) -> io::Result<ExitCode> {
 }
 
 // What the layer finds in a file.
-fn report<F: Files>(
+fn report<F: Files, C: CpuClock>(
     alloc: Global,
+    clock: &C,
     files: &mut F,
     layer: Layer,
     path: &str,
     rest: &[String],
 ) -> Result<String> {
     let image = files.read(alloc, path)?;
-    let count = match layer {
-        Layer::Lines => {
-            let counts = lines::count_lines(alloc, &image)?;
-            return Ok(line_counts(alloc, counts)?);
-        }
-        Layer::Rows => return rows::list_rows(alloc, &image),
-        Layer::Entries => entries::count_entries(alloc, &image)?,
-        Layer::Names => entries::count_names(alloc, &image)?,
-        Layer::Symbols => symbols::count_found(alloc, &image, &mut ByStdSort, rest)?,
-        Layer::SymbolsByScan => symbols::count_found(alloc, &image, &mut AsTheyStand, rest)?,
-        Layer::Find => symbols::count_named(alloc, &image, &mut ByStdSort, rest)?,
-        Layer::FindByScan => symbols::count_named(alloc, &image, &mut AsTheyStand, rest)?,
-    };
+    match layer {
+        Layer::Entries => count_text(alloc, entries::count_entries(alloc, &image)?),
+        Layer::Names => count_text(alloc, entries::count_names(alloc, &image)?),
+        Layer::Lines => line_counts(alloc, lines::count_lines(alloc, &image)?),
+        Layer::Rows => rows::list_rows(alloc, &image),
+        Layer::Symbols => searched(
+            alloc,
+            symbols::count_found(alloc, clock, &image, &mut ByStdSort, rest)?,
+        ),
+        Layer::SymbolsByScan => searched(
+            alloc,
+            symbols::count_found(alloc, clock, &image, &mut AsTheyStand, rest)?,
+        ),
+        Layer::Find => searched(
+            alloc,
+            symbols::count_named(alloc, clock, &image, &mut ByStdSort, rest)?,
+        ),
+        Layer::FindByScan => searched(
+            alloc,
+            symbols::count_named(alloc, clock, &image, &mut AsTheyStand, rest)?,
+        ),
+    }
+}
+
+fn count_text(alloc: Global, count: u64) -> Result<String> {
     Ok(format!(in alloc; "{count}\n")?)
 }
 
-fn line_counts(alloc: Global, counts: LineCounts) -> std::result::Result<String, AllocError> {
+fn line_counts(alloc: Global, counts: LineCounts) -> Result<String> {
     let LineCounts {
         units,
         sequences,
         rows,
     } = counts;
-    format!(in alloc; "{units} {sequences} {rows}\n")
+    Ok(format!(in alloc; "{units} {sequences} {rows}\n")?)
+}
+
+fn searched(alloc: Global, outcome: Searched) -> Result<String> {
+    let Searched {
+        found,
+        preparing,
+        searching,
+    } = outcome;
+    Ok(format!(in alloc; "{found} {preparing} {searching}\n")?)
 }
