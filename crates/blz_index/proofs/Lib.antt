@@ -1,0 +1,15 @@
+pub mod BestOf
+pub mod InTurn
+pub mod Halving
+pub mod Backward
+pub mod Carried
+pub mod Scanning
+pub mod Made
+pub mod Alone
+pub mod OwnedItems
+pub mod ChainPath
+pub mod ChainLoop
+pub mod Lying
+pub mod Broken
+pub mod FunctionSteps
+pub mod DescriptionSteps

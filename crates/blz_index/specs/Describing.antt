@@ -1,0 +1,54 @@
+-- What an entry is called and covers, and where it is called if it is an inlined call (DWARF 5 section 3.3.8.2).
+use Rattle.std.specs.Prelude.{ℕ, ◌^◌, ◌%◌, Bool, ◌||◌, List, Option, Some, None, nat_lt, ◌==◌, if◌then◌else◌}
+use Rattle.blz_model.specs.Reads.{◌>>=◌}
+use Rattle.blz_entry.specs.Attributes.{attributes}
+use Rattle.blz_entry.specs.Folds.{fold_maybe}
+use Rattle.blz_entry.specs.Forms.{udata}
+use Rattle.blz_entry.specs.declared.abbreviations.AttrSpec.{AttrSpec}
+use Rattle.blz_entry.specs.declared.ranges.RangeAttributes.{RangeAttributes}
+use Rattle.blz_entry.specs.declared.text.StrPlace.{StrPlace}
+use Rattle.blz_entry.specs.declared.value.AttrValue.{AttrValue}
+use Rattle.blz_index.specs.declared.description.CallSite.{CallSite}
+use Rattle.blz_index.specs.declared.description.Description.{Description}
+use Rattle.blz_index.specs.Leaves.{UnitParts, range_step_in, source_in}
+use Rattle.blz_index.specs.Naming.{name_step}
+
+-- where the references of a unit lead
+abbrev pub Refer : Type 0
+Refer = AttrValue → Option (Option StrPlace)
+
+abbrev pub low_bits : Option ℕ → ℕ
+low_bits None = 0
+low_bits (Some n) = n % 2 ^ 32
+
+-- File 0 is a file in version 5 alone; another value that is none changes nothing.
+abbrev pub kept_file : ℕ → Option ℕ → Option ℕ → Option ℕ
+kept_file version old None = old
+kept_file version old (Some file) = if nat_lt 0 file || version == 5 then Some file else old
+
+-- DW_AT_call_file (58), DW_AT_call_line (59), DW_AT_call_column (57)
+abbrev pub with_call_site : ℕ → CallSite → ℕ × AttrValue → CallSite
+with_call_site version s a =
+    if a.0 == 0x58 then record s { file = kept_file version s.file (udata a.1) } else (
+    if a.0 == 0x59 then record s { line = low_bits (udata a.1) } else (
+    if a.0 == 0x57 then record s { column = low_bits (udata a.1) } else s))
+
+abbrev pub no_ranges : RangeAttributes
+no_ranges = record { low_pc = None; high_pc = None; size = None; ranges_offset = None }
+
+abbrev pub undescribed : Description
+undescribed = record { name = None; ranges = no_ranges; site = record { file = None; line = 0; column = 0 } }
+
+-- one attribute more
+unfoldable pub description_step : Refer → UnitParts → Description → ℕ × AttrValue → Option Description
+description_step refer u d a = do
+  name ← name_step refer u d.name a
+  ranges ← range_step_in u d.ranges a
+  Some (record { name = name; ranges = ranges; site = with_call_site u.header.version d.site a })
+
+-- the description behind some attributes at a place, and the place behind them
+unfoldable pub described : Refer → UnitParts → Description → List AttrSpec → ℕ → Option (Description × ℕ)
+described refer u d specs at = do
+  values ← attributes specs (source_in u).encoding (source_in u).base (source_in u).section at
+  behind ← fold_maybe (description_step refer u) d values.0
+  Some (behind, values.1)

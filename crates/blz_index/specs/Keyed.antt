@@ -1,0 +1,31 @@
+-- By which keys ranges are put into order.
+use Rattle.std.specs.Prelude.{◌≡◌, ℕ, ◌<◌, ◌≤◌, Bool, List, length, Option, Some, None}
+use Rattle.blz_entry.specs.declared.span.Span.{Span}
+use Rattle.blz_bytes.specs.declared.orders.Key.{Key}
+use Rattle.blz_bytes.specs.PairOrder.{accepts, PairBefore}
+use Rattle.blz_index.specs.declared.grouped.Grouped.{Grouped}
+use Rattle.blz_index.specs.Groups.{grouped_at}
+
+-- the order of two places of a list
+pub record PlacesRise (list : List Grouped) (p q : ℕ) : Type 0 where
+  pub later : (grouped_at list p).group ≤ (grouped_at list q).group
+  pub below : (grouped_at list p).group ≡ (grouped_at list q).group → (grouped_at list p).span.begin ≤ (grouped_at list q).span.begin
+  pub tie : (grouped_at list p).group ≡ (grouped_at list q).group → (grouped_at list p).span.begin ≡ (grouped_at list q).span.begin → p < q
+
+-- Keys that put ranges into the order of group and begin.
+pub record AreKeysOf (keys : List Key) (list : List Grouped) : Type 0 where
+  pub same : length keys ≡ length list
+  pub rises : (p q : ℕ) → PairBefore keys p q → PlacesRise list p q
+
+-- ranges without groups, by their begins
+abbrev pub begin_key : Span → Key
+begin_key s = record { first = s.begin; second = 0 }
+
+-- ranges in groups, by group and begin
+abbrev pub group_key : Grouped → Key
+group_key x = record { first = x.group; second = x.span.begin }
+
+-- Where the places are told, they are accepted exactly where they pass the check.
+abbrev pub IsAccepted : Option (List Key → List ℕ) → List Key → Bool → Type 0
+IsAccepted None keys ordered = Unit {0}
+IsAccepted (Some told) keys ordered = ordered ≡ accepts keys (told keys)

@@ -1,0 +1,14 @@
+pub mod Best
+pub mod Turns
+pub mod Groups
+pub mod Sorted
+pub mod Search
+pub mod Keyed
+pub mod Owned
+pub mod Ranges
+pub mod Chain
+pub mod Leaves
+pub mod Opened
+pub mod Naming
+pub mod Describing
+pub mod FunctionList

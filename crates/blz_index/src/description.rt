@@ -1,0 +1,167 @@
+//! What an entry is called and covers.
+ghost use Rattle.std.specs.Prelude.{◌≡◌, ◌≤◌, [], Option, None, Some, IfOk, if◌then◌else◌};
+ghost use Rattle.blz_model.specs.Part.{Gives, Exactly};
+ghost use Rattle.blz_entry.specs.Marks.{or_invalid};
+ghost use Rattle.blz_index.specs.Describing.{low_bits, kept_file, with_call_site, no_ranges, undescribed, description_step, described};
+ghost use Rattle.blz_index.specs.Leaves.{source_in};
+ghost use Rattle.blz_index.specs.Naming.{referred, name_step};
+ghost use Rattle.blz_index.specs.Opened.{open_view};
+
+use crate::links::Links;
+use crate::open_unit::OpenUnit;
+use crate::visit::{is_linkage_name, is_name, is_reference, or_else};
+use blz_entry::{AttrSpec, AttrValue, Entries, RangeAttributes, StrPlace};
+use blz_error::Result;
+
+/// Where an inlined call stands in the source (DWARF 5 section 3.3.8.2).
+#[derive(Clone, Copy)]
+pub struct CallSite {
+    pub file: Option<u64>,
+    pub line: u32,
+    pub column: u32,
+}
+
+/// What an entry is called, what it covers, and where it is called if it is an inlined call.
+#[derive(Clone, Copy)]
+pub struct Description {
+    pub name: Option<StrPlace>,
+    pub ranges: RangeAttributes,
+    pub site: CallSite,
+}
+
+fn low_bits(number: Option<u64>) -> u32
+    ensures { result ≡ low_bits number }
+{
+    match number {
+        Some(number) => (number % (1 << 32)) as u32,
+        None => 0,
+    }
+}
+
+fn kept_file(version: u16, old: Option<u64>, number: Option<u64>) -> Option<u64>
+    ensures { result ≡ kept_file version old number }
+{
+    match number {
+        Some(file) if file > 0 || version == 5 => number,
+        _ => old,
+    }
+}
+
+impl CallSite {
+    /// The site with one attribute more.
+    fn with(self, version: u16, name: u64, value: AttrValue) -> CallSite
+        ensures { result ≡ with_call_site version self (name, value) }
+    {
+        match name {
+            0x58 => CallSite {
+                file: kept_file(version, self.file, value.udata()),
+                ..self
+            },
+            0x59 => CallSite {
+                line: low_bits(value.udata()),
+                ..self
+            },
+            0x57 => CallSite {
+                column: low_bits(value.udata()),
+                ..self
+            },
+            _ => self,
+        }
+    }
+}
+
+fn undescribed() -> Description
+    ensures { result ≡ undescribed }
+{
+    Description {
+        name: None,
+        ranges: RangeAttributes {
+            low_pc: None,
+            high_pc: None,
+            size: None,
+            ranges_offset: None,
+        },
+        site: CallSite {
+            file: None,
+            line: 0,
+            column: 0,
+        },
+    }
+}
+
+#[tactic(auto, unfolding(crate::specs::Naming::name_step))]
+fn name_with<F: Links>(
+    unit: &OpenUnit<'_, '_>,
+    links: &mut F,
+    known: Option<StrPlace>,
+    name: u64,
+    value: AttrValue,
+) -> Result<Option<StrPlace>>
+    ensures value { Gives (λ n. n) result (or_invalid (name_step (F.refer links.old) (open_view unit.now) known (name, value))) }
+    ensures same { F.refer links.new ≡ F.refer links.old }
+{
+    if is_linkage_name(name) {
+        return Ok(or_else(unit.string(value), known));
+    }
+    if is_name(name) {
+        return Ok(or_else(known, unit.string(value)));
+    }
+    if is_reference(name) && known.is_none() {
+        return links.follow(value);
+    }
+    Ok(known)
+}
+
+impl Description {
+    /// The description with one attribute more.
+    #[tactic(auto, unfolding(crate::specs::Describing::description_step))]
+    fn with<F: Links>(
+        self,
+        unit: &OpenUnit<'_, '_>,
+        links: &mut F,
+        name: u64,
+        value: AttrValue,
+    ) -> Result<Description>
+        ensures value { Gives (λ d. d) result (or_invalid (description_step (F.refer links.old) (open_view unit.now) self (name, value))) }
+        ensures same { F.refer links.new ≡ F.refer links.old }
+    {
+        let known = name_with(unit, links, self.name, name, value)?;
+        let ranges = unit.with_attribute(self.ranges, name, value)?;
+        let site = self.site.with(unit.header.version, name, value);
+        Ok(Description {
+            name: known,
+            ranges,
+            site,
+        })
+    }
+
+    /// The description of an entry by its attributes, which are next.
+    pub fn read<F: Links>(
+        unit: &OpenUnit<'_, '_>,
+        links: &mut F,
+        entries: &mut Entries<'_, '_>,
+        specs: &[AttrSpec],
+    ) -> Result<Description>
+        requires pending { entries.old.pending ≡ specs.now }
+        requires source { entries.old.source ≡ source_in (open_view unit.now) }
+        ensures value { Gives (λ d. (d, entries.new.place)) result (or_invalid (described (F.refer links.old) (open_view unit.now) undescribed specs.now entries.old.place)) }
+        ensures pending { IfOk result (λ _. entries.new.pending ≡ []) }
+        ensures source { entries.new.source ≡ entries.old.source }
+        ensures depth { entries.new.depth ≡ entries.old.depth }
+        ensures ahead { entries.old.place ≤ entries.new.place }
+        ensures same { F.refer links.new ≡ F.refer links.old }
+    {
+        let mut description = undescribed();
+        for spec in specs {
+            let value = match entries.read_attribute(*spec) {
+                Ok(value) => value,
+                Err(fault) => return Err(fault),
+            };
+            description = match description.with(unit, links, spec.name, value) {
+                Ok(more) => more,
+                Err(fault) => return Err(fault),
+            };
+        }
+        Ok(description)
+    }
+}

@@ -1,0 +1,12 @@
+//! The error of broken DWARF data.
+ghost use Rattle.std.specs.Prelude.{◌≡◌};
+ghost use Rattle.blz_error.specs.declared.kind.ErrorKind.TheVariants.{InvalidDwarf};
+
+use blz_error::{Error, ErrorKind, Str};
+
+/// The error of kind InvalidDwarf with a text that says what is broken.
+pub fn invalid(text: &'static str) -> Error
+    ensures { result.kind ≡ InvalidDwarf }
+{
+    Error::new(ErrorKind::InvalidDwarf, Str::fixed(text))
+}

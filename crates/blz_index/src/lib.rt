@@ -1,0 +1,23 @@
+//! Functions, source lines and inlined calls of the units of a file, found by address and by name.
+#![tactic(auto)]
+
+mod description;
+mod fault;
+mod functions;
+mod group_index;
+mod grouped;
+mod inlined_functions;
+mod laws;
+mod links;
+mod open_unit;
+mod ordered;
+mod owned_ranges;
+mod placed;
+mod range_index;
+#[cfg(test)]
+mod tests;
+mod visit;
+
+pub use functions::{Function, Functions};
+pub use inlined_functions::{InlinedFunction, InlinedFunctions};
+pub use range_index::RangeIndex;
