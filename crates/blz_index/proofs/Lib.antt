@@ -13,3 +13,4 @@ pub mod Lying
 pub mod Broken
 pub mod FunctionSteps
 pub mod DescriptionSteps
+pub mod Rooted

@@ -12,3 +12,8 @@ pub mod Opened
 pub mod Naming
 pub mod Describing
 pub mod FunctionList
+pub mod References
+pub mod BuiltUnits
+pub mod UnitTables
+pub mod UnitLists
+pub mod TableViews

@@ -1,7 +1,9 @@
 //! Functions, source lines and inlined calls of the units of a file, found by address and by name.
 #![tactic(auto)]
 
+mod built_unit;
 mod description;
+mod dwarf;
 mod fault;
 mod functions;
 mod group_index;
@@ -16,6 +18,8 @@ mod placed;
 mod range_index;
 #[cfg(test)]
 mod tests;
+mod unit_list;
+mod unit_table;
 mod visit;
 
 pub use functions::{Function, Functions};

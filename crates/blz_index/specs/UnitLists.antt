@@ -1,0 +1,18 @@
+-- Headers of units in the order in which the units stand.
+use Rattle.std.specs.Prelude.{◌≡◌, ℕ, ◌<◌, ◌≤◌, List, Some}
+use Rattle.std.specs.List.{slice_get}
+use Rattle.blz_entry.specs.declared.units.UnitHeader.{UnitHeader}
+
+-- The entries of a unit stand behind its start, and before its end.
+pub record IsInPlace (h : UnitHeader) : Type 0 where
+  pub behind : h.start < h.entries
+  pub ordered : h.entries ≤ h.end
+
+-- all units end at or before a place
+abbrev pub EndBefore : List UnitHeader → ℕ → Type 0
+EndBefore units place = (i : ℕ) (h : UnitHeader) → slice_get units i ≡ Some h → h.end ≤ place
+
+-- Each unit begins at or behind the end of the one before it.
+pub record AreUnits (units : List UnitHeader) : Type 0 where
+  pub in_place : (i : ℕ) (h : UnitHeader) → slice_get units i ≡ Some h → IsInPlace h
+  pub rises : (i j : ℕ) (g h : UnitHeader) → i < j → slice_get units i ≡ Some g → slice_get units j ≡ Some h → g.end ≤ h.start

@@ -1,0 +1,162 @@
+-- The units of a file, and the addresses that they announce (DWARF 5 sections 6.1.2, 7.5.1 and 3.1.1).
+use Rattle.std.specs.Prelude.{ℕ, zero, suc, ◌+◌, ◌-◌, Bool, true, false, not, List, [], ◌∷◌, ◌++◌, length, Option, Some, None, is_some, nat_lt, ◌==◌, if◌then◌else◌}
+use Rattle.std.specs.List.{slice_get, filter}
+use Rattle.std.specs.Option.{option_to_list}
+use Rattle.blz_model.specs.Reads.{◌>>=◌}
+use Rattle.blz_entry.specs.AddressSets.{set_at, pairs_of}
+use Rattle.blz_entry.specs.Contents.{Contents}
+use Rattle.blz_entry.specs.Folds.{fold_maybe}
+use Rattle.blz_entry.specs.Headers.{headers_from}
+use Rattle.blz_entry.specs.declared.aranges.ArangeSet.{ArangeSet}
+use Rattle.blz_entry.specs.declared.span.Span.{Span}
+use Rattle.blz_entry.specs.declared.units.UnitHeader.{UnitHeader}
+use Rattle.blz_entry.specs.declared.units.UnitKind.{UnitKind}
+use Rattle.blz_entry.specs.declared.units.UnitKind.TheVariants.{Compile, TypeUnit, Partial, Skeleton, SplitCompile, SplitType}
+use Rattle.blz_line.specs.Lookups.{spans_of}
+use Rattle.blz_line.specs.UnitLines.{LineTable, maybe_table}
+use Rattle.blz_split.specs.FileSections.{FileSections}
+use Rattle.blz_index.specs.BuiltUnits.{Files, built, reading, sup_built}
+use Rattle.blz_index.specs.Leaves.{UnitParts, lying, ranges_in}
+use Rattle.blz_index.specs.Owned.{Owned, items_of, owner_at, own_all}
+use Rattle.blz_index.specs.References.{Reach}
+use Rattle.blz_index.specs.Turns.{covering}
+
+-- ---- sets of address ranges
+
+-- the sets of a section from a place up to its end, in at most n steps
+unfoldable pub sets_in : ℕ → Contents → ℕ → Option (List ArangeSet)
+sets_in zero s at = None
+sets_in (suc n) s at = if nat_lt at (length s.bytes) then (do
+  set ← set_at s at
+  rest ← sets_in n s set.end
+  Some (set ∷ rest)) else Some []
+
+-- The sets of a section from a place on. Each takes bytes, so there are no more of them than bytes.
+abbrev pub sets_from : Contents → ℕ → Option (List ArangeSet)
+sets_from s at = sets_in (suc (length s.bytes - at)) s at
+
+-- a set, and those behind it
+abbrev pub sets_behind : Contents → Option ArangeSet → Option (List ArangeSet)
+sets_behind s set = do
+  x ← set
+  rest ← sets_from s x.end
+  Some (x ∷ rest)
+
+-- the ranges of the sets that name the start of a unit, in the order of the section
+unfoldable pub named : Contents → ℕ → List ArangeSet → List Span
+named s start [] = []
+named s start (set ∷ rest) = (if set.unit == start then pairs_of s set else []) ++ named s start rest
+
+-- ---- what a unit announces
+
+-- a type unit, which has no addresses
+abbrev pub is_type : UnitKind → Bool
+is_type Compile = false
+is_type TypeUnit = true
+is_type Partial = false
+is_type Skeleton = false
+is_type SplitCompile = false
+is_type SplitType = true
+
+abbrev pub is_partial : UnitKind → Bool
+is_partial Compile = false
+is_partial TypeUnit = false
+is_partial Partial = true
+is_partial Skeleton = false
+is_partial SplitCompile = false
+is_partial SplitType = false
+
+-- what the sequences of a line table cover; none where there is no table, or it has no value
+abbrev pub sequences_of : Option (Option LineTable) → List Span
+sequences_of None = []
+sequences_of (Some None) = []
+sequences_of (Some (Some table)) = spans_of table.sequences
+
+-- the lines of a unit
+abbrev pub lines_in : UnitParts → Option (Option LineTable)
+lines_in u = maybe_table (lying u.sections) u.header u.root u.root.line
+
+-- the ranges of a root, and where there are none the sequences of its lines
+abbrev pub or_sequences : UnitParts → List Span → List Span
+or_sequences u [] = sequences_of (lines_in u)
+or_sequences u (s ∷ spans) = s ∷ spans
+
+-- A unit that cannot be built is not kept.
+abbrev pub by_root : Option UnitParts → Option (Option (List Span))
+by_root None = Some None
+by_root (Some u) = ranges_in u u.root.ranges >>= λ spans. Some (Some (or_sequences u spans))
+
+-- A unit whose start is named with ranges is not built.
+abbrev pub by_pairs : List Span → Option UnitParts → Option (Option (List Span))
+by_pairs [] unit = by_root unit
+by_pairs (s ∷ spans) unit = Some (Some (s ∷ spans))
+
+-- The ranges that a unit announces, and none of one that is not kept: a type unit is not, and a partial unit is kept and
+-- announces nothing. A list of ranges of a root has to have a value.
+unfoldable pub announces : FileSections → List ArangeSet → UnitHeader → Option (Option (List Span))
+announces s sets h =
+    if is_type h.kind then Some None else (
+    if is_partial h.kind then Some (Some []) else by_pairs (named s.aranges h.start sets) (built s h))
+
+-- ---- the units of a file
+
+-- the units that are kept so far, and what they announce, each range with the number of its unit
+pub record KeptUnits : Type 0 where
+  pub kept : List UnitHeader
+  pub announced : List (Owned Span)
+
+abbrev pub no_units : KeptUnits
+no_units = record { kept = []; announced = [] }
+
+abbrev pub keep : KeptUnits → UnitHeader → Option (List Span) → KeptUnits
+keep k h None = k
+keep k h (Some spans) = record { kept = k.kept ++ h ∷ []; announced = k.announced ++ own_all (length k.kept) spans }
+
+-- one unit more
+unfoldable pub with_unit : FileSections → List ArangeSet → KeptUnits → UnitHeader → Option KeptUnits
+with_unit s sets k h = announces s sets h >>= λ spans. Some (keep k h spans)
+
+-- the units that references from the main file may lead to
+abbrev pub no_types : List UnitHeader → List UnitHeader
+no_types headers = filter (λ (h : UnitHeader). not (is_type h.kind)) headers
+
+unfoldable pub sup_units : Option FileSections → Option (List UnitHeader)
+sup_units None = Some []
+sup_units (Some s) = headers_from s.info 0 >>= λ headers. Some (no_types headers)
+
+-- The units that are kept, what they announce, and the units of the supplementary file.
+pub record UnitTable : Type 0 where
+  pub kept : List UnitHeader
+  pub announced : List (Owned Span)
+  pub sups : List UnitHeader
+
+-- All sets and all headers have to have a value.
+unfoldable pub units_of : Files → Option UnitTable
+units_of f = do
+  sups ← sup_units f.sup
+  sets ← sets_from f.main.aranges 0
+  headers ← headers_from f.main.info 0
+  units ← fold_maybe (with_unit f.main sets) no_units headers
+  Some (record { kept = units.kept; announced = units.announced; sups = sups })
+
+-- ---- what is asked of a table
+
+-- what the references of its units may lead to
+abbrev pub reach_of : Files → UnitTable → Reach
+reach_of f t = record {
+  kept = t.kept;
+  reading = λ k. slice_get t.kept k >>= reading f;
+  has_sup = is_some f.sup;
+  sups = t.sups;
+  sup = λ k. slice_get t.sups k >>= sup_built f.sup;
+}
+
+-- the owners of the ranges at some places
+abbrev pub owners_of : List (Owned Span) → List ℕ → List ℕ
+owners_of ranges [] = []
+owners_of ranges (p ∷ places) = option_to_list (owner_at ranges p) ++ owners_of ranges places
+
+-- The units that announce an address, by the ranges that cover it: the greatest begin first, then the earlier place. A
+-- unit may stand there more than once.
+abbrev pub announcing : UnitTable → ℕ → List ℕ
+announcing t a = owners_of t.announced (covering (items_of t.announced) a)

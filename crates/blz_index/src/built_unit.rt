@@ -1,0 +1,195 @@
+//! Units that are built, as places and numbers.
+ghost use Rattle.std.specs.Prelude.{◌≡◌, ◌≤◌, ◌<◌, ◌+◌, ◌^◌, length, IfOk, Option};
+ghost use Rattle.blz_model.specs.Part.{Gives, Exactly};
+ghost use Rattle.blz_entry.specs.Marks.{or_invalid};
+ghost use Rattle.blz_entry.specs.Roots.{root_of};
+ghost use Rattle.blz_index.specs.BuiltUnits.{built, built_view, first_unit, has_lines, has_id, parts_of, reading, rooted_on, sections_from, split_built, files_view, BuiltFits, IsInside, IsReadable};
+ghost use Rattle.blz_index.specs.Leaves.{lying};
+ghost use Rattle.blz_index.specs.declared.dwarf.Origin.TheVariants.{Split};
+ghost use Rattle.blz_index.specs.Opened.{open_view, CanBeOpened};
+ghost use Rattle.blz_split.specs.FileSections.{sections_view};
+
+use crate::dwarf::{Dwarf, Origin};
+use crate::fault::invalid;
+use crate::open_unit::OpenUnit;
+use blz_entry::{Abbreviations, Sections, UnitHeader, UnitHeaders, UnitKind, UnitRoot};
+use blz_error::Result;
+use blz_line::LineHeader;
+use blz_split::SplitUnit;
+use std::alloc::Global;
+
+/// A unit that is built: its abbreviations and its root are read, and its line program has a header.
+#[derive(Drop)]
+pub struct BuiltUnit {
+    pub header: UnitHeader,
+    pub abbreviations: Abbreviations,
+    pub root: UnitRoot,
+    pub origin: Origin,
+}
+
+/// Whether a unit has an id, by which a package may have its split unit.
+fn has_id(kind: UnitKind) -> bool
+    ensures { result ≡ has_id kind }
+{
+    match kind {
+        UnitKind::Skeleton | UnitKind::SplitCompile => true,
+        UnitKind::Compile | UnitKind::TypeUnit | UnitKind::Partial | UnitKind::SplitType => false,
+    }
+}
+
+/// Asks for the header of a line program, where a root tells one.
+fn check_lines(
+    alloc: Global,
+    sections: &Sections<'_, '_>,
+    header: &UnitHeader,
+    line: Option<u64>,
+) -> Result<()>
+    ensures { Gives (λ _. tt) result (or_invalid (has_lines (sections_view sections.now) header.now line)) }
+{
+    if let Some(at) = line {
+        LineHeader::parse(alloc, sections, at, header.address_size)?;
+    }
+    Ok(())
+}
+
+/// The header of the first unit of a section, which has to be there.
+#[tactic(auto, unfolding(crate::specs::BuiltUnits::first_unit))]
+fn first_header(sections: &Sections<'_, '_>) -> Result<UnitHeader>
+    ensures value { Exactly (λ h. h) result (or_invalid (first_unit (sections_view sections.now))) }
+    ensures ordered { IfOk result (λ h. h.entries ≤ h.end) }
+{
+    let mut headers = UnitHeaders::new(sections.info);
+    match headers.next_header()? {
+        Some(header) => Ok(header),
+        None => Err(invalid("a contribution of a package has no unit")),
+    }
+}
+
+/// The root of a unit.
+fn root_of(
+    sections: &Sections<'_, '_>,
+    header: &UnitHeader,
+    abbreviations: &Abbreviations,
+) -> Result<UnitRoot>
+    requires { sections.now.shift + length sections.now.info.bytes.now < 2 ^ 64 }
+    ensures { Exactly (λ r. r) result (or_invalid (root_of (lying (sections_view sections.now)) header.now abbreviations.now)) }
+{
+    UnitRoot::parse(sections, header, abbreviations)
+}
+
+/// The abbreviations and the root of a unit.
+#[tactic(auto, unfolding(crate::specs::BuiltUnits::built))]
+fn read(
+    alloc: Global,
+    sections: &Sections<'_, '_>,
+    header: &UnitHeader,
+) -> Result<(Abbreviations, UnitRoot)>
+    requires { sections.now.shift + length sections.now.info.bytes.now < 2 ^ 64 }
+    ensures { Gives (λ r. parts_of (sections_view sections.now) header.now r) result (or_invalid (built (sections_view sections.now) header.now)) }
+{
+    let abbreviations = Abbreviations::parse(alloc, sections.abbrev.bytes, header.abbrev)?;
+    let root = root_of(sections, header, &abbreviations)?;
+    check_lines(alloc, sections, header, root.line)?;
+    Ok((abbreviations, root))
+}
+
+impl BuiltUnit {
+    /// Builds a unit of an origin. InvalidDwarf exactly where its abbreviations, its root or the header of its line
+    /// program have no value.
+    pub fn of_file(
+        alloc: Global,
+        dwarf: &Dwarf<'_, '_>,
+        origin: Origin,
+        header: &UnitHeader,
+    ) -> Result<BuiltUnit>
+        requires readable { IsReadable dwarf.now }
+        requires inside { IsInside (files_view dwarf.now).package origin }
+        requires ordered { header.now.entries ≤ header.now.end }
+        ensures value { Gives (built_view (files_view dwarf.now)) result (or_invalid (built (sections_from (files_view dwarf.now) origin) header.now)) }
+        ensures fits { IfOk result (BuiltFits (files_view dwarf.now)) }
+        ensures origin { IfOk result (λ u. u.origin ≡ origin) }
+    {
+        let sections = dwarf.sections(&origin);
+        let (abbreviations, root) = read(alloc, &sections, header)?;
+        Ok(BuiltUnit {
+            header: *header,
+            abbreviations,
+            root,
+            origin,
+        })
+    }
+
+    /// The unit with addresses and ranges that count from those of its main unit.
+    fn based_on(self, main: &UnitRoot) -> BuiltUnit
+        ensures { result ≡ record self { root = rooted_on main.now self.root } }
+    {
+        let root = UnitRoot {
+            addr_base: main.addr_base,
+            low_pc: main.low_pc,
+            ..self.root
+        };
+        BuiltUnit { root, ..self }
+    }
+
+    /// The unit of the pieces of a package, based on the main unit that has its id.
+    #[tactic(auto, unfolding(crate::specs::BuiltUnits::split_built))]
+    fn of_pieces(
+        alloc: Global,
+        dwarf: &Dwarf<'_, '_>,
+        pieces: SplitUnit,
+        main: &UnitRoot,
+    ) -> Result<BuiltUnit>
+        requires readable { IsReadable dwarf.now }
+        requires inside { IsInside (files_view dwarf.now).package (Split pieces) }
+        ensures value { Gives (built_view (files_view dwarf.now)) result (or_invalid (split_built (sections_from (files_view dwarf.now) (Split pieces)) main.now)) }
+        ensures fits { IfOk result (BuiltFits (files_view dwarf.now)) }
+    {
+        let origin = Origin::Split(pieces);
+        let header = first_header(&dwarf.sections(&origin))?;
+        let unit = BuiltUnit::of_file(alloc, dwarf, origin, &header)?;
+        Ok(unit.based_on(main))
+    }
+
+    /// The unit from which the functions of a unit of the main file are read: the split unit of its id where the package
+    /// has one that is not empty, and else the unit itself. InvalidDwarf exactly where that cannot be built, or the index
+    /// of the package has no value for the id.
+    #[tactic(auto, unfolding(crate::specs::BuiltUnits::reading))]
+    pub fn reading(
+        alloc: Global,
+        dwarf: &Dwarf<'_, '_>,
+        header: &UnitHeader,
+    ) -> Result<BuiltUnit>
+        requires readable { IsReadable dwarf.now }
+        requires ordered { header.now.entries ≤ header.now.end }
+        ensures value { Gives (built_view (files_view dwarf.now)) result (or_invalid (reading (files_view dwarf.now) header.now)) }
+        ensures fits { IfOk result (BuiltFits (files_view dwarf.now)) }
+    {
+        if !has_id(header.kind) {
+            return BuiltUnit::of_file(alloc, dwarf, Origin::Main, header);
+        }
+        let Some(package) = &dwarf.package else {
+            return BuiltUnit::of_file(alloc, dwarf, Origin::Main, header);
+        };
+        let pieces = match package.find_cu(header.id)? {
+            Some(pieces) if pieces.info.len > 0 => pieces,
+            _ => return BuiltUnit::of_file(alloc, dwarf, Origin::Main, header),
+        };
+        let main = BuiltUnit::of_file(alloc, dwarf, Origin::Main, header)?;
+        BuiltUnit::of_pieces(alloc, dwarf, pieces, &main.root)
+    }
+
+    /// The unit with the sections that it was built from.
+    pub fn open<'s, 'b>(&'s self, dwarf: &Dwarf<'s, 'b>) -> OpenUnit<'s, 'b>
+        requires readable { IsReadable dwarf.now }
+        requires fits { BuiltFits (files_view dwarf.now) self.now }
+        ensures view { open_view result ≡ built_view (files_view dwarf.now) self.now }
+        ensures opened { CanBeOpened result }
+    {
+        OpenUnit {
+            sections: dwarf.sections(&self.origin),
+            header: self.header,
+            abbreviations: &self.abbreviations,
+            root: self.root,
+        }
+    }
+}
