@@ -1,5 +1,5 @@
 -- The best range and those after it are the covering ones in their order.
-use Rattle.std.proofs.Common.{◌≡◌, ℕ, zero, suc, ◌+◌, ◌<◌, ◌≤◌, Bool, true, ltb, List, [], ◌∷◌, Option, Some, None, refl, sym, ap, subst, arith, inl, inr, ◌⊎◌, ◌∙◌}
+use Rattle.std.proofs.Common.{◌≡◌, ℕ, zero, suc, ◌+◌, ◌<◌, ◌≤◌, Bool, true, ltb, List, [], ◌∷◌, length, Option, Some, None, refl, sym, ap, subst, arith, inl, inr, ◌⊎◌, ◌∙◌}
 use Rattle.std.specs.Prelude.{option_map, ◌&&◌}
 use Rattle.std.specs.List.{slice_get}
 use Rattle.std.proofs.lemmas.Bool.{cases_Bool, cases_lt, and_parts, and_from, or_cases, or_left, or_right, ltb-true, ltb-false, lt-ltb, eqb-true, eq-eqb}
@@ -262,3 +262,34 @@ turns spans a =
           let b : g.item ≡ placed spans p = bound_is spans g.item p (span_there test spans g.item (passing test 0 spans i g.item g.is)) g.place_is in
           slice_get-map (λ (p : Placed). p.place) xs (suc i) ∙ (next_is test spans i g.item g.is ∙ ap (λ (x : Placed). place_of (best_by (λ at s. covers s a && comes_after x at s) 0 spans)) b);
     }
+
+-- ---- the places of the ranges that cover an address
+
+covering_item : (spans : List Span) (a i p : ℕ) → slice_get (covering spans a) i ≡ Some p → Got (slice_get (in_turn (λ at s. covers s a) 0 spans) i) p
+unfolding place_option
+covering_item spans a i p is = got (slice_get (in_turn (λ at s. covers s a) 0 spans) i) p (sym (slice_get-map (λ (x : Placed). x.place) (in_turn (λ at s. covers s a) 0 spans) i) ∙ is)
+
+pub covering_within : (spans : List Span) (a i p : ℕ) → slice_get (covering spans a) i ≡ Some p → p < length spans
+covering_within spans a i p is =
+    let g = covering_item spans a i p is in
+    let there = span_there (λ at s. covers s a) spans g.item (passing (λ at s. covers s a) 0 spans i g.item g.is) in
+    let k = slice_get_within spans g.item.place g.item.span there in
+    let e = g.place_is in
+    omega arith
+
+-- no place stands twice
+pub once : (spans : List Span) (a i j p : ℕ) → i < j → slice_get (covering spans a) i ≡ Some p → slice_get (covering spans a) j ≡ Some p → ⊥
+once spans a i j p lt first second =
+    let test : ℕ → Span → Bool = λ at s. covers s a in
+    let x = covering_item spans a i p first in
+    let y = covering_item spans a j p second in
+    let goes = in_order (in_turn test 0 spans) (sorted test 0 spans) i j x.item y.item lt x.is y.is in
+    let xs = span_there test spans x.item (passing test 0 spans i x.item x.is) in
+    let ys = span_there test spans y.item (passing test 0 spans j y.item y.is) in
+    let same : x.item.place ≡ y.item.place = x.place_is ∙ sym y.place_is in
+    let begin : y.item.span.begin ≡ x.item.span.begin = same_begin y.item.span x.item.span (sym ys ∙ ap (λ (n : ℕ). slice_get spans n) (sym same) ∙ xs) in
+    let tie = goes.tie begin in
+    omega arith
+  where
+    same_begin : (s t : Span) → Some s ≡ Some t → s.begin ≡ t.begin
+    same_begin s t e = let k : s ≡ t = cc in ap (λ (z : Span). z.begin) k

@@ -14,3 +14,11 @@ pub mod Broken
 pub mod FunctionSteps
 pub mod DescriptionSteps
 pub mod Rooted
+pub mod SetLists
+pub mod Named
+pub mod HeaderSteps
+pub mod UnitsInPlace
+pub mod LinesLying
+pub mod Appended
+pub mod KeepSteps
+pub mod TurnSteps

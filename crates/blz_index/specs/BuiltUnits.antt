@@ -28,12 +28,12 @@ use Rattle.blz_index.specs.Leaves.{UnitParts, lying}
 -- the files that units are read from, without where they lie in memory
 pub record Files : Type 0 where
   pub main : FileSections
-  pub package : Option PackageParts
+  pub «package» : Option PackageParts
   pub none : OffsetMap
   pub sup : Option FileSections
 
 abbrev pub files_view : Dwarf → Files
-files_view d = record { main = sections_view d.main; package = option_map package_view d.package; none = d.none.now; sup = option_map sections_view d.sup }
+files_view d = record { main = sections_view d.main; «package» = option_map package_view d.«package»; none = d.none.now; sup = option_map sections_view d.sup }
 
 -- ---- what is asked of files that are handed in
 
@@ -79,7 +79,7 @@ pub record IsReadable (d : Dwarf) : Type 0 where
   pub none : d.none.now ≡ map.empty
   pub sup : IfSome d.sup (IsSupOf d.main)
   pub texts : AreTextsOf d.main d.texts
-  pub packed : ArePacked d.package d.texts
+  pub packed : ArePacked d.«package» d.texts
   pub sup_texts : AreSupTexts d.sup d.texts
 
 -- ---- units that are built
@@ -126,19 +126,32 @@ split_built s main = do
   u ← built s header
   Some (based_on main u)
 
--- A contribution without a unit leaves the unit itself.
-abbrev pub split_or_main : Files → PackageParts → UnitHeader → Option SplitUnit → Option UnitParts
-split_or_main f p h None = built f.main h
-split_or_main f p h (Some pieces) = if pieces.info.len == 0 then built f.main h else (built f.main h >>= λ m. split_built (split_sections p pieces f.main f.none) m.root)
+-- A contribution without a unit counts as none.
+abbrev pub not_empty : Option SplitUnit → Option SplitUnit
+not_empty None = None
+not_empty (Some pieces) = if pieces.info.len == 0 then None else Some pieces
 
-abbrev pub by_package : Files → UnitHeader → Option PackageParts → Option UnitParts
-by_package f h None = built f.main h
-by_package f h (Some p) = split_unit p h.id >>= split_or_main f p h
+abbrev pub pieces_in : ℕ → Option PackageParts → Option (Option SplitUnit)
+pieces_in id None = Some None
+pieces_in id (Some p) = split_unit p id >>= λ pieces. Some (not_empty pieces)
+
+-- the pieces of the split unit of a unit, where the package has one
+unfoldable pub pieces_of : Files → UnitHeader → Option (Option SplitUnit)
+pieces_of f h = if has_id h.kind then pieces_in h.id f.«package» else Some None
+
+-- the sections of pieces
+abbrev pub split_from : Files → SplitUnit → Option PackageParts → FileSections
+split_from f pieces None = f.main
+split_from f pieces (Some p) = split_sections p pieces f.main f.none
+
+abbrev pub read_from : Files → UnitHeader → Option SplitUnit → Option UnitParts
+read_from f h None = built f.main h
+read_from f h (Some pieces) = built f.main h >>= λ main. split_built (split_from f pieces f.«package») main.root
 
 -- The unit from which the functions of a unit are read: the split unit of its id where the package has one, and else
 -- the unit itself.
 unfoldable pub reading : Files → UnitHeader → Option UnitParts
-reading f h = if has_id h.kind then by_package f h f.package else built f.main h
+reading f h = pieces_of f h >>= read_from f h
 
 -- the unit of a supplementary file
 abbrev pub sup_built : Option FileSections → UnitHeader → Option UnitParts
@@ -147,10 +160,6 @@ sup_built (Some s) h = built s h
 
 -- ---- as the code keeps them
 
-abbrev pub split_from : Files → SplitUnit → Option PackageParts → FileSections
-split_from f pieces None = f.main
-split_from f pieces (Some p) = split_sections p pieces f.main f.none
-
 abbrev pub or_main : Files → Option FileSections → FileSections
 or_main f None = f.main
 or_main f (Some s) = s
@@ -158,7 +167,7 @@ or_main f (Some s) = s
 -- the sections of an origin; where it is not there, those of the main file
 abbrev pub sections_from : Files → Origin → FileSections
 sections_from f Main = f.main
-sections_from f (Split pieces) = split_from f pieces f.package
+sections_from f (Split pieces) = split_from f pieces f.«package»
 sections_from f Sup = or_main f f.sup
 
 -- pieces lie inside the package
@@ -178,5 +187,5 @@ built_view f u = record { sections = sections_from f u.origin; header = u.header
 
 -- A unit belongs to files.
 pub record BuiltFits (f : Files) (u : BuiltUnit) : Type 0 where
-  pub inside : IsInside f.package u.origin
+  pub inside : IsInside f.«package» u.origin
   pub ordered : u.header.entries ≤ u.header.end

@@ -14,6 +14,8 @@ pub mod Describing
 pub mod FunctionList
 pub mod References
 pub mod BuiltUnits
+pub mod Sets
 pub mod UnitTables
 pub mod UnitLists
 pub mod TableViews
+pub mod Announced

@@ -1,6 +1,7 @@
 -- Headers of units in the order in which the units stand.
 use Rattle.std.specs.Prelude.{◌≡◌, ℕ, ◌<◌, ◌≤◌, List, Some}
 use Rattle.std.specs.List.{slice_get}
+use Rattle.std.specs.List.Sorted.{IsNonDecreasingBy}
 use Rattle.blz_entry.specs.declared.units.UnitHeader.{UnitHeader}
 
 -- The entries of a unit stand behind its start, and before its end.
@@ -12,7 +13,7 @@ pub record IsInPlace (h : UnitHeader) : Type 0 where
 abbrev pub EndBefore : List UnitHeader → ℕ → Type 0
 EndBefore units place = (i : ℕ) (h : UnitHeader) → slice_get units i ≡ Some h → h.end ≤ place
 
--- Each unit begins at or behind the end of the one before it.
+-- Units that stand one behind the other.
 pub record AreUnits (units : List UnitHeader) : Type 0 where
   pub in_place : (i : ℕ) (h : UnitHeader) → slice_get units i ≡ Some h → IsInPlace h
-  pub rises : (i j : ℕ) (g h : UnitHeader) → i < j → slice_get units i ≡ Some g → slice_get units j ≡ Some h → g.end ≤ h.start
+  pub rises : IsNonDecreasingBy (λ (h : UnitHeader). h.start) units

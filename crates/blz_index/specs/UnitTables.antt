@@ -1,9 +1,8 @@
 -- The units of a file, and the addresses that they announce (DWARF 5 sections 6.1.2, 7.5.1 and 3.1.1).
-use Rattle.std.specs.Prelude.{ℕ, zero, suc, ◌+◌, ◌-◌, Bool, true, false, not, List, [], ◌∷◌, ◌++◌, length, Option, Some, None, is_some, nat_lt, ◌==◌, if◌then◌else◌}
-use Rattle.std.specs.List.{slice_get, filter}
+use Rattle.std.specs.Prelude.{ℕ, Bool, true, false, not, List, [], ◌∷◌, ◌++◌, length, Option, Some, None, filter, is_some, if◌then◌else◌}
+use Rattle.std.specs.List.{slice_get}
 use Rattle.std.specs.Option.{option_to_list}
 use Rattle.blz_model.specs.Reads.{◌>>=◌}
-use Rattle.blz_entry.specs.AddressSets.{set_at, pairs_of}
 use Rattle.blz_entry.specs.Contents.{Contents}
 use Rattle.blz_entry.specs.Folds.{fold_maybe}
 use Rattle.blz_entry.specs.Headers.{headers_from}
@@ -19,33 +18,8 @@ use Rattle.blz_index.specs.BuiltUnits.{Files, built, reading, sup_built}
 use Rattle.blz_index.specs.Leaves.{UnitParts, lying, ranges_in}
 use Rattle.blz_index.specs.Owned.{Owned, items_of, owner_at, own_all}
 use Rattle.blz_index.specs.References.{Reach}
+use Rattle.blz_index.specs.Sets.{sets_from, named}
 use Rattle.blz_index.specs.Turns.{covering}
-
--- ---- sets of address ranges
-
--- the sets of a section from a place up to its end, in at most n steps
-unfoldable pub sets_in : ℕ → Contents → ℕ → Option (List ArangeSet)
-sets_in zero s at = None
-sets_in (suc n) s at = if nat_lt at (length s.bytes) then (do
-  set ← set_at s at
-  rest ← sets_in n s set.end
-  Some (set ∷ rest)) else Some []
-
--- The sets of a section from a place on. Each takes bytes, so there are no more of them than bytes.
-abbrev pub sets_from : Contents → ℕ → Option (List ArangeSet)
-sets_from s at = sets_in (suc (length s.bytes - at)) s at
-
--- a set, and those behind it
-abbrev pub sets_behind : Contents → Option ArangeSet → Option (List ArangeSet)
-sets_behind s set = do
-  x ← set
-  rest ← sets_from s x.end
-  Some (x ∷ rest)
-
--- the ranges of the sets that name the start of a unit, in the order of the section
-unfoldable pub named : Contents → ℕ → List ArangeSet → List Span
-named s start [] = []
-named s start (set ∷ rest) = (if set.unit == start then pairs_of s set else []) ++ named s start rest
 
 -- ---- what a unit announces
 
@@ -81,10 +55,13 @@ abbrev pub or_sequences : UnitParts → List Span → List Span
 or_sequences u [] = sequences_of (lines_in u)
 or_sequences u (s ∷ spans) = s ∷ spans
 
+abbrev pub root_spans : UnitParts → Option (List Span)
+root_spans u = ranges_in u u.root.ranges >>= λ spans. Some (or_sequences u spans)
+
 -- A unit that cannot be built is not kept.
 abbrev pub by_root : Option UnitParts → Option (Option (List Span))
 by_root None = Some None
-by_root (Some u) = ranges_in u u.root.ranges >>= λ spans. Some (Some (or_sequences u spans))
+by_root (Some u) = root_spans u >>= λ spans. Some (Some spans)
 
 -- A unit whose start is named with ranges is not built.
 abbrev pub by_pairs : List Span → Option UnitParts → Option (Option (List Span))
@@ -97,6 +74,11 @@ unfoldable pub announces : FileSections → List ArangeSet → UnitHeader → Op
 announces s sets h =
     if is_type h.kind then Some None else (
     if is_partial h.kind then Some (Some []) else by_pairs (named s.aranges h.start sets) (built s h))
+
+-- ranges behind others, and whether there is a unit that has them
+abbrev pub added : List Span → Option (List Span) → List Span × Bool
+added old None = (old, false)
+added old (Some spans) = (old ++ spans, true)
 
 -- ---- the units of a file
 
@@ -120,9 +102,12 @@ with_unit s sets k h = announces s sets h >>= λ spans. Some (keep k h spans)
 abbrev pub no_types : List UnitHeader → List UnitHeader
 no_types headers = filter (λ (h : UnitHeader). not (is_type h.kind)) headers
 
+abbrev pub units_in : Contents → Option (List UnitHeader)
+units_in info = headers_from info 0 >>= λ headers. Some (no_types headers)
+
 unfoldable pub sup_units : Option FileSections → Option (List UnitHeader)
 sup_units None = Some []
-sup_units (Some s) = headers_from s.info 0 >>= λ headers. Some (no_types headers)
+sup_units (Some s) = units_in s.info
 
 -- The units that are kept, what they announce, and the units of the supplementary file.
 pub record UnitTable : Type 0 where
@@ -135,8 +120,7 @@ unfoldable pub units_of : Files → Option UnitTable
 units_of f = do
   sups ← sup_units f.sup
   sets ← sets_from f.main.aranges 0
-  headers ← headers_from f.main.info 0
-  units ← fold_maybe (with_unit f.main sets) no_units headers
+  units ← headers_from f.main.info 0 >>= fold_maybe (with_unit f.main sets) no_units
   Some (record { kept = units.kept; announced = units.announced; sups = sups })
 
 -- ---- what is asked of a table

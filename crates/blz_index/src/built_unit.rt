@@ -1,9 +1,9 @@
 //! Units that are built, as places and numbers.
-ghost use Rattle.std.specs.Prelude.{◌≡◌, ◌≤◌, ◌<◌, ◌+◌, ◌^◌, length, IfOk, Option};
+ghost use Rattle.std.specs.Prelude.{◌≡◌, ◌≤◌, ◌<◌, ◌+◌, ◌^◌, length, IfOk, IfSome, Option};
 ghost use Rattle.blz_model.specs.Part.{Gives, Exactly};
 ghost use Rattle.blz_entry.specs.Marks.{or_invalid};
 ghost use Rattle.blz_entry.specs.Roots.{root_of};
-ghost use Rattle.blz_index.specs.BuiltUnits.{built, built_view, first_unit, has_lines, has_id, parts_of, reading, rooted_on, sections_from, split_built, files_view, BuiltFits, IsInside, IsReadable};
+ghost use Rattle.blz_index.specs.BuiltUnits.{built, built_view, first_unit, has_lines, has_id, not_empty, parts_of, pieces_of, reading, rooted_on, sections_from, split_built, files_view, BuiltFits, IsInside, IsReadable};
 ghost use Rattle.blz_index.specs.Leaves.{lying};
 ghost use Rattle.blz_index.specs.declared.dwarf.Origin.TheVariants.{Split};
 ghost use Rattle.blz_index.specs.Opened.{open_view, CanBeOpened};
@@ -93,6 +93,32 @@ fn read(
     Ok((abbreviations, root))
 }
 
+/// The pieces of the split unit of a unit, where the package has one that is not empty.
+#[tactic(auto, unfolding(crate::specs::BuiltUnits::pieces_of))]
+fn pieces_of(dwarf: &Dwarf<'_, '_>, header: &UnitHeader) -> Result<Option<SplitUnit>>
+    ensures value { Exactly (λ p. p) result (or_invalid (pieces_of (files_view dwarf.now) header.now)) }
+    ensures inside { IfOk result (λ o. IfSome o (λ p. IsInside (files_view dwarf.now).«package» (Split p))) }
+{
+    if !has_id(header.kind) {
+        return Ok(None);
+    }
+    let Some(parts) = &dwarf.package else {
+        return Ok(None);
+    };
+    let pieces = parts.find_cu(header.id)?;
+    Ok(not_empty(pieces))
+}
+
+/// Pieces in which a unit can stand.
+fn not_empty(pieces: Option<SplitUnit>) -> Option<SplitUnit>
+    ensures { result ≡ not_empty pieces }
+{
+    match pieces {
+        Some(unit) if unit.info.len == 0 => None,
+        _ => pieces,
+    }
+}
+
 impl BuiltUnit {
     /// Builds a unit of an origin. InvalidDwarf exactly where its abbreviations, its root or the header of its line
     /// program have no value.
@@ -103,7 +129,7 @@ impl BuiltUnit {
         header: &UnitHeader,
     ) -> Result<BuiltUnit>
         requires readable { IsReadable dwarf.now }
-        requires inside { IsInside (files_view dwarf.now).package origin }
+        requires inside { IsInside (files_view dwarf.now).«package» origin }
         requires ordered { header.now.entries ≤ header.now.end }
         ensures value { Gives (built_view (files_view dwarf.now)) result (or_invalid (built (sections_from (files_view dwarf.now) origin) header.now)) }
         ensures fits { IfOk result (BuiltFits (files_view dwarf.now)) }
@@ -140,7 +166,7 @@ impl BuiltUnit {
         main: &UnitRoot,
     ) -> Result<BuiltUnit>
         requires readable { IsReadable dwarf.now }
-        requires inside { IsInside (files_view dwarf.now).package (Split pieces) }
+        requires inside { IsInside (files_view dwarf.now).«package» (Split pieces) }
         ensures value { Gives (built_view (files_view dwarf.now)) result (or_invalid (split_built (sections_from (files_view dwarf.now) (Split pieces)) main.now)) }
         ensures fits { IfOk result (BuiltFits (files_view dwarf.now)) }
     {
@@ -164,22 +190,15 @@ impl BuiltUnit {
         ensures value { Gives (built_view (files_view dwarf.now)) result (or_invalid (reading (files_view dwarf.now) header.now)) }
         ensures fits { IfOk result (BuiltFits (files_view dwarf.now)) }
     {
-        if !has_id(header.kind) {
+        let Some(pieces) = pieces_of(dwarf, header)? else {
             return BuiltUnit::of_file(alloc, dwarf, Origin::Main, header);
-        }
-        let Some(package) = &dwarf.package else {
-            return BuiltUnit::of_file(alloc, dwarf, Origin::Main, header);
-        };
-        let pieces = match package.find_cu(header.id)? {
-            Some(pieces) if pieces.info.len > 0 => pieces,
-            _ => return BuiltUnit::of_file(alloc, dwarf, Origin::Main, header),
         };
         let main = BuiltUnit::of_file(alloc, dwarf, Origin::Main, header)?;
         BuiltUnit::of_pieces(alloc, dwarf, pieces, &main.root)
     }
 
     /// The unit with the sections that it was built from.
-    pub fn open<'s, 'b>(&'s self, dwarf: &Dwarf<'s, 'b>) -> OpenUnit<'s, 'b>
+    pub fn open<'u, 'b>(&'u self, dwarf: &'u Dwarf<'_, 'b>) -> OpenUnit<'u, 'b>
         requires readable { IsReadable dwarf.now }
         requires fits { BuiltFits (files_view dwarf.now) self.now }
         ensures view { open_view result ≡ built_view (files_view dwarf.now) self.now }

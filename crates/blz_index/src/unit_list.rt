@@ -1,8 +1,8 @@
 //! The headers of units in the order in which the units stand.
-ghost use Rattle.std.specs.Prelude.{◌≡◌, ◌≤◌, ◌<◌, ◌++◌, ◌∷◌, [], List, length, Option, IfSome, MatchResult};
+ghost use Rattle.std.specs.Prelude.{◌≡◌, ◌≤◌, ◌<◌, ◌++◌, ◌∷◌, [], List, length, Option, IfSome, MatchResult, Some};
 ghost use Rattle.std.specs.List.{slice_get};
 ghost use Rattle.blz_entry.specs.declared.units.UnitHeader.{UnitHeader};
-ghost use Rattle.blz_index.specs.References.{unit_at};
+ghost use Rattle.blz_index.specs.References.{distance_in, unit_at};
 ghost use Rattle.blz_index.specs.UnitLists.{AreUnits, EndBefore, IsInPlace};
 
 use blz_entry::UnitHeader;
@@ -21,6 +21,18 @@ impl Model for UnitList {
     ghost view = { λ l. l.headers.items };
 
     ghost invariant = { λ l. AreUnits l.headers.items };
+}
+
+/// The number of a unit, and the distance of an offset from its start, where it lies among the entries.
+fn distance_in(offset: usize, number: usize, header: &UnitHeader) -> Option<(usize, usize)>
+    requires { IsInPlace header.now }
+    ensures { result ≡ distance_in offset (Some (number, header.now)) }
+{
+    if header.entries <= offset && offset < header.end {
+        Some((number, offset - header.start))
+    } else {
+        None
+    }
 }
 
 impl UnitList {
@@ -54,5 +66,19 @@ impl UnitList {
     {
         self.headers.push(header)?;
         Ok(())
+    }
+
+    /// The number of the last unit that does not begin above an offset, and the offset's distance from its start; None
+    /// exactly where there is no such unit, or the offset does not lie among its entries.
+    pub fn find(&self, offset: u64) -> Option<(usize, usize)>
+        ensures { result ≡ unit_at self.now offset }
+    {
+        let count = self
+            .headers
+            .partition_point(|header| header.start as u64 <= offset);
+        if count == 0 {
+            return None;
+        }
+        distance_in(offset as usize, count - 1, &self.headers[count - 1])
     }
 }

@@ -1,18 +1,26 @@
 //! The units of a file, and the addresses that they announce.
-ghost use Rattle.std.specs.Prelude.{◌≡◌, List, map, IfOk, Option};
-ghost use Rattle.blz_model.specs.Part.{Gives};
+ghost use Rattle.std.specs.Prelude.{◌≡◌, true, ◌++◌, List, map, IfOk, OnOk, Option, Some, option_map};
+ghost use Rattle.blz_model.specs.Part.{Gives, Exactly};
+ghost use Rattle.blz_entry.specs.Contents.{section_view};
 ghost use Rattle.blz_entry.specs.Marks.{or_invalid};
 ghost use Rattle.blz_index.specs.BuiltUnits.{files_view, IsReadable};
 ghost use Rattle.blz_index.specs.Keyed.{IsAccepted, begin_key};
 ghost use Rattle.blz_index.specs.Owned.{items_of};
+ghost use Rattle.blz_index.specs.References.{unit_at};
 ghost use Rattle.blz_index.specs.TableViews.{table_view};
-ghost use Rattle.blz_index.specs.UnitTables.{units_of};
+ghost use Rattle.blz_index.specs.UnitTables.{announcing, sup_units, units_in, units_of};
+ghost use Rattle.blz_split.specs.FileSections.{sections_view};
 
+use crate::address_sets::AddressSets;
+use crate::announcing::is_type;
 use crate::dwarf::Dwarf;
 use crate::fault::invalid;
+use crate::kept_units::KeptUnits;
 use crate::owned_ranges::OwnedRanges;
 use crate::unit_list::UnitList;
+use crate::units_at::UnitsAt;
 use blz_bytes::Orders;
+use blz_entry::{Section, Sections, UnitHeaders};
 use blz_error::Result;
 use std::alloc::Global;
 
@@ -25,10 +33,37 @@ pub struct UnitTable {
     pub sups: UnitList,
 }
 
+/// The headers of the units of a section, without type units.
+fn units_in(alloc: Global, info: Section<'_, '_>) -> Result<UnitList>
+    ensures { Gives (λ l. l) result (or_invalid (units_in (section_view info.entry))) }
+{
+    let mut headers = UnitHeaders::new(info);
+    let mut units = UnitList::new(alloc);
+    while let Some(header) = headers.next_header()? {
+        if is_type(header.kind) {
+            continue;
+        }
+        units.push(header)?;
+    }
+    Ok(units)
+}
+
+/// The units of a supplementary file, and none without one.
+#[tactic(auto, unfolding(crate::specs::UnitTables::sup_units))]
+fn sup_units(alloc: Global, sup: &Option<Sections<'_, '_>>) -> Result<UnitList>
+    ensures { Gives (λ l. l) result (or_invalid (sup_units (option_map sections_view sup.now))) }
+{
+    match sup {
+        Some(sections) => units_in(alloc, sections.info),
+        None => Ok(UnitList::new(alloc)),
+    }
+}
+
 impl UnitTable {
     /// Reads the sets of address ranges and the headers of all units, and asks for an order of the announced ranges by
     /// their begins. InvalidDwarf exactly where a set or a header is not whole or not as it has to be, or the list of
-    /// ranges of the root of a unit without a set has no value.
+    /// ranges of the root of a unit that no set names has no value.
+    #[tactic(auto, unfolding(crate::specs::UnitTables::units_of))]
     pub fn read<O: Orders>(
         alloc: Global,
         orders: &mut O,
@@ -40,6 +75,44 @@ impl UnitTable {
         ensures pairs_stay { O.pair_places orders.new ≡ O.pair_places orders.old }
         ensures names_stay { O.name_places orders.new ≡ O.name_places orders.old }
     {
-        Err(invalid("the units are not read yet"))
+        let sups = sup_units(alloc, &dwarf.sup)?;
+        let sets = AddressSets::read(alloc, dwarf.main.aranges)?;
+        let units = KeptUnits::read(alloc, dwarf, &sets)?;
+        let (kept, spans, owners) = units.into_parts();
+        let announced = OwnedRanges::build(alloc, orders, spans, owners)?;
+        Ok(UnitTable {
+            kept,
+            announced,
+            sups,
+        })
+    }
+
+    /// The number of the kept unit that an offset of `.debug_info` leads into, and the offset's distance from its start.
+    /// InvalidDwarf exactly where no kept unit begins below the offset, one begins at it, or it does not lie among the
+    /// entries of the last that begins below it.
+    pub fn find_unit(&self, offset: u64) -> Result<(usize, usize)>
+        ensures { Exactly (λ p. p) result (or_invalid (unit_at (table_view self.now).kept offset)) }
+    {
+        match self.kept.find(offset) {
+            Some(place) => Ok(place),
+            None => Err(invalid("a reference leads into no unit")),
+        }
+    }
+
+    /// The same among the units of the supplementary file, but for its type units.
+    pub fn find_sup_unit(&self, offset: u64) -> Result<(usize, usize)>
+        ensures { Exactly (λ p. p) result (or_invalid (unit_at (table_view self.now).sups offset)) }
+    {
+        match self.sups.find(offset) {
+            Some(place) => Ok(place),
+            None => Err(invalid("a reference leads into no unit of the supplementary file")),
+        }
+    }
+
+    /// The units that announce an address.
+    pub fn find_units(&self, probe: u64) -> UnitsAt<'_>
+        ensures { result ≡ record { announced = self.now.announced; address = probe; left = announcing (table_view self.now) probe; fresh = true } }
+    {
+        UnitsAt::new(&self.announced, probe)
     }
 }

@@ -1,0 +1,48 @@
+-- The units that announce an address, one after the other.
+use Rattle.std.specs.Prelude.{◌≡◌, ℕ, ◌<◌, Bool, true, false, List, [], ◌∷◌, length, Option, Some, None, ◌==◌, if◌then◌else◌}
+use Rattle.std.specs.List.{slice_get}
+use Rattle.blz_entry.specs.declared.span.Span.{Span}
+use Rattle.blz_index.specs.Owned.{Owned, items_of}
+use Rattle.blz_index.specs.Ranges.{OwnedRanges}
+use Rattle.blz_index.specs.Turns.{covering}
+use Rattle.blz_index.specs.declared.units_at.Turn.{Turn}
+use Rattle.blz_index.specs.declared.units_at.Turn.TheVariants.{First, After, Over}
+
+-- the announced ranges, the address, the numbers of the units that are still to come, and whether none was asked for
+pub record Announcing : Type 0 where
+  pub announced : OwnedRanges
+  pub address : ℕ
+  pub left : List ℕ
+  pub fresh : Bool
+
+-- the places behind one
+abbrev pub behind : ℕ → List ℕ → List ℕ
+behind p [] = []
+behind p (q ∷ places) = if q == p then places else behind p places
+
+-- the places that are still to come
+abbrev pub places_left : List (Owned Span) → ℕ → Turn → List ℕ
+places_left ranges a First = covering (items_of ranges) a
+places_left ranges a (After p) = behind p (covering (items_of ranges) a)
+places_left ranges a Over = []
+
+abbrev pub is_first : Turn → Bool
+is_first First = true
+is_first (After p) = false
+is_first Over = false
+
+-- the turn behind a place that was found
+abbrev pub turn_of : Option ℕ → Turn
+turn_of None = Over
+turn_of (Some p) = After p
+
+-- a place among those that cover an address
+pub record IsCovering (ranges : List (Owned Span)) (a p : ℕ) : Type 0 where
+  pub within : p < length ranges
+  pub at : ℕ
+  pub is : slice_get (covering (items_of ranges) a) at ≡ Some p
+
+abbrev pub IsTurn : List (Owned Span) → ℕ → Turn → Type 0
+IsTurn ranges a First = Unit {0}
+IsTurn ranges a (After p) = IsCovering ranges a p
+IsTurn ranges a Over = Unit {0}

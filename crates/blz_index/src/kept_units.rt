@@ -1,0 +1,125 @@
+//! The units of a file that are kept, and the ranges that they announce.
+ghost use Rattle.std.specs.Prelude.{◌≡◌, ◌≤◌, ◌++◌, ◌∷◌, [], length, IfOk, Option};
+ghost use Rattle.blz_model.specs.Part.{Gives};
+ghost use Rattle.blz_model.specs.Reads.{◌>>=◌};
+ghost use Rattle.blz_entry.specs.Folds.{fold_maybe};
+ghost use Rattle.blz_entry.specs.Headers.{headers_from};
+ghost use Rattle.blz_entry.specs.Marks.{or_invalid};
+ghost use Rattle.blz_index.specs.BuiltUnits.{files_view, IsReadable};
+ghost use Rattle.blz_index.specs.Owned.{owned, filled_up};
+ghost use Rattle.blz_index.specs.UnitLists.{EndBefore, IsInPlace};
+ghost use Rattle.blz_index.specs.UnitTables.{with_unit, no_units};
+
+use crate::address_sets::AddressSets;
+use crate::announcing::append_announced;
+use crate::dwarf::Dwarf;
+use crate::owners::own;
+use crate::unit_list::UnitList;
+use blz_entry::{Span, UnitHeader, UnitHeaders};
+use blz_error::Result;
+use std::alloc::{AllocError, Global};
+use std::marker::Model;
+
+/// The units that are kept so far, and what they announce.
+#[derive(Drop)]
+pub struct KeptUnits {
+    kept: UnitList,
+    spans: Vec<Span>,
+    owners: Vec<usize>,
+}
+
+impl Model for KeptUnits {
+    ghost use Rattle.blz_index.specs.Owned.{owned};
+    ghost use Rattle.blz_index.specs.UnitTables.{KeptUnits};
+
+    ghost Value = { KeptUnits };
+
+    ghost view = { λ k. record { kept = k.kept; announced = owned k.spans.items k.owners.items } };
+
+    ghost invariant = { λ k. length k.spans.items ≡ length k.owners.items };
+}
+
+/// Keeps a unit, to which all ranges without an owner belong.
+fn keep(
+    mut kept: UnitList,
+    spans: Vec<Span>,
+    mut owners: Vec<usize>,
+    header: UnitHeader,
+) -> std::result::Result<KeptUnits, AllocError>
+    requires in_place { IsInPlace header }
+    requires behind { EndBefore kept header.start }
+    requires some { length owners.items ≤ length spans.items }
+    ensures { IfOk result (λ k. k ≡ record { kept = kept ++ header ∷ []; announced = owned spans.items (filled_up owners.items (length kept) (length spans.items)) }) }
+{
+    own(&mut owners, kept.len(), spans.len())?;
+    kept.push(header)?;
+    Ok(KeptUnits {
+        kept,
+        spans,
+        owners,
+    })
+}
+
+impl KeptUnits {
+    fn new(alloc: Global) -> KeptUnits
+        ensures { result ≡ no_units }
+    {
+        KeptUnits {
+            kept: UnitList::new(alloc),
+            spans: Vec::new(alloc),
+            owners: Vec::new(alloc),
+        }
+    }
+
+    /// One unit more, which stands behind the others.
+    fn with_unit(
+        self,
+        alloc: Global,
+        dwarf: &Dwarf<'_, '_>,
+        sets: &AddressSets,
+        header: UnitHeader,
+    ) -> Result<KeptUnits>
+        requires readable { IsReadable dwarf.now }
+        requires in_place { IsInPlace header }
+        requires behind { EndBefore self.kept header.start }
+        ensures value { Gives (λ k. k) result (or_invalid (with_unit (files_view dwarf.now).main sets.now self header)) }
+        ensures behind { IfOk result (λ k. EndBefore k.kept header.end) }
+    {
+        let KeptUnits {
+            kept,
+            mut spans,
+            owners,
+        } = self;
+        if append_announced(alloc, dwarf, sets, &header, &mut spans)? {
+            let units = keep(kept, spans, owners, header)?;
+            return Ok(units);
+        }
+        Ok(KeptUnits {
+            kept,
+            spans,
+            owners,
+        })
+    }
+
+    /// Reads the headers of all units, each with what it announces.
+    pub fn read(alloc: Global, dwarf: &Dwarf<'_, '_>, sets: &AddressSets) -> Result<KeptUnits>
+        requires { IsReadable dwarf.now }
+        ensures { Gives (λ k. k) result (or_invalid (headers_from (files_view dwarf.now).main.info 0 >>= fold_maybe (with_unit (files_view dwarf.now).main sets.now) no_units)) }
+    {
+        let mut headers = UnitHeaders::new(dwarf.main.info);
+        let mut units = KeptUnits::new(alloc);
+        while let Some(header) = headers.next_header()? {
+            units = units.with_unit(alloc, dwarf, sets, header)?;
+        }
+        Ok(units)
+    }
+
+    /// The units, the ranges that they announce, and for each range the number of its unit.
+    pub fn into_parts(self) -> (UnitList, Vec<Span>, Vec<usize>)
+        ensures kept { result.0 ≡ self.kept }
+        ensures announced { owned result.1.items result.2.items ≡ self.announced }
+        ensures same { length result.1.items ≡ length result.2.items }
+    {
+        (self.kept, self.spans, self.owners)
+    }
+}
