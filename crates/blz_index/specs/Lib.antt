@@ -19,3 +19,16 @@ pub mod UnitTables
 pub mod UnitLists
 pub mod TableViews
 pub mod Announced
+pub mod CallTree
+pub mod UnitAnswers
+pub mod UnitSites
+pub mod SiteViews
+pub mod KeptParts
+pub mod Growing
+pub mod UnitsWarm
+pub mod Readers
+pub mod Following
+pub mod Linking
+pub mod KeptAnswers
+pub mod Putting
+pub mod Cold

@@ -4,6 +4,8 @@
 mod address_sets;
 mod announcing;
 mod built_unit;
+mod built_units;
+mod cold;
 mod description;
 mod dwarf;
 mod fault;
@@ -20,13 +22,22 @@ mod owned_ranges;
 mod owners;
 mod placed;
 mod range_index;
+mod reader;
+mod references;
+mod sites;
 #[cfg(test)]
 mod tests;
+mod unit_caches;
 mod unit_list;
+mod unit_looks;
 mod unit_table;
+mod units;
 mod units_at;
 mod visit;
 
+pub use dwarf::Dwarf;
 pub use functions::{Function, Functions};
 pub use inlined_functions::{InlinedFunction, InlinedFunctions};
 pub use range_index::RangeIndex;
+pub use sites::{InlinedSite, InlinedSites};
+pub use units::Units;

@@ -1,0 +1,102 @@
+-- The units of a file with what is kept of them: the file that they fit, and what a call may add.
+use Rattle.std.specs.Prelude.{◌≡◌, ℕ, ◌+◌, ◌^◌, ◌<◌, ◌≤◌, Bool, true, false, List, [], length, Option, Some, None, Result, Ok, Err, ⊤}
+use Rattle.std.specs.List.{slice_get}
+use Rattle.blz_error.specs.Fault.{Fault}
+use Rattle.blz_model.specs.declared.cache.Cache.{Cache}
+use Rattle.blz_model.specs.declared.cache.Cache.TheVariants.{Empty, Value, Mark}
+use Rattle.blz_entry.specs.declared.span.Span.{Span}
+use Rattle.blz_index.specs.declared.functions.Function.{Function}
+use Rattle.blz_index.specs.declared.units.Units.{Units}
+use Rattle.blz_index.specs.BuiltUnits.{Files}
+use Rattle.blz_index.specs.Groups.{AreApart}
+use Rattle.blz_index.specs.Growing.{Told, UnitsGrowTo}
+use Rattle.blz_index.specs.KeptParts.{AllFit, AllFull, functions_at, lines_at, calls_at}
+use Rattle.blz_index.specs.Owned.{Owned, items_of}
+use Rattle.blz_index.specs.Ranges.{FunctionRanges}
+use Rattle.blz_index.specs.TableViews.{table_view}
+use Rattle.blz_index.specs.UnitTables.{UnitTable, units_of}
+
+-- ---- what is seen of them
+
+-- the kept units, their announced ranges and the units of the supplementary file
+abbrev pub units_table : Units → UnitTable
+units_table u = table_view u.table
+
+-- whether the order of the announced ranges was accepted
+abbrev pub announced_ordered : Units → Bool
+announced_ordered u = u.table.announced.ordered
+
+-- whether `prepare` filled all
+abbrev pub units_prepared : Units → Bool
+units_prepared u = u.prepared
+
+-- the functions of a unit that are kept
+abbrev pub functions_cache : Units → ℕ → Cache FunctionRanges
+functions_cache u k = functions_at u.caches.units.items k
+
+abbrev pub is_value : {X : Type 0} → Cache X → Bool
+is_value Empty = false
+is_value (Value x) = true
+is_value (Mark k) = false
+
+abbrev pub has_order : Cache FunctionRanges → Bool
+has_order Empty = false
+has_order (Value x) = x.ordered
+has_order (Mark k) = false
+
+abbrev pub function_in : Cache FunctionRanges → ℕ → Option Function
+function_in Empty n = None
+function_in (Value x) n = slice_get x.functions n
+function_in (Mark k) n = None
+
+abbrev pub ranges_in : Cache FunctionRanges → List (Owned Span)
+ranges_in Empty = []
+ranges_in (Value x) = x.ranges
+ranges_in (Mark k) = []
+
+-- whether the functions of a unit are there
+abbrev pub functions_kept : Units → ℕ → Bool
+functions_kept u k = is_value (functions_cache u k)
+
+-- whether they are there, and their order was accepted
+abbrev pub functions_ordered : Units → ℕ → Bool
+functions_ordered u k = has_order (functions_cache u k)
+
+-- a function that is there
+abbrev pub kept_function : Units → ℕ → ℕ → Option Function
+kept_function u k n = function_in (functions_cache u k) n
+
+-- ---- the file that they fit
+
+-- The table is that of the file, each cache is empty or holds what its part is, and prepared units have them all.
+pub record UnitsFit (f : Files) (u : Units) : Type 0 where
+  pub table : units_of f ≡ Some (units_table u)
+  pub caches : AllFit f (units_table u) u.caches
+  pub full : u.prepared ≡ true → AllFull u.caches.units.items
+
+-- ---- what a call may add
+
+-- The table stays. Lists are made once, and where places are told, their orders are accepted exactly where those pass the
+-- check.
+pub record UnitsGrow (told : Told) (old new : Units) : Type 0 where
+  pub table : units_table new ≡ units_table old
+  pub announced : announced_ordered new ≡ announced_ordered old
+  pub units : UnitsGrowTo told old.caches.units.items new.caches.units.items
+
+-- nothing is kept yet
+pub record AreCold (u : Units) : Type 0 where
+  pub prepared : u.prepared ≡ false
+  pub functions : (k : ℕ) → functions_at u.caches.units.items k ≡ Empty
+  pub lines : (k : ℕ) → lines_at u.caches.units.items k ≡ Empty
+  pub calls : (k n : ℕ) → calls_at u.caches.units.items k n ≡ Empty
+
+-- ---- looks
+
+-- The looks that found a function among ranges that do not overlap, where both orders were accepted: for fewer than
+-- 2 ^ d announced ranges, and fewer than 2 ^ e of the unit's functions.
+abbrev pub LooksFew : Units → Result (Option (ℕ × ℕ)) Fault → ℕ → Type 0
+LooksFew u (Ok (Some r)) looks =
+    announced_ordered u ≡ true → AreApart (items_of (units_table u).announced) →
+    functions_ordered u r.0 ≡ true → AreApart (items_of (ranges_in (functions_cache u r.0))) →
+    (d e : ℕ) → length (units_table u).announced < 2 ^ d → length (ranges_in (functions_cache u r.0)) < 2 ^ e → looks ≤ d + e + 4
+LooksFew u r looks = ⊤

@@ -1,0 +1,276 @@
+//! The units of a file, as they are asked.
+ghost use Rattle.std.specs.Prelude.{◌≡◌, ◌<◌, ◌-◌, true, false, length, map, Option, IfOk, IfSome, IfErr};
+ghost use Rattle.std.specs.Option.{option_map};
+ghost use Rattle.blz_model.specs.Part.{Gives, Exactly};
+ghost use Rattle.blz_entry.specs.Marks.{or_invalid};
+ghost use Rattle.blz_line.specs.Lookups.{location_view};
+ghost use Rattle.blz_line.specs.UnitLines.{OrderedLines};
+ghost use Rattle.blz_index.specs.BuiltUnits.{Files, files_view, IsReadable};
+ghost use Rattle.blz_index.specs.Growing.{Told};
+ghost use Rattle.blz_index.specs.Keyed.{IsAccepted, begin_key};
+ghost use Rattle.blz_index.specs.KeptParts.{lists_view, calls_view};
+ghost use Rattle.blz_index.specs.Owned.{items_of};
+ghost use Rattle.blz_index.specs.References.{unit_at};
+ghost use Rattle.blz_index.specs.UnitAnswers.{unit_language, unit_functions, unit_lines, function_calls, function_at};
+ghost use Rattle.blz_index.specs.UnitSites.{location_at, inlined_at};
+ghost use Rattle.blz_index.specs.UnitTables.{units_of};
+ghost use Rattle.blz_index.specs.UnitsWarm.{units_table, announced_ordered, units_prepared, functions_kept, kept_function, UnitsFit, UnitsGrow, AreCold, LooksFew};
+
+use crate::dwarf::Dwarf;
+use crate::fault::invalid;
+use crate::functions::{Function, Functions};
+use crate::inlined_functions::InlinedFunctions;
+use crate::sites::InlinedSites;
+use crate::unit_caches::Caches;
+use crate::unit_table::UnitTable;
+use blz_bytes::{Orders, Steps};
+use blz_entry::Texts;
+use blz_error::Result;
+use blz_line::{Lines, Location};
+use blz_model::SrcLang;
+use std::alloc::{AllocError, Global};
+use std::sync::ledger::Ledger;
+
+/// The units of a file, each known by its number. What was read of them is kept, as places and numbers.
+#[derive(Drop)]
+pub struct Units {
+    pub(crate) table: UnitTable,
+    pub(crate) caches: Caches,
+    pub(crate) prepared: bool,
+}
+
+impl Units {
+    /// Reads the headers of the units and the ranges that they announce, and nothing else of them. InvalidDwarf exactly
+    /// where those have no value.
+    pub fn parse<O: Orders>(alloc: Global, orders: &mut O, dwarf: &Dwarf<'_, '_>) -> Result<Units>
+        requires readable { IsReadable dwarf.now }
+        ensures value { Gives units_table result (or_invalid (units_of (files_view dwarf.now))) }
+        ensures fits { IfOk result (UnitsFit (files_view dwarf.now)) }
+        ensures accepted { IfOk result (λ u. IsAccepted (O.pair_places orders.old) (map begin_key (items_of (units_table u).announced)) (announced_ordered u)) }
+        ensures cold { IfOk result AreCold }
+        ensures pairs_stay { O.pair_places orders.new ≡ O.pair_places orders.old }
+        ensures names_stay { O.name_places orders.new ≡ O.name_places orders.old }
+    {
+        Err(invalid("the units are not read yet"))
+    }
+
+    /// How many units are kept.
+    pub fn len(&self) -> usize
+        ensures { result ≡ length (units_table self.now).kept }
+    {
+        self.table.kept.len()
+    }
+
+    /// The language of a unit, which stands in the unit itself also where its functions stand in a package. InvalidDwarf
+    /// exactly where the unit cannot be built.
+    pub fn language(
+        &mut self,
+        alloc: Global,
+        dwarf: &Dwarf<'_, '_>,
+        unit: usize,
+    ) -> Result<SrcLang>
+        requires readable { IsReadable dwarf.now }
+        requires fits { UnitsFit (files_view dwarf.now) self.old }
+        requires there { unit < length (units_table self.old).kept }
+        ensures value { Gives (λ l. l) result (or_invalid (unit_language (files_view dwarf.now) (units_table self.old) unit)) }
+        ensures fits { UnitsFit (files_view dwarf.now) self.new }
+        ensures prepared { units_prepared self.new ≡ units_prepared self.old }
+        ensures grows { (told : Told) → UnitsGrow told self.old self.new }
+    {
+        Err(invalid("the units are not read yet"))
+    }
+
+    /// The functions of a unit. InvalidDwarf exactly where the unit they are read from cannot be built, or one of its
+    /// entries, or the name or the ranges of one of its functions, has no value.
+    pub fn parse_functions<O: Orders>(
+        &mut self,
+        alloc: Global,
+        orders: &mut O,
+        dwarf: &Dwarf<'_, '_>,
+        unit: usize,
+    ) -> Result<&Functions>
+        requires readable { IsReadable dwarf.now }
+        requires fits { UnitsFit (files_view dwarf.now) self.old }
+        requires there { unit < length (units_table self.old).kept }
+        ensures value { Gives (λ x. lists_view x.now) result (or_invalid (unit_functions (files_view dwarf.now) (units_table self.old) unit)) }
+    {
+        Err(invalid("the units are not read yet"))
+    }
+
+    /// The lines of a unit; None exactly where it has no line program. InvalidDwarf exactly where the unit cannot be
+    /// built, or its line program or the string of one of its files has no value.
+    pub fn parse_lines<O: Orders>(
+        &mut self,
+        alloc: Global,
+        orders: &mut O,
+        dwarf: &Dwarf<'_, '_>,
+        unit: usize,
+    ) -> Result<Option<&Lines>>
+        requires readable { IsReadable dwarf.now }
+        requires fits { UnitsFit (files_view dwarf.now) self.old }
+        requires there { unit < length (units_table self.old).kept }
+        ensures value { Gives (λ o. option_map (λ l. l.now.table) o) result (or_invalid (unit_lines (files_view dwarf.now) (units_table self.old) unit)) }
+    {
+        Err(invalid("the units are not read yet"))
+    }
+
+    /// The inlined calls of a function of a unit. InvalidDwarf exactly where the functions of the unit have no value, an
+    /// entry below the function is not closed or not whole, or the name or the ranges of one of the calls has no value.
+    pub fn parse_inlined_functions<O: Orders>(
+        &mut self,
+        alloc: Global,
+        orders: &mut O,
+        dwarf: &Dwarf<'_, '_>,
+        unit: usize,
+        function: usize,
+    ) -> Result<&InlinedFunctions>
+        requires readable { IsReadable dwarf.now }
+        requires fits { UnitsFit (files_view dwarf.now) self.old }
+        requires there { unit < length (units_table self.old).kept }
+        ensures value { Gives (λ x. calls_view x.now) result (or_invalid (function_calls (files_view dwarf.now) (units_table self.old) unit function)) }
+    {
+        Err(invalid("the units are not read yet"))
+    }
+
+    /// The function of an address, by the numbers of its unit and of the function there: of the units that announce the
+    /// address, greatest begin first, the first whose best range covers it. InvalidDwarf exactly where the functions of a
+    /// unit that is asked have no value.
+    pub fn find_function<O: Orders>(
+        &mut self,
+        alloc: Global,
+        orders: &mut O,
+        dwarf: &Dwarf<'_, '_>,
+        probe: u64,
+    ) -> Result<Option<(usize, usize)>>
+        requires readable { IsReadable dwarf.now }
+        requires fits { UnitsFit (files_view dwarf.now) self.old }
+        ensures value { Gives (λ r. r) result (or_invalid (function_at (files_view dwarf.now) (units_table self.old) probe)) }
+        ensures there { IfOk result (λ r. IfSome r (λ r. functions_kept self.new r.0 ≡ true)) }
+        ensures fits { UnitsFit (files_view dwarf.now) self.new }
+        ensures prepared { units_prepared self.new ≡ units_prepared self.old }
+        ensures grows { UnitsGrow (O.pair_places orders.old) self.old self.new }
+        ensures pairs_stay { O.pair_places orders.new ≡ O.pair_places orders.old }
+        ensures names_stay { O.name_places orders.new ≡ O.name_places orders.old }
+    {
+        Err(invalid("the units are not read yet"))
+    }
+
+    /// The place of an address in the sources: of the units that announce the address, greatest begin first, the first
+    /// that has a row for it. InvalidDwarf exactly where the lines of a unit that is asked have no value, or the row's
+    /// file is not in its table.
+    pub fn find_location<'b, O: Orders>(
+        &mut self,
+        alloc: Global,
+        orders: &mut O,
+        dwarf: &Dwarf<'_, 'b>,
+        probe: u64,
+    ) -> Result<Option<Location<'b>>>
+        requires readable { IsReadable dwarf.now }
+        requires fits { UnitsFit (files_view dwarf.now) self.old }
+        ensures value { Gives (λ o. option_map location_view o) result (location_at dwarf.now.texts (files_view dwarf.now) (units_table self.old) probe) }
+        ensures fits { UnitsFit (files_view dwarf.now) self.new }
+        ensures prepared { units_prepared self.new ≡ units_prepared self.old }
+        ensures grows { UnitsGrow (O.pair_places orders.old) self.old self.new }
+        ensures pairs_stay { O.pair_places orders.new ≡ O.pair_places orders.old }
+        ensures names_stay { O.name_places orders.new ≡ O.name_places orders.old }
+    {
+        Err(invalid("the units are not read yet"))
+    }
+
+    /// The inlined calls of a function of a unit that cover an address, the outermost first, each with its name and the
+    /// place that it was called from. InvalidDwarf exactly where the calls of the function have no value, one of the
+    /// names is not UTF-8, or a call has a file and the lines of the unit have no value.
+    pub fn find_inlined_functions<'b, O: Orders>(
+        &mut self,
+        alloc: Global,
+        orders: &mut O,
+        dwarf: &Dwarf<'_, 'b>,
+        probe: u64,
+        unit: usize,
+        function: usize,
+    ) -> Result<InlinedSites<'b>>
+        requires readable { IsReadable dwarf.now }
+        requires fits { UnitsFit (files_view dwarf.now) self.old }
+        requires there { unit < length (units_table self.old).kept }
+        ensures value { Gives (λ s. s) result (inlined_at dwarf.now.texts (files_view dwarf.now) (units_table self.old) probe unit function) }
+        ensures fits { UnitsFit (files_view dwarf.now) self.new }
+        ensures prepared { units_prepared self.new ≡ units_prepared self.old }
+        ensures grows { UnitsGrow (O.pair_places orders.old) self.old self.new }
+        ensures pairs_stay { O.pair_places orders.new ≡ O.pair_places orders.old }
+        ensures names_stay { O.name_places orders.new ≡ O.name_places orders.old }
+    {
+        Err(invalid("the units are not read yet"))
+    }
+
+    /// A function of a unit by its number; Some exactly where the functions of the unit are kept, and the number is among
+    /// them.
+    pub fn function(&self, unit: usize, function: usize) -> Option<&Function>
+        ensures { option_map (λ f. f.now) result ≡ kept_function self.now unit function }
+    {
+        None
+    }
+
+    /// Puts each part of each unit into its cache, as its value or its mark's kind, for the prepared calls. Only want of
+    /// memory is refused.
+    pub fn prepare<O: Orders>(
+        &mut self,
+        alloc: Global,
+        orders: &mut O,
+        dwarf: &Dwarf<'_, '_>,
+    ) -> std::result::Result<(), AllocError>
+        requires readable { IsReadable dwarf.now }
+        requires fits { UnitsFit (files_view dwarf.now) self.old }
+        ensures prepared { IfOk result (λ _. units_prepared self.new ≡ true) }
+        ensures refused { IfErr result (λ _. units_prepared self.new ≡ units_prepared self.old) }
+        ensures fits { UnitsFit (files_view dwarf.now) self.new }
+        ensures grows { UnitsGrow (O.pair_places orders.old) self.old self.new }
+        ensures pairs_stay { O.pair_places orders.new ≡ O.pair_places orders.old }
+        ensures names_stay { O.name_places orders.new ≡ O.name_places orders.old }
+    {
+        Err(AllocError)
+    }
+
+    /// Whether `prepare` has filled each cache.
+    pub fn is_prepared(&self) -> bool
+        ensures { result ≡ units_prepared self.now }
+    {
+        self.prepared
+    }
+
+    /// The function of an address, as `find_function` has it, from what is kept: it takes no memory. It looks at no more
+    /// entries than two halvings need, where no two ranges share an address and both orders were accepted.
+    pub fn find_function_prepared<L: Ledger>(
+        &self,
+        probe: u64,
+        steps: &mut Steps<L>,
+    ) -> Result<Option<(usize, usize)>>
+        requires { units_prepared self.now ≡ true }
+        ensures value { (f : Files) → UnitsFit f self.now → Exactly (λ r. r) result (or_invalid (function_at f (units_table self.now) probe)) }
+        ensures there { IfOk result (λ r. IfSome r (λ r. functions_kept self.now r.0 ≡ true)) }
+        ensures cost { LooksFew self.now result (steps.new - steps.old) }
+    {
+        Err(invalid("the units are not read yet"))
+    }
+
+    /// The language of a unit, as `language` has it, from what is kept: it takes no memory.
+    pub fn language_prepared(&self, unit: usize) -> Result<SrcLang>
+        requires prepared { units_prepared self.now ≡ true }
+        requires there { unit < length (units_table self.now).kept }
+        ensures { (f : Files) → UnitsFit f self.now → Exactly (λ l. l) result (or_invalid (unit_language f (units_table self.now) unit)) }
+    {
+        Err(invalid("the units are not read yet"))
+    }
+
+    /// The place of an address in the sources, as `find_location` has it, from what is kept: it takes no memory.
+    pub fn find_location_prepared<'b, L: Ledger>(
+        &self,
+        texts: &Texts<'b>,
+        probe: u64,
+        steps: &mut Steps<L>,
+    ) -> Result<Option<Location<'b>>>
+        requires { units_prepared self.now ≡ true }
+        ensures { (f : Files) → UnitsFit f self.now → Exactly (λ o. option_map location_view o) result (location_at texts.now f (units_table self.now) probe) }
+    {
+        Err(invalid("the units are not read yet"))
+    }
+}
