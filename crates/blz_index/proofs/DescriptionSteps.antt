@@ -196,4 +196,3 @@ visited_over u place e w made n =
       | inl t ↦ rw (t, none) refl
       | inr f ↦ rw f refl
     ]
-

@@ -3,12 +3,17 @@ use Rattle.std.proofs.Common.{◌≡◌, ℕ, ◌+◌, ◌≤◌, ◌<◌, true,
 use Rattle.std.specs.Prelude.{filter, not}
 use Rattle.std.proofs.lemmas.Bool.{cases_Bool, ltb-true, ltb-false}
 use Rattle.std.proofs.lemmas.List.{append-nil}
+use Rattle.blz_error.specs.declared.kind.ErrorKind.{ErrorKind}
+use Rattle.blz_error.specs.declared.kind.ErrorKind.TheVariants.{InvalidDwarf}
+use Rattle.blz_model.specs.Part.{Good, Broken, Fails}
 use Rattle.blz_model.specs.Reads.{◌>>=◌}
 use Rattle.blz_entry.specs.Contents.{Contents}
 use Rattle.blz_entry.specs.Folds.{fold_maybe}
 use Rattle.blz_entry.specs.Headers.{header_at, UnitList, next_unit, behind, headers_from, headers_behind}
+use Rattle.blz_entry.specs.Marks.{or_invalid}
 use Rattle.blz_entry.specs.declared.units.UnitHeader.{UnitHeader}
 use Rattle.blz_entry.proofs.HeadersEnd.{headers_on, headers_end}
+use Rattle.blz_entry.proofs.Marked.{marks, good_some}
 use Rattle.blz_index.specs.UnitTables.{is_type, no_types}
 
 -- ---- one call
@@ -98,11 +103,26 @@ step_fails {S = S} step s h e rest = ap (λ (o : Option S). o >>= λ k. fold_may
 abbrev pub with_units : List UnitHeader → List UnitHeader → Option (List UnitHeader)
 with_units front headers = Some (front ++ no_types headers)
 
-pub type_passed : (front : List UnitHeader) (h : UnitHeader) → is_type h.kind ≡ true → (rest : List UnitHeader) → with_units front (h ∷ rest) ≡ with_units front rest
-type_passed front h t rest = rw t refl
-
-pub unit_kept : (front : List UnitHeader) (h : UnitHeader) → is_type h.kind ≡ false → (rest : List UnitHeader) → with_units front (h ∷ rest) ≡ with_units (front ++ h ∷ []) rest
-unit_kept front h f rest = rw f (ap (λ (l : List UnitHeader). Some l) (sym (append_assoc front (h ∷ []) (no_types rest))))
+pub units_more : (front : List UnitHeader) (h : UnitHeader) (rest : List UnitHeader) → with_units front (h ∷ rest) ≡ with_units (front ++ no_types (h ∷ [])) rest
+units_more front h rest = elim (cases_Bool (is_type h.kind)) [
+  | inl t ↦ rw t (ap (λ (l : List UnitHeader). Some (l ++ no_types rest)) (sym (append-nil front)))
+  | inr f ↦ rw f (ap (λ (l : List UnitHeader). Some l) (sym (append_assoc front (h ∷ []) (no_types rest))))
+]
 
 pub units_over : (front : List UnitHeader) → with_units front [] ≡ Some front
 units_over front = ap (λ (l : List UnitHeader). Some l) (append-nil front)
+
+-- ---- what a call answers
+
+pub good_header : (o : Option (Option UnitHeader)) (found : Option UnitHeader) {h : UnitHeader} → or_invalid o ≡ Good found → found ≡ Some h → o ≡ Some (Some h)
+good_header o found e is = good_some o found e ∙ ap (λ (x : Option UnitHeader). Some x) is
+
+pub no_header_left : (o : Option (Option UnitHeader)) (found : Option UnitHeader) → or_invalid o ≡ Good found → found ≡ None → o ≡ Some None
+no_header_left o found e is = good_some o found e ∙ ap (λ (x : Option UnitHeader). Some x) is
+
+not_read : (o : Option (Option UnitHeader)) (kind : ErrorKind) → or_invalid o ≡ Broken kind → (o ≡ None) × (kind ≡ InvalidDwarf)
+not_read None kind e = (refl, cc)
+not_read (Some x) kind e = absurd cc
+
+pub bad_header : {B : Type 0} (kind : ErrorKind) (whole : Option B) (f : List UnitHeader → Option B) (s : Contents) (u : UnitList) → u.section ≡ s → or_invalid (next_unit u) ≡ Broken kind → (headers_from s u.place >>= f) ≡ whole → Fails kind (or_invalid whole)
+bad_header kind whole f s u e broken rest = let n = not_read (next_unit u) kind broken in marks kind whole (sym rest ∙ headers_none f s u e n.0) n.1

@@ -1,9 +1,11 @@
 -- The sets that name the start of a unit stand together where the sets rise.
-use Rattle.std.proofs.Common.{◌≡◌, ℕ, zero, suc, ◌+◌, ◌-◌, ◌≤◌, ◌<◌, Bool, true, false, ltb, leb, eqb, List, [], ◌∷◌, ◌++◌, length, get_or, take, drop, Option, Some, None, refl, sym, ap, ◌∙◌, arith, inl, inr}
+use Rattle.std.proofs.Common.{◌≡◌, ℕ, zero, suc, ◌+◌, ◌-◌, ◌≤◌, ◌<◌, Bool, true, false, ltb, leb, eqb, List, [], ◌∷◌, ◌++◌, length, get_or, take, drop, Option, Some, None, refl, sym, ap, ◌∙◌, append_assoc, drop-cons, arith, inl, inr}
 use Rattle.std.specs.List.{slice_get}
 use Rattle.std.specs.List.Sorted.{IsPartitionPoint}
 use Rattle.std.specs.Prelude.{if◌then◌else◌}
 use Rattle.std.proofs.lemmas.Bool.{cases_Bool, ltb-true, ltb-false, leb-true, leb-false, ne_eqb}
+use Rattle.std.proofs.Math.ListN.{drop_of_length-le}
+use Rattle.std.proofs.lemmas.List.{append-nil}
 use Rattle.std.proofs.lemmas.Option.{get_or_from_slice_get, slice_get_within}
 use Rattle.blz_entry.specs.AddressSets.{pairs_of}
 use Rattle.blz_entry.specs.Contents.{Contents}
@@ -50,6 +52,24 @@ named_within s start sets from to e =
     let o = e.ordered in
     named_cut s start (drop from sets) (to - from) (λ i x le is. e.behind (from + i) x (omega arith) (dropped sets from i (from + i) x refl is)) ∙ named_skip s start sets from e.before
 
+-- ---- one set after the other
+
+pub named_more : (s : Contents) (start : ℕ) (sets : List ArangeSet) (i : ℕ) (d : ArangeSet) (front : List Span) → i < length sets → front ++ named s start (drop i sets) ≡ (front ++ ranges_for s start (get_or sets i d)) ++ named s start (drop (i + 1) sets)
+unfolding named
+named_more s start sets i d front lt =
+    let k : i + 1 ≡ suc i = omega arith in
+    rw (k, drop-cons sets i d) (sym (append_assoc front (ranges_for s start (get_or sets i d)) (named s start (drop (suc i) sets))))
+
+pub named_over : (s : Contents) (start : ℕ) (sets : List ArangeSet) (i : ℕ) (front : List Span) → length sets ≤ i → front ++ named s start (drop i sets) ≡ front
+unfolding named
+named_over s start sets i front le = let e = drop_of_length-le sets {i = i} le in rw e (append-nil front)
+
+pub span_more : (front : List Span) (span : Span) (old new rest : List Span) → old ≡ span ∷ new → front ++ old ≡ rest → (front ++ span ∷ []) ++ new ≡ rest
+span_more front span old new rest e is = append_assoc front (span ∷ []) new ∙ (ap (λ (l : List Span). front ++ l) (sym e) ∙ is)
+
+pub span_over : (front old rest : List Span) → old ≡ [] → front ++ old ≡ rest → front ≡ rest
+span_over front old rest e is = sym (append-nil front) ∙ (ap (λ (l : List Span). front ++ l) (sym e) ∙ is)
+
 -- ---- where they stand
 
 no_set : ArangeSet
@@ -76,16 +96,16 @@ extent_made start sets from to from_in to_in below up_to = record {
   ordered = in_order start sets from to from_in below up_to;
   within = to_in;
   before = λ i set lt is same.
-    let here = get_or_from_slice_get sets i set set is in
-    let b = ltb-true _ _ (below.0 i set (omega arith) lt) in
-    let k = ap (λ (x : ArangeSet). x.unit) here in
-    omega arith;
+      let here = get_or_from_slice_get sets i set set is in
+      let b = ltb-true _ _ (below.0 i set (omega arith) lt) in
+      let k = ap (λ (x : ArangeSet). x.unit) here in
+      omega arith;
   behind = λ i set le is same.
-    let here = get_or_from_slice_get sets i set set is in
-    let in_list = slice_get_within sets i set is in
-    let b = leb-false _ _ (up_to.1 i set le in_list) in
-    let k = ap (λ (x : ArangeSet). x.unit) here in
-    omega arith;
+      let here = get_or_from_slice_get sets i set set is in
+      let in_list = slice_get_within sets i set is in
+      let b = leb-false _ _ (up_to.1 i set le in_list) in
+      let k = ap (λ (x : ArangeSet). x.unit) here in
+      omega arith;
 }
 
 pub whole_extent : (start : ℕ) (sets : List ArangeSet) → IsExtent start sets 0 (length sets)

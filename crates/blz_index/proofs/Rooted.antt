@@ -4,11 +4,10 @@ use Rattle.std.specs.Prelude.{option_and_then, if◌then◌else◌}
 use Rattle.blz_model.specs.Reads.{◌>>=◌}
 use Rattle.blz_entry.specs.Abbrevs.{Abbrev}
 use Rattle.blz_entry.specs.Folds.{fold_maybe}
-use Rattle.blz_entry.specs.Roots.{root_attributes, noted_step, nothing_noted, based, with_names, low_behind, root_step, root_from, root_of}
+use Rattle.blz_entry.specs.Roots.{root_attributes, noted_step, nothing_noted, based, low_behind, root_step, root_of}
 use Rattle.blz_entry.specs.StringPlaces.{string_of}
 use Rattle.blz_entry.specs.Walks.{source_of}
 use Rattle.blz_entry.specs.declared.ranges.RangeAttributes.{RangeAttributes}
-use Rattle.blz_entry.specs.declared.root.RootValues.{RootValues}
 use Rattle.blz_entry.specs.declared.root.UnitRoot.{UnitRoot}
 use Rattle.blz_entry.specs.declared.section.Sections.{Sections}
 use Rattle.blz_entry.specs.declared.text.StrPlace.{StrPlace}
@@ -35,17 +34,25 @@ name_lying : (s : Sections) (h : UnitHeader) (root : UnitRoot) (o : Option AttrV
 name_lying s h root None = refl
 name_lying s h root (Some v) = string_lying s h root v
 
-names_lying : (s : Sections) (h : UnitHeader) (r : RootValues) (root : UnitRoot) → with_names s h r root ≡ with_names (lying (sections_view s)) h r root
-names_lying s h r root =
-    ap (λ (name : Option StrPlace). record root { name = name; comp_dir = option_and_then (string_of s h root) r.comp_dir }) (name_lying s h root r.name)
-    ∙ ap (λ (dir : Option StrPlace). record root { name = option_and_then (string_of (lying (sections_view s)) h root) r.name; comp_dir = dir }) (name_lying s h root r.comp_dir)
+named : (s : Sections) (h : UnitHeader) (name dir : Option AttrValue) (root : UnitRoot) → UnitRoot
+named s h name dir root = record root { name = option_and_then (string_of s h root) name; comp_dir = option_and_then (string_of s h root) dir }
 
-from_lying : (s : Sections) (h : UnitHeader) (values : List (ℕ × AttrValue)) (r : RootValues) → root_from s h values r ≡ root_from (lying (sections_view s)) h values r
-from_lying s h values r =
-    ap (λ (o : Option UnitRoot). if s.split then Some (with_names s h r (based s h r)) else o) (steps_lying s h (with_names s h r (based s h r)) values)
-    ∙ ap (λ (root : UnitRoot). if s.split then Some root else fold_maybe (root_step (lying (sections_view s)) h) root values) (names_lying s h r (based s h r))
+named_lying : (s : Sections) (h : UnitHeader) (name dir : Option AttrValue) (root : UnitRoot) → named s h name dir root ≡ named (lying (sections_view s)) h name dir root
+unfolding named
+named_lying s h name dir root =
+    ap (λ (n : Option StrPlace). record root { name = n; comp_dir = option_and_then (string_of s h root) dir }) (name_lying s h root name)
+    ∙ ap (λ (d : Option StrPlace). record root { name = option_and_then (string_of (lying (sections_view s)) h root) name; comp_dir = d }) (name_lying s h root dir)
+
+abbrev finished : Sections → UnitHeader → List (ℕ × AttrValue) → UnitRoot → Option UnitRoot
+finished s h values root = if s.split then Some root else fold_maybe (root_step s h) root values
+
+finished_lying : (s : Sections) (h : UnitHeader) (values : List (ℕ × AttrValue)) (name dir : Option AttrValue) (root : UnitRoot) → finished s h values (record root { name = option_and_then (string_of s h root) name; comp_dir = option_and_then (string_of s h root) dir }) ≡ finished (lying (sections_view s)) h values (record root { name = option_and_then (string_of (lying (sections_view s)) h root) name; comp_dir = option_and_then (string_of (lying (sections_view s)) h root) dir })
+unfolding named
+finished_lying s h values name dir root =
+    ap (λ (o : Option UnitRoot). if s.split then Some (named s h name dir root) else o) (steps_lying s h (named s h name dir root) values)
+    ∙ ap (λ (r : UnitRoot). finished (lying (sections_view s)) h values r) (named_lying s h name dir root)
 
 pub root_lying : (s : Sections) (h : UnitHeader) (table : List Abbrev) → root_of s h table ≡ root_of (lying (sections_view s)) h table
 unfolding root_of
 root_lying s h table =
-    bind_same (root_attributes (source_of s h table) h.entries) _ _ (λ values. bind_same (fold_maybe noted_step nothing_noted values) _ _ (λ noted_values. from_lying s h values noted_values))
+    bind_same (root_attributes (source_of s h table) h.entries) _ _ (λ values. bind_same (fold_maybe noted_step nothing_noted values) _ _ (λ noted_values. finished_lying s h values noted_values.name noted_values.comp_dir (based s h noted_values)))

@@ -82,23 +82,40 @@ pub record IsMet (l : SetList) (set : ArangeSet) (new : SetList) : Type 0 where
 abbrev at_end : SetList → ArangeSet → SetList
 at_end l x = record { section = l.section; place = x.end }
 
-read_set : (l : SetList) (o : Option ArangeSet) (set : ArangeSet) (new : SetList) → l.place < length l.section.bytes → set_at l.section l.place ≡ o → (o >>= λ x. Some (Some x, at_end l x)) ≡ Some (Some set, new) → IsMet l set new
+abbrev set_and_list : SetList → Option ArangeSet → Option (Option ArangeSet × SetList)
+set_and_list l o = ◌>>=◌ {A = ArangeSet} {B = Option ArangeSet × SetList} o (λ x. Some (Some x, at_end l x))
+
+abbrev found_of : Option (Option ArangeSet × SetList) → Option ArangeSet
+found_of None = None
+found_of (Some r) = r.0
+
+abbrev list_of : SetList → Option (Option ArangeSet × SetList) → SetList
+list_of l None = l
+list_of l (Some r) = r.1
+
+same_set : (x y : ArangeSet) → Some x ≡ Some y → x ≡ y
+same_set x y e = cc
+
+no_such : (x : ArangeSet) → None ≡ Some x → ⊥
+no_such x e = cc
+
+read_set : (l : SetList) (o : Option ArangeSet) (set : ArangeSet) (new : SetList) → l.place < length l.section.bytes → set_at l.section l.place ≡ o → set_and_list l o ≡ Some (Some set, new) → IsMet l set new
 read_set l None set new below e is = absurd cc
 read_set l (Some x) set new below e is =
-    let same : x ≡ set = cc in
-    let n : at_end l x ≡ new = cc in
+    let same : x ≡ set = same_set x set (ap found_of is) in
+    let n : at_end l x ≡ new = ap (list_of l) is in
     record { below = below; here = e ∙ ap (λ (y : ArangeSet). Some y) same; section = sym (ap (λ (k : SetList). k.section) n); place = sym (ap (λ (k : SetList). k.place) n) ∙ ap (λ (y : ArangeSet). y.end) same }
 
 pub met : (l : SetList) (set : ArangeSet) (new : SetList) → next_set l ≡ Some (Some set, new) → IsMet l set new
 unfolding next_set
 met l set new is = elim (cases_Bool (ltb l.place (length l.section.bytes))) [
   | inl t ↦ read_set l (set_at l.section l.place) set new (ltb-true _ _ t) refl (rw t at is)
-  | inr f ↦ absurd (let k = rw f at is in cc)
+  | inr f ↦ absurd (no_such set (ap found_of (rw f at is)))
 ]
 
-no_set : (l : SetList) (o : Option ArangeSet) (new : SetList) → (o >>= λ x. Some (Some x, at_end l x)) ≡ Some (None, new) → ⊥
+no_set : (l : SetList) (o : Option ArangeSet) (new : SetList) → set_and_list l o ≡ Some (None, new) → ⊥
 no_set l None new is = cc
-no_set l (Some x) new is = cc
+no_set l (Some x) new is = no_such x (sym (ap found_of is))
 
 over : (l new : SetList) → next_set l ≡ Some (None, new) → length l.section.bytes ≤ l.place
 unfolding next_set
@@ -107,7 +124,7 @@ over l new is = elim (cases_Bool (ltb l.place (length l.section.bytes))) [
   | inr f ↦ let k = ltb-false _ _ f in omega arith
 ]
 
-unread : (l : SetList) (o : Option ArangeSet) → (o >>= λ x. Some (Some x, at_end l x)) ≡ None → o ≡ None
+unread : (l : SetList) (o : Option ArangeSet) → set_and_list l o ≡ None → o ≡ None
 unread l None is = refl
 unread l (Some x) is = absurd cc
 
@@ -122,6 +139,13 @@ broken_set l is = elim (cases_Bool (ltb l.place (length l.section.bytes))) [
 
 abbrev pub put_before : List ArangeSet → Option (List ArangeSet) → Option (List ArangeSet)
 put_before front rest = rest >>= λ xs. Some (front ++ xs)
+
+nothing_before : (o : Option (List ArangeSet)) → put_before [] o ≡ o
+nothing_before None = refl
+nothing_before (Some rest) = refl
+
+pub at_start : (s : Contents) (front : List ArangeSet) (place : ℕ) → front ≡ [] → place ≡ 0 → put_before front (sets_from s place) ≡ sets_from s 0
+at_start s front place e z = ap (λ (l : List ArangeSet). put_before l (sets_from s place)) e ∙ (nothing_before (sets_from s place) ∙ ap (λ (n : ℕ). sets_from s n) z)
 
 moved : (front : List ArangeSet) (x : ArangeSet) (o : Option (List ArangeSet)) → put_before front (o >>= λ rest. Some (x ∷ rest)) ≡ put_before (front ++ x ∷ []) o
 moved front x None = refl

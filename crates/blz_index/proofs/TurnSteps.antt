@@ -1,14 +1,14 @@
 -- The ranges that cover an address, one after the other.
-use Rattle.std.proofs.Common.{◌≡◌, ℕ, zero, suc, ◌+◌, ◌<◌, ◌≤◌, true, false, eqb, List, [], ◌∷◌, ◌++◌, length, drop, Option, Some, None, refl, sym, ap, subst, ◌∙◌, arith}
+use Rattle.std.proofs.Common.{◌≡◌, ℕ, zero, suc, ◌+◌, ◌<◌, ◌≤◌, Bool, true, false, eqb, List, [], ◌∷◌, ◌++◌, length, drop, Option, Some, None, refl, sym, ap, subst, ◌∙◌, arith}
 use Rattle.std.specs.List.{slice_get}
 use Rattle.std.specs.Option.{option_to_list, option_map}
 use Rattle.std.specs.Prelude.{if◌then◌else◌}
 use Rattle.std.proofs.lemmas.Bool.{eq-eqb, ne_eqb}
 use Rattle.blz_entry.specs.declared.span.Span.{Span}
-use Rattle.blz_index.specs.Announced.{behind, places_left, turn_of, IsCovering, IsTurn}
+use Rattle.blz_index.specs.Announced.{Announcing, behind, is_first, places_left, turn_of, IsCovering, IsTurn}
 use Rattle.blz_index.specs.Best.{best, next}
 use Rattle.blz_index.specs.Owned.{Owned, items_of, owner_at}
-use Rattle.blz_index.specs.Ranges.{owner_of}
+use Rattle.blz_index.specs.Ranges.{OwnedRanges, owner_of}
 use Rattle.blz_index.specs.Turns.{covering}
 use Rattle.blz_index.specs.UnitTables.{owners_of}
 use Rattle.blz_index.specs.declared.units_at.Turn.{Turn}
@@ -60,7 +60,7 @@ after_place ranges a p c =
 -- ---- the turn behind it
 
 covering_at : (ranges : List (Owned Span)) (a i p : ℕ) → slice_get (covering (items_of ranges) a) i ≡ Some p → IsCovering ranges a p
-covering_at ranges a i p is = record { within = let k = covering_within (items_of ranges) a i p is in let l = length-map {A = Owned Span} (λ x. x.item) ranges in omega arith; at = i; is = is }
+covering_at ranges a i p is = record { within = let k = covering_within (items_of ranges) a i p is in let l = length-map ranges (λ (x : Owned Span). x.item) in omega arith; at = i; is = is }
 
 -- the place of the list at which a turn stands
 abbrev at_turn : (ranges : List (Owned Span)) (a : ℕ) (turn : Turn) → IsTurn ranges a turn → ℕ
@@ -117,3 +117,17 @@ unit_next ranges a turn t place e = ap (λ o. owner_of ranges o) e ∙ (turn_tak
 
 pub units_left : (ranges : List (Owned Span)) (a : ℕ) (turn : Turn) (t : IsTurn ranges a turn) (place : Option ℕ) → place ≡ slice_get (places_left ranges a turn) 0 → owners_of ranges (places_left ranges a (turn_of place)) ≡ drop 1 (owners_of ranges (places_left ranges a turn))
 units_left ranges a turn t place e = ap (λ (l : List ℕ). owners_of ranges l) (places_behind ranges a turn t place e) ∙ (turn_taken ranges a turn t).left
+
+-- ---- what a call leaves
+
+not_first : (place : Option ℕ) → is_first (turn_of place) ≡ false
+not_first None = refl
+not_first (Some p) = refl
+
+abbrev pub seen : OwnedRanges → ℕ → List ℕ → Bool → Announcing
+seen ranges a left fresh = record { announced = ranges; address = a; left = left; fresh = fresh }
+
+pub seen_behind : (r : OwnedRanges) (a : ℕ) (turn : Turn) (t : IsTurn r.ranges a turn) (place : Option ℕ) → place ≡ slice_get (places_left r.ranges a turn) 0 → seen r a (owners_of r.ranges (places_left r.ranges a (turn_of place))) (is_first (turn_of place)) ≡ seen r a (drop 1 (owners_of r.ranges (places_left r.ranges a turn))) false
+seen_behind r a turn t place e =
+    ap (λ (l : List ℕ). seen r a l (is_first (turn_of place))) (units_left r.ranges a turn t place e)
+    ∙ ap (λ (b : Bool). seen r a (drop 1 (owners_of r.ranges (places_left r.ranges a turn))) b) (not_first place)

@@ -3,11 +3,14 @@ use Rattle.std.proofs.Common.{◌≡◌, ℕ, zero, suc, ◌+◌, ◌-◌, ◌�
 use Rattle.std.specs.List.{slice_get}
 use Rattle.std.specs.List.Sorted.{IsPartitionPoint}
 use Rattle.std.specs.Prelude.{IfSome, if◌then◌else◌, nat_le}
+use Rattle.std.proofs.lemmas.Bool.{cases_Bool}
+use Rattle.std.proofs.lemmas.List.{append-nil}
 use Rattle.std.proofs.lemmas.List.Sorted.{IsNonDecreasingBy-push, IsNonDecreasingBy-short}
 use Rattle.std.proofs.lemmas.Option.{slice_get-get_or}
 use Rattle.blz_entry.specs.declared.units.UnitHeader.{UnitHeader}
 use Rattle.blz_index.specs.References.{later, last_to, distance_in, unit_at}
 use Rattle.blz_index.specs.UnitLists.{IsInPlace, EndBefore, AreUnits}
+use Rattle.blz_index.specs.UnitTables.{is_type, no_types}
 
 pub no_units : AreUnits []
 no_units = record { in_place = λ i h is. absurd cc; rises = IsNonDecreasingBy-short (λ (h : UnitHeader). h.start) [] (omega arith) }
@@ -26,23 +29,29 @@ pub in_place_more : (units : List UnitHeader) (y : UnitHeader) → AreUnits unit
 in_place_more units y are ends y_in = record {
   in_place = λ i h is. elim (appended_at units y i h is) [ inl e ↦ are.in_place i h e | inr e ↦ subst IsInPlace e y_in ];
   rises = IsNonDecreasingBy-push (λ (h : UnitHeader). h.start) units y are.rises (λ d some.
-    let at = slice_get-get_or units (length units - 1) d (omega arith) in
-    let place = are.in_place (length units - 1) (get_or units (length units - 1) d) at in
-    let below = ends (length units - 1) (get_or units (length units - 1) d) at in
-    let a = place.behind in
-    let b = place.ordered in
-    omega arith);
+      let at = slice_get-get_or units (length units - 1) d (omega arith) in
+      let place = are.in_place (length units - 1) (get_or units (length units - 1) d) at in
+      let below = ends (length units - 1) (get_or units (length units - 1) d) at in
+      let a = place.behind in
+      let b = place.ordered in
+      omega arith);
 }
 
 pub end_more : (units : List UnitHeader) (y : UnitHeader) (place : ℕ) → EndBefore units place → place ≤ y.start → IsInPlace y → EndBefore (units ++ y ∷ []) y.end
 end_more units y place ends le y_in = λ i h is.
     elim (appended_at units y i h is) [
-    | inl e ↦ let k = ends i h e in let a = y_in.behind in let b = y_in.ordered in omega arith
-    | inr e ↦ let k = ap (λ (x : UnitHeader). x.end) e in omega arith
+      | inl e ↦ let k = ends i h e in let a = y_in.behind in let b = y_in.ordered in omega arith
+      | inr e ↦ let k = ap (λ (x : UnitHeader). x.end) e in omega arith
     ]
 
 pub end_later : (units : List UnitHeader) (place later : ℕ) → EndBefore units place → place ≤ later → EndBefore units later
 end_later units place later ends le = λ i h is. let k = ends i h is in omega arith
+
+pub end_typed : (units : List UnitHeader) (y : UnitHeader) (place : ℕ) → EndBefore units place → place ≤ y.start → IsInPlace y → EndBefore (units ++ no_types (y ∷ [])) y.end
+end_typed units y place ends le y_in = elim (cases_Bool (is_type y.kind)) [
+  | inl t ↦ let a = y_in.behind in let b = y_in.ordered in let p : place ≤ y.end = omega arith in rw (t, append-nil units) (end_later units place y.end ends p)
+  | inr f ↦ rw f (end_more units y place ends le y_in)
+]
 
 -- ---- the last unit
 

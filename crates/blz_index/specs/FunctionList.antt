@@ -37,10 +37,10 @@ is_function e = e.tag == 0x2e
 unfoldable pub functions_among : Refer → UnitParts → List Info → Option (List RangedFunction)
 functions_among refer u [] = Some []
 functions_among refer u (e ∷ rest) = if is_function e then (do
-    f ← function_of refer u e
-    fs ← functions_among refer u rest
-    Some (f ∷ fs))
-  else functions_among refer u rest
+  f ← function_of refer u e
+  fs ← functions_among refer u rest
+  Some (f ∷ fs))
+    else functions_among refer u rest
 
 -- the entries of a unit from a place on, where d of them are open
 abbrev pub entries_from : UnitParts → ℕ → ℕ → Option (List (ℕ × Info))

@@ -59,10 +59,10 @@ visit_from u (a ∷ rest) name link at = do
 -- the entry at a place, which has to be one of the unit
 unfoldable pub visited : UnitParts → ℕ → Option Visited
 visited u place = if nat_le u.header.entries place && nat_le place u.header.end then (do
-    code ← uleb (source_in u).section.bytes place
-    a ← of_code code.0 u.table
-    if code.0 == 0 then None else visit_from u a.specs None None code.1)
-  else None
+  code ← uleb (source_in u).section.bytes place
+  a ← of_code code.0 u.table
+  if code.0 == 0 then None else visit_from u a.specs None None code.1)
+    else None
 
 -- ---- the entry itself
 

@@ -80,6 +80,13 @@ abbrev pub added : List Span → Option (List Span) → List Span × Bool
 added old None = (old, false)
 added old (Some spans) = (old ++ spans, true)
 
+abbrev pub added_to : List Span → Option (Option (List Span)) → Option (List Span × Bool)
+added_to old spans = spans >>= λ new. Some (added old new)
+
+-- the ranges of a root behind others
+abbrev pub root_behind : UnitParts → List Span → Option (List Span)
+root_behind u old = root_spans u >>= λ spans. Some (old ++ spans)
+
 -- ---- the units of a file
 
 -- the units that are kept so far, and what they announce, each range with the number of its unit
@@ -97,6 +104,10 @@ keep k h (Some spans) = record { kept = k.kept ++ h ∷ []; announced = k.announ
 -- one unit more
 unfoldable pub with_unit : FileSections → List ArangeSet → KeptUnits → UnitHeader → Option KeptUnits
 with_unit s sets k h = announces s sets h >>= λ spans. Some (keep k h spans)
+
+-- all units, in their order
+abbrev pub units_kept : FileSections → List ArangeSet → Option KeptUnits
+units_kept s sets = headers_from s.info 0 >>= fold_maybe (with_unit s sets) no_units
 
 -- the units that references from the main file may lead to
 abbrev pub no_types : List UnitHeader → List UnitHeader
@@ -120,7 +131,7 @@ unfoldable pub units_of : Files → Option UnitTable
 units_of f = do
   sups ← sup_units f.sup
   sets ← sets_from f.main.aranges 0
-  units ← headers_from f.main.info 0 >>= fold_maybe (with_unit f.main sets) no_units
+  units ← units_kept f.main sets
   Some (record { kept = units.kept; announced = units.announced; sups = sups })
 
 -- ---- what is asked of a table

@@ -98,6 +98,31 @@ fn append_named(
     Ok(())
 }
 
+/// Where the sets that name the start of a unit stand, of sets that rise.
+fn extent_of(sets: &[ArangeSet], start: u64) -> (usize, usize)
+    requires { IsNonDecreasingBy (λ (set : ArangeSet). set.unit) sets.now }
+    ensures { IsExtent start sets.now result.0 result.1 }
+{
+    let from = sets.partition_point(|set| set.unit < start);
+    let to = sets.partition_point(|set| set.unit <= start);
+    (from, to)
+}
+
+/// Appends the ranges of the sets that name the start of a unit, which stand together.
+fn append_within(
+    sets: &[ArangeSet],
+    extent: (usize, usize),
+    aranges: &Section<'_, '_>,
+    start: u64,
+    out: &mut Vec<Span>,
+) -> std::result::Result<(), AllocError>
+    requires { IsExtent start sets.now extent.0 extent.1 }
+    ensures { OnOk result (out.new.items ≡ out.old.items ++ named (section_view aranges.now) start sets.now) }
+{
+    let (from, to) = extent;
+    append_named(&sets[from..to], aranges, start, out)
+}
+
 impl AddressSets {
     /// Reads all sets of a section. InvalidDwarf exactly where one of them is not whole or its header not as it has to
     /// be.
@@ -116,9 +141,7 @@ impl AddressSets {
         if !self.rising {
             return (0, self.sets.len());
         }
-        let from = self.sets.partition_point(|set| set.unit < start);
-        let to = self.sets.partition_point(|set| set.unit <= start);
-        (from, to)
+        extent_of(self.sets.as_slice(), start)
     }
 
     /// Appends the ranges of the sets that name the start of a unit, in the order of the section.
@@ -131,7 +154,7 @@ impl AddressSets {
         ensures { OnOk result (out.new.items ≡ out.old.items ++ named (section_view aranges.now) start self.now) }
     {
         let start = start as u64;
-        let (from, to) = self.extent(start);
-        append_named(&self.sets.as_slice()[from..to], aranges, start, out)
+        let extent = self.extent(start);
+        append_within(self.sets.as_slice(), extent, aranges, start, out)
     }
 }

@@ -2,14 +2,13 @@
 ghost use Rattle.std.specs.Prelude.{◌≡◌, ◌≢◌, ◌++◌, Option, Some, MatchResult, OnOk, option_map};
 ghost use Rattle.blz_error.specs.declared.kind.ErrorKind.TheVariants.{OutOfMemory};
 ghost use Rattle.blz_model.specs.Part.{Gives};
-ghost use Rattle.blz_model.specs.Reads.{◌>>=◌};
 ghost use Rattle.blz_entry.specs.Marks.{or_invalid};
 ghost use Rattle.blz_line.specs.Lookups.{span_of, spans_of};
 ghost use Rattle.blz_line.specs.UnitLines.{OrderedLines};
 ghost use Rattle.blz_index.specs.BuiltUnits.{built, files_view, IsReadable};
 ghost use Rattle.blz_index.specs.Opened.{open_view};
 ghost use Rattle.blz_index.specs.UnitLists.{IsInPlace};
-ghost use Rattle.blz_index.specs.UnitTables.{added, announces, by_root, is_type, is_partial, lines_in, root_spans, sequences_of};
+ghost use Rattle.blz_index.specs.UnitTables.{added_to, announces, by_root, is_type, is_partial, lines_in, root_behind, sequences_of};
 
 use crate::address_sets::AddressSets;
 use crate::built_unit::BuiltUnit;
@@ -107,7 +106,7 @@ fn append_lines(alloc: Global, unit: &OpenUnit<'_, '_>, out: &mut Vec<Span>) -> 
 
 /// Appends the ranges of the root of a unit, and where there are none what the sequences of its lines cover.
 fn append_root(alloc: Global, unit: &OpenUnit<'_, '_>, out: &mut Vec<Span>) -> Result<()>
-    ensures { Gives (λ _. out.new.items) result (or_invalid (root_spans (open_view unit.now) >>= λ spans. Some (out.old.items ++ spans))) }
+    ensures { Gives (λ _. out.new.items) result (or_invalid (root_behind (open_view unit.now) out.old.items)) }
 {
     if unit.append_ranges(&unit.root.ranges, out)? {
         return Ok(());
@@ -124,7 +123,7 @@ fn append_built(
 ) -> Result<bool>
     requires readable { IsReadable dwarf.now }
     requires in_place { IsInPlace header.now }
-    ensures { Gives (λ kept. (out.new.items, kept)) result (or_invalid (by_root (built (files_view dwarf.now).main header.now) >>= λ o. Some (added out.old.items o))) }
+    ensures { Gives (λ kept. (out.new.items, kept)) result (or_invalid (added_to out.old.items (by_root (built (files_view dwarf.now).main header.now)))) }
 {
     let unit = match BuiltUnit::of_file(alloc, dwarf, Origin::Main, header) {
         Ok(unit) => unit,
@@ -149,7 +148,7 @@ pub fn append_announced(
 ) -> Result<bool>
     requires readable { IsReadable dwarf.now }
     requires in_place { IsInPlace header.now }
-    ensures { Gives (λ kept. (out.new.items, kept)) result (or_invalid (announces (files_view dwarf.now).main sets.now header.now >>= λ o. Some (added out.old.items o))) }
+    ensures { Gives (λ kept. (out.new.items, kept)) result (or_invalid (added_to out.old.items (announces (files_view dwarf.now).main sets.now header.now))) }
 {
     if is_type(header.kind) {
         return Ok(false);

@@ -180,11 +180,7 @@ impl BuiltUnit {
     /// has one that is not empty, and else the unit itself. InvalidDwarf exactly where that cannot be built, or the index
     /// of the package has no value for the id.
     #[tactic(auto, unfolding(crate::specs::BuiltUnits::reading))]
-    pub fn reading(
-        alloc: Global,
-        dwarf: &Dwarf<'_, '_>,
-        header: &UnitHeader,
-    ) -> Result<BuiltUnit>
+    pub fn reading(alloc: Global, dwarf: &Dwarf<'_, '_>, header: &UnitHeader) -> Result<BuiltUnit>
         requires readable { IsReadable dwarf.now }
         requires ordered { header.now.entries ≤ header.now.end }
         ensures value { Gives (built_view (files_view dwarf.now)) result (or_invalid (reading (files_view dwarf.now) header.now)) }

@@ -37,7 +37,8 @@ pub enum Origin {
 
 /// A section for as long as it is lent.
 fn section_in<'u, 's, 'b>(section: &'u Section<'s, 'b>) -> Section<'u, 'b>
-    ensures { section_view result ≡ section_view section.now }
+    ensures view { section_view result ≡ section_view section.now }
+    ensures bytes { result.bytes.now ≡ section.now.bytes.now }
 {
     Section {
         bytes: section.bytes,
@@ -58,7 +59,8 @@ fn strings_in<'u, 's, 'b>(strings: &'u Option<Section<'s, 'b>>) -> Option<Sectio
 
 /// Sections for as long as they are lent.
 fn sections_in<'u, 's, 'b>(sections: &'u Sections<'s, 'b>) -> Sections<'u, 'b>
-    ensures { sections_view result ≡ sections_view sections.now }
+    ensures view { sections_view result ≡ sections_view sections.now }
+    ensures end { result.shift + length result.info.bytes.now ≡ sections.now.shift + length sections.now.info.bytes.now }
 {
     Sections {
         abbrev: section_in(&sections.abbrev),

@@ -1,14 +1,11 @@
 //! The units of a file that are kept, and the ranges that they announce.
 ghost use Rattle.std.specs.Prelude.{◌≡◌, ◌≤◌, ◌++◌, ◌∷◌, [], length, IfOk, Option};
 ghost use Rattle.blz_model.specs.Part.{Gives};
-ghost use Rattle.blz_model.specs.Reads.{◌>>=◌};
-ghost use Rattle.blz_entry.specs.Folds.{fold_maybe};
-ghost use Rattle.blz_entry.specs.Headers.{headers_from};
 ghost use Rattle.blz_entry.specs.Marks.{or_invalid};
 ghost use Rattle.blz_index.specs.BuiltUnits.{files_view, IsReadable};
 ghost use Rattle.blz_index.specs.Owned.{owned, filled_up};
 ghost use Rattle.blz_index.specs.UnitLists.{EndBefore, IsInPlace};
-ghost use Rattle.blz_index.specs.UnitTables.{with_unit, no_units};
+ghost use Rattle.blz_index.specs.UnitTables.{with_unit, no_units, units_kept};
 
 use crate::address_sets::AddressSets;
 use crate::announcing::append_announced;
@@ -29,6 +26,7 @@ pub struct KeptUnits {
 }
 
 impl Model for KeptUnits {
+    ghost use Rattle.std.specs.Prelude.{◌≡◌, length};
     ghost use Rattle.blz_index.specs.Owned.{owned};
     ghost use Rattle.blz_index.specs.UnitTables.{KeptUnits};
 
@@ -104,7 +102,7 @@ impl KeptUnits {
     /// Reads the headers of all units, each with what it announces.
     pub fn read(alloc: Global, dwarf: &Dwarf<'_, '_>, sets: &AddressSets) -> Result<KeptUnits>
         requires { IsReadable dwarf.now }
-        ensures { Gives (λ k. k) result (or_invalid (headers_from (files_view dwarf.now).main.info 0 >>= fold_maybe (with_unit (files_view dwarf.now).main sets.now) no_units)) }
+        ensures { Gives (λ k. k) result (or_invalid (units_kept (files_view dwarf.now).main sets.now)) }
     {
         let mut headers = UnitHeaders::new(dwarf.main.info);
         let mut units = KeptUnits::new(alloc);

@@ -1,5 +1,7 @@
 //! Ranges that overlap, in orders that are accepted and that are not, and the chain of inlined calls.
 
+mod announced;
+
 use crate::functions::{Function, Functions};
 use crate::grouped::Grouped;
 use crate::inlined_functions::{InlinedFunction, InlinedFunctions};

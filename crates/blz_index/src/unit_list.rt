@@ -1,10 +1,12 @@
 //! The headers of units in the order in which the units stand.
-ghost use Rattle.std.specs.Prelude.{◌≡◌, ◌≤◌, ◌<◌, ◌++◌, ◌∷◌, [], List, length, Option, IfSome, MatchResult, Some};
+ghost use Rattle.std.specs.Prelude.{◌≡◌, ◌≤◌, ◌<◌, ◌++◌, ◌∷◌, [], List, length, Option, IfSome, MatchResult, OnOk, Some};
 ghost use Rattle.std.specs.List.{slice_get};
 ghost use Rattle.blz_entry.specs.declared.units.UnitHeader.{UnitHeader};
 ghost use Rattle.blz_index.specs.References.{distance_in, unit_at};
 ghost use Rattle.blz_index.specs.UnitLists.{AreUnits, EndBefore, IsInPlace};
+ghost use Rattle.blz_index.specs.UnitTables.{no_types};
 
+use crate::announcing::is_type;
 use blz_entry::UnitHeader;
 use std::alloc::{AllocError, Global};
 use std::marker::Model;
@@ -33,6 +35,18 @@ fn distance_in(offset: usize, number: usize, header: &UnitHeader) -> Option<(usi
     } else {
         None
     }
+}
+
+/// The number of the unit that an offset leads into, and the offset's distance from its start.
+fn find_in(headers: &[UnitHeader], offset: u64) -> Option<(usize, usize)>
+    requires { AreUnits headers.now }
+    ensures { result ≡ unit_at headers.now offset }
+{
+    let count = headers.partition_point(|header| header.start as u64 <= offset);
+    if count == 0 {
+        return None;
+    }
+    distance_in(offset as usize, count - 1, &headers[count - 1])
 }
 
 impl UnitList {
@@ -68,17 +82,23 @@ impl UnitList {
         Ok(())
     }
 
+    /// The same, where it is no type unit.
+    pub fn push_but_types(&mut self, header: UnitHeader) -> Result<(), AllocError>
+        requires in_place { IsInPlace header }
+        requires behind { EndBefore self.old header.start }
+        ensures { OnOk result (self.new ≡ self.old ++ no_types (header ∷ [])) }
+    {
+        if is_type(header.kind) {
+            return Ok(());
+        }
+        self.push(header)
+    }
+
     /// The number of the last unit that does not begin above an offset, and the offset's distance from its start; None
     /// exactly where there is no such unit, or the offset does not lie among its entries.
     pub fn find(&self, offset: u64) -> Option<(usize, usize)>
         ensures { result ≡ unit_at self.now offset }
     {
-        let count = self
-            .headers
-            .partition_point(|header| header.start as u64 <= offset);
-        if count == 0 {
-            return None;
-        }
-        distance_in(offset as usize, count - 1, &self.headers[count - 1])
+        find_in(self.headers.as_slice(), offset)
     }
 }

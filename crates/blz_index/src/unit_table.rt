@@ -12,7 +12,6 @@ ghost use Rattle.blz_index.specs.UnitTables.{announcing, sup_units, units_in, un
 ghost use Rattle.blz_split.specs.FileSections.{sections_view};
 
 use crate::address_sets::AddressSets;
-use crate::announcing::is_type;
 use crate::dwarf::Dwarf;
 use crate::fault::invalid;
 use crate::kept_units::KeptUnits;
@@ -40,10 +39,7 @@ fn units_in(alloc: Global, info: Section<'_, '_>) -> Result<UnitList>
     let mut headers = UnitHeaders::new(info);
     let mut units = UnitList::new(alloc);
     while let Some(header) = headers.next_header()? {
-        if is_type(header.kind) {
-            continue;
-        }
-        units.push(header)?;
+        units.push_but_types(header)?;
     }
     Ok(units)
 }

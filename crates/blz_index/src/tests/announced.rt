@@ -22,8 +22,7 @@ const INFO: &[u8] = b"\x08\0\0\0\x04\0\0\0\0\0\x08\x01\x08\0\0\0\x04\0\0\0\0\0\x
 const ABBREV: &[u8] = b"\x01\x11\0\0\0\0";
 
 // of the unit at 0 the addresses [0x10, 0x20), of the unit at 12 [0x18, 0x30)
-const ARANGES: &[u8] =
-    b"\x1c\0\0\0\x02\0\0\0\0\0\x08\0\0\0\0\0\x10\0\0\0\0\0\0\0\x10\0\0\0\0\0\0\0\
+const ARANGES: &[u8] = b"\x1c\0\0\0\x02\0\0\0\0\0\x08\0\0\0\0\0\x10\0\0\0\0\0\0\0\x10\0\0\0\0\0\0\0\
       \x1c\0\0\0\x02\0\x0c\0\0\0\x08\0\0\0\0\0\x18\0\0\0\0\0\0\0\x18\0\0\0\0\0\0\0";
 
 fn section<'s>(bytes: &'static [u8], none: &'s RelocationMap) -> Section<'s, 'static> {

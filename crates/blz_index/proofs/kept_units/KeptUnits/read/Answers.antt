@@ -1,0 +1,41 @@
+use Rattle.std.proofs.Common.{sym, ap, subst, ◌∙◌, ℕ, ◌≤◌, arith}
+use Rattle.std.proofs.lemmas.Result.{err_from_is_err_and}
+use Rattle.blz_entry.specs.Contents.{section_view}
+use Rattle.blz_entry.specs.Folds.{fold_maybe}
+use Rattle.blz_entry.specs.Marks.{or_invalid}
+use Rattle.blz_entry.proofs.Marked.{marks, marks_on, good_some}
+use Rattle.blz_index.specs.BuiltUnits.{files_view}
+use Rattle.blz_index.specs.UnitLists.{EndBefore}
+use Rattle.blz_index.specs.UnitTables.{with_unit}
+use Rattle.blz_index.proofs.HeaderSteps.{headers_more, headers_fail, headers_none, headers_over, place_behind, section_behind, step_on, step_fails, bad_header, good_header, no_header_left}
+use Rattle.blz_index.proofs.UnitsInPlace.{end_later}
+use Rattle.blz_index.proofs.kept_units.KeptUnits.read.Goals as goal
+
+pub returns-in_err-header : goal.returns-in_err-header
+returns-in_err-header c =
+    let p = err_from_is_err_and c.from_residual.result c.from_residual.ensures.1 in
+    let f = fold_maybe (with_unit (files_view c.args.dwarf.now).main c.args.sets.now) c.loop-units.units in
+    rw (p.1, p.2) (bad_header _ _ f (section_view c.args.dwarf.now.main.info) c.loop-units.headers c.loop-units.invariant.section c.in_err-header.ensures.value.0 c.loop-units.invariant.rest)
+
+pub returns-in_err-units : goal.returns-in_err-units
+returns-in_err-units c =
+    let p = err_from_is_err_and c.from_residual-in_err-units.result c.from_residual-in_err-units.ensures.1 in
+    let step = with_unit (files_view c.args.dwarf.now).main c.args.sets.now in
+    let is = good_header _ _ c.in_ok-header.ensures.value c.in-Some.is in
+    rw (p.1, p.2) (marks_on _ _ _ c.in_err-units.ensures.value (λ none. sym c.loop-units.invariant.rest ∙ headers_fail (fold_maybe step c.loop-units.units) (section_view c.args.dwarf.now.main.info) c.loop-units.headers c.in-Some.header c.loop-units.invariant.section is (step_fails step c.loop-units.units c.in-Some.header none)))
+
+pub loop-units-preserved : goal.loop-units-preserved
+loop-units-preserved c =
+    let step = with_unit (files_view c.args.dwarf.now).main c.args.sets.now in
+    let is = good_header _ _ c.in_ok-header.ensures.value c.in-Some.is in
+    let made = good_some _ _ c.in_ok-units.ensures.value in
+    record {
+      section = section_behind c.loop-units.headers c.next_header.new.self c.in-Some.header is c.in_ok-header.ensures.moves ∙ c.loop-units.invariant.section;
+      behind = subst (λ (n : ℕ). EndBefore c.in_ok-units.units.kept n) (sym (place_behind c.loop-units.headers c.next_header.new.self c.in-Some.header is c.in_ok-header.ensures.moves)) c.in_ok-units.ensures.behind;
+      rest = sym (headers_more (fold_maybe step c.loop-units.units) (fold_maybe step c.in_ok-units.units) (section_view c.args.dwarf.now.main.info) c.loop-units.headers c.next_header.new.self c.in-Some.header c.loop-units.invariant.section is c.in_ok-header.ensures.moves (step_on step c.loop-units.units c.in_ok-units.units c.in-Some.header made)) ∙ c.loop-units.invariant.rest;
+    }
+
+pub returns : goal.returns
+returns c =
+    let step = with_unit (files_view c.args.dwarf.now).main c.args.sets.now in
+    ap or_invalid (sym c.loop-units.invariant.rest ∙ headers_over (fold_maybe step c.loop-units.units) (section_view c.args.dwarf.now.main.info) c.loop-units.headers c.loop-units.invariant.section (no_header_left _ _ c.in_ok-header.ensures.value c.in_default.is))
