@@ -11,7 +11,7 @@ use Rattle.blz_model.specs.LebNumbers.{uleb}
 use Rattle.blz_model.specs.Part.{Good, Broken}
 use Rattle.blz_entry.proofs.Ahead.{Past, uleb_past}
 use Rattle.blz_entry.proofs.WalkSteps.{walk_made}
-use Rattle.blz_index.proofs.FunctionSteps.{ended, next_is}
+use Rattle.blz_index.proofs.MetEntries.{cut_length, ended, next_is}
 use Rattle.std.proofs.lemmas.Bool.{cases_Bool}
 use Rattle.blz_entry.specs.declared.abbreviations.AttrSpec.{AttrSpec}
 use Rattle.blz_entry.specs.declared.text.StrPlace.{StrPlace}
@@ -173,17 +173,11 @@ read_none u spec w s h = value_unread u spec w.source w.place w.depth w.pending 
 
 -- ---- a place past the entries of a unit
 
-pub length-take_le : (n : ℕ) (xs : List ℕ) → length (take n xs) ≤ n
-length-take_le zero [] = omega arith
-length-take_le zero (x ∷ xs) = omega arith
-length-take_le (suc n) [] = omega arith
-length-take_le (suc n) (x ∷ xs) = let k = length-take_le n xs in omega arith
-
 none_over : (bytes : List ℕ) (at : ℕ) (o : Read ℕ) → length bytes ≤ at → Past bytes at o → o ≡ None
 none_over bytes at None le h = refl
 none_over bytes at (Some r) le h = absurd (omega (arith, h.0, h.1))
 
-uleb_over : (bytes : List ℕ) (at : ℕ) → length bytes ≤ at → uleb bytes at ≡ None
+pub uleb_over : (bytes : List ℕ) (at : ℕ) → length bytes ≤ at → uleb bytes at ≡ None
 uleb_over bytes at le = none_over bytes at (uleb bytes at) le (uleb_past bytes at)
 
 pub visited_over : (u : UnitParts) (place : ℕ) (e w : Walk) → cond (leb u.header.entries place && leb place u.header.end) (Good (walk_from (source_in u) place)) (Broken InvalidDwarf) ≡ Good e → next_of e ≡ Some (None, w) → visited u place ≡ None
@@ -191,7 +185,7 @@ unfolding visited
 visited_over u place e w made n =
     let is : e ≡ walk_from (source_in u) place = walk_made (leb u.header.entries place && leb place u.header.end) (walk_from (source_in u) place) e made in
     let over : u.header.end ≤ place = ended (source_in u) 0 place w (sym (next_is (source_in u) (walk_from (source_in u) place) refl refl) ∙ (ap next_of (sym is) ∙ n)) in
-    let none : uleb (source_in u).section.bytes place ≡ None = uleb_over (source_in u).section.bytes place (let k = length-take_le u.header.end u.sections.info.bytes in omega arith) in
+    let none : uleb (source_in u).section.bytes place ≡ None = uleb_over (source_in u).section.bytes place (let k = cut_length u in omega arith) in
     elim (cases_Bool (leb u.header.entries place && leb place u.header.end)) [
       | inl t ↦ rw (t, none) refl
       | inr f ↦ rw f refl

@@ -11,6 +11,7 @@ pub mod ChainPath
 pub mod ChainLoop
 pub mod Lying
 pub mod Broken
+pub mod MetEntries
 pub mod FunctionSteps
 pub mod DescriptionSteps
 pub mod Rooted
@@ -22,3 +23,12 @@ pub mod LinesLying
 pub mod Appended
 pub mod KeepSteps
 pub mod TurnSteps
+pub mod Binds
+pub mod ListAdds
+pub mod Trees
+pub mod WithTrees
+pub mod CallSteps
+pub mod CallsTree
+pub mod ListEnds
+pub mod CountedLevels
+pub mod CallEntry

@@ -1,5 +1,5 @@
 -- The inlined calls of a function, over the trees of the entries below it (DWARF 5 section 3.3.8).
-use Rattle.std.specs.Prelude.{ℕ, suc, ◌+◌, ◌-◌, Bool, true, false, ◌&&◌, List, [], ◌∷◌, ◌++◌, length, map, Option, Some, None, ◌==◌, if◌then◌else◌}
+use Rattle.std.specs.Prelude.{◌≡◌, ℕ, suc, ◌+◌, ◌-◌, Bool, true, false, ◌&&◌, List, [], ◌∷◌, ◌++◌, length, map, Option, Some, None, nat_le, ◌==◌, if◌then◌else◌}
 use Rattle.blz_model.specs.Reads.{◌>>=◌}
 use Rattle.blz_entry.specs.Folds.{fold_maybe}
 use Rattle.blz_entry.specs.Forest.{Info, Head, Close, Open, Forest, Empty, Node, Grown, grown}
@@ -8,18 +8,18 @@ use Rattle.blz_entry.specs.declared.span.Span.{Span}
 use Rattle.blz_index.specs.declared.description.Description.{Description}
 use Rattle.blz_index.specs.declared.grouped.Grouped.{Grouped}
 use Rattle.blz_index.specs.declared.inlined_functions.InlinedFunction.{InlinedFunction}
-use Rattle.blz_index.specs.Chain.{TreeCall, call_range}
+use Rattle.blz_index.specs.Chain.{TreeCall, IsTree, call_range, ranges_of}
 use Rattle.blz_index.specs.Describing.{Refer, undescribed, description_step}
+use Rattle.blz_index.specs.FunctionList.{is_function}
 use Rattle.blz_index.specs.Leaves.{UnitParts, ranges_in, source_in}
 use Rattle.blz_index.specs.Owned.{Owned}
 
 -- DW_TAG_inlined_subroutine
-abbrev pub is_call : Info → Bool
-is_call e = e.tag == 0x1d
+abbrev pub is_call_tag : ℕ → Bool
+is_call_tag tag = tag == 0x1d
 
--- DW_TAG_subprogram
-abbrev pub is_function : Info → Bool
-is_function e = e.tag == 0x2e
+abbrev pub is_call : Info → Bool
+is_call e = is_call_tag e.tag
 
 -- the entry of a call, how many calls stand above it, and the number of the nearest of them
 pub record CallEntry : Type 0 where
@@ -62,9 +62,9 @@ below_head head end (Some (Close next)) = None
 below_head head end (Some (Open true e next)) = children head end next
 below_head head end (Some (Open false e next)) = Some (no_trees next)
 
--- the trees below the entry at a place, which has to be one
+-- the trees below the entry at a place, which has to be one of the unit
 unfoldable pub trees_below : UnitParts → ℕ → Option Grown
-trees_below u place = below_head (head_at (source_in u)) u.header.end (head_at (source_in u) place)
+trees_below u place = if nat_le u.header.entries place && nat_le place u.header.end then below_head (head_at (source_in u)) u.header.end (head_at (source_in u) place) else None
 
 -- trees have to be closed: the zero that ends them is there, and so are those of all entries in them
 abbrev pub closed_trees : Grown → Option Forest
@@ -96,12 +96,16 @@ all_calls refer u (c ∷ rest) = do
   calls ← all_calls refer u rest
   Some (call ∷ calls)
 
+-- the calls of trees, below a function
+abbrev pub calls_below : Refer → UnitParts → Grown → Option (List RangedCall)
+calls_below refer u g = closed_trees g >>= λ trees. all_calls refer u (calls_in 0 None 0 trees)
+
 -- the calls of the function at a place
 unfoldable pub calls_of : Refer → UnitParts → ℕ → Option (List RangedCall)
-calls_of refer u place = do
-  g ← trees_below u place
-  trees ← closed_trees g
-  all_calls refer u (calls_in 0 None 0 trees)
+calls_of refer u place = trees_below u place >>= calls_below refer u
+
+abbrev pub tree_call : RangedCall → TreeCall
+tree_call c = record { depth = c.depth; parent = c.parent; ranges = c.ranges }
 
 -- ---- as lists: the calls, and their ranges in groups by depth, each with the number of its call
 
@@ -119,9 +123,20 @@ abbrev pub calls_with : CallLists → List RangedCall → CallLists
 calls_with l [] = l
 calls_with l (c ∷ rest) = calls_with (with_call l c.call c.depth c.ranges) rest
 
-abbrev pub tree_call : RangedCall → TreeCall
-tree_call c = record { depth = c.depth; parent = c.parent; ranges = c.ranges }
+-- the lists have the calls of a tree, and its ranges
+pub record IsTreeOf (lists : CallLists) (tree : List TreeCall) : Type 0 where
+  pub ranges : lists.ranges ≡ ranges_of 0 tree
+  pub count : length lists.calls ≡ length tree
+  pub is_tree : IsTree tree
 
+abbrev pub lists_below : Refer → UnitParts → Grown → Option CallLists
+lists_below refer u g = calls_below refer u g >>= λ calls. Some (calls_with no_calls calls)
+
+-- the lists of the calls among the entries from a place on, up to the zero that closes their function
+abbrev pub calls_from : Refer → UnitParts → ℕ → Option CallLists
+calls_from refer u at = children (head_at (source_in u)) u.header.end at >>= lists_below refer u
+
+-- the lists of the calls of the function at a place
 abbrev pub unit_calls : Refer → UnitParts → ℕ → Option CallLists
 unit_calls refer u place = calls_of refer u place >>= λ calls. Some (calls_with no_calls calls)
 

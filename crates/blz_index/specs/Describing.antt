@@ -1,9 +1,11 @@
 -- What an entry is called and covers, and where it is called if it is an inlined call (DWARF 5 section 3.3.8.2).
-use Rattle.std.specs.Prelude.{ℕ, ◌^◌, ◌%◌, Bool, ◌||◌, List, Option, Some, None, nat_lt, ◌==◌, if◌then◌else◌}
+use Rattle.std.specs.Prelude.{ℕ, ◌^◌, ◌%◌, Bool, ◌||◌, ◌&&◌, not, List, [], Option, Some, None, nat_lt, ◌==◌, if◌then◌else◌}
 use Rattle.blz_model.specs.Reads.{◌>>=◌}
+use Rattle.blz_entry.specs.Abbrevs.{Abbrev, of_code}
 use Rattle.blz_entry.specs.Attributes.{attributes}
 use Rattle.blz_entry.specs.Folds.{fold_maybe}
 use Rattle.blz_entry.specs.Forms.{udata}
+use Rattle.blz_entry.specs.Walks.{Walk, skipped_of}
 use Rattle.blz_entry.specs.declared.abbreviations.AttrSpec.{AttrSpec}
 use Rattle.blz_entry.specs.declared.ranges.RangeAttributes.{RangeAttributes}
 use Rattle.blz_entry.specs.declared.text.StrPlace.{StrPlace}
@@ -52,3 +54,28 @@ described refer u d specs at = do
   values ← attributes specs (source_in u).encoding (source_in u).base (source_in u).section at
   behind ← fold_maybe (description_step refer u) d values.0
   Some (behind, values.1)
+
+-- ---- an entry that a walk has met
+
+-- the attributes that the walk has not read there
+abbrev pub specs_by : Option Abbrev → List AttrSpec
+specs_by None = []
+specs_by (Some a) = a.specs
+
+abbrev pub specs_of : UnitParts → ℕ → List AttrSpec
+specs_of u code = if code == 0 then [] else specs_by (of_code code u.table)
+
+abbrev pub undescribed_to : ℕ → Option (Option Description × ℕ)
+undescribed_to place = Some (None, place)
+
+abbrev pub described_to : ℕ → Description → Option (Option Description × ℕ)
+described_to place d = Some (Some d, place)
+
+abbrev pub described_by : Refer → UnitParts → ℕ → Option Abbrev → Option (Option Description × ℕ)
+described_by refer u at None = None
+described_by refer u at (Some a) = described refer u undescribed a.specs at >>= λ d. described_to d.1 d.0
+
+-- The description of an entry where it is wanted, and the place behind its attributes. A zero has none.
+unfoldable pub described_if : Refer → UnitParts → Bool → ℕ → Walk → Option (Option Description × ℕ)
+described_if refer u wanted code w =
+    if wanted && not (code == 0) then described_by refer u w.place (of_code code u.table) else (skipped_of w >>= λ r. undescribed_to r.1.place)

@@ -1,19 +1,17 @@
 -- The functions of a unit (DWARF 5 section 3.3.1).
-use Rattle.std.specs.Prelude.{ℕ, Bool, ◌||◌, not, List, [], ◌∷◌, ◌++◌, length, map, Option, Some, None, ◌==◌, if◌then◌else◌}
+use Rattle.std.specs.Prelude.{ℕ, Bool, List, [], ◌∷◌, ◌++◌, length, map, Option, Some, None, ◌==◌, if◌then◌else◌}
 use Rattle.blz_model.specs.Reads.{◌>>=◌}
 use Rattle.blz_entry.specs.Folds.{fold_maybe}
 use Rattle.blz_entry.specs.Forest.{Info, flat}
 use Rattle.blz_entry.specs.RangeLists.{bounds_of}
-use Rattle.blz_entry.specs.Abbrevs.{Abbrev, of_code}
-use Rattle.blz_entry.specs.Walks.{Walk, head_at, skipped_of}
-use Rattle.blz_entry.specs.declared.abbreviations.AttrSpec.{AttrSpec}
+use Rattle.blz_entry.specs.Walks.{Walk, head_at}
 use Rattle.blz_entry.specs.declared.entries.Entry.{Entry}
 use Rattle.blz_entry.specs.declared.span.Span.{Span}
 use Rattle.blz_index.specs.declared.functions.Function.{Function}
 use Rattle.blz_index.specs.declared.description.Description.{Description}
 use Rattle.blz_index.specs.Owned.{Owned, own_all}
 use Rattle.blz_index.specs.Leaves.{UnitParts, ranges_in, source_in}
-use Rattle.blz_index.specs.Describing.{Refer, undescribed, description_step, described}
+use Rattle.blz_index.specs.Describing.{Refer, undescribed, description_step, described_if}
 
 -- a function with its ranges
 pub record RangedFunction : Type 0 where
@@ -30,8 +28,11 @@ function_of refer u e = do
   Some (record { function = function_by e.place d; ranges = ranges })
 
 -- DW_TAG_subprogram
+abbrev pub is_function_tag : ℕ → Bool
+is_function_tag tag = tag == 0x2e
+
 abbrev pub is_function : Info → Bool
-is_function e = e.tag == 0x2e
+is_function e = is_function_tag e.tag
 
 -- the functions among entries; all of them are read
 unfoldable pub functions_among : Refer → UnitParts → List Info → Option (List RangedFunction)
@@ -93,24 +94,14 @@ unit_lists refer u = lists_from refer u no_lists 0 u.header.entries
 
 -- ---- one entry of a walk
 
--- an entry that is no function, or the zero that closes one
-abbrev pub is_other : Entry → Bool
-is_other e = (e.code == 0) || not (e.tag == 0x2e)
+-- the lists with the function that an entry is, if it is one
+abbrev pub function_added : UnitParts → Lists → ℕ → Option Description → Option Lists
+function_added u l place None = Some l
+function_added u l place (Some d) = lists_added u l place d
 
--- the lists with a function whose description is next, and the place behind it
-abbrev pub function_met : Refer → UnitParts → Lists → ℕ → ℕ → Option Abbrev → Option (Lists × ℕ)
-function_met refer u l place at None = None
-function_met refer u l place at (Some a) = described refer u undescribed a.specs at >>= λ d. lists_added u l place d.0 >>= λ m. Some (m, d.1)
+abbrev pub function_behind : UnitParts → Lists → ℕ → Option Description × ℕ → Option (Lists × ℕ)
+function_behind u l place p = function_added u l place p.0 >>= λ m. Some (m, p.1)
 
 -- the lists with an entry that a walk has met, and the place behind it
 unfoldable pub entry_met : Refer → UnitParts → Lists → Entry → Walk → Option (Lists × ℕ)
-entry_met refer u l e w =
-    if is_other e then (skipped_of w >>= λ r. Some (l, r.1.place)) else function_met refer u l e.place w.place (of_code e.code u.table)
-
--- the attributes that a walk has not read where it has met an entry
-abbrev pub specs_by : Option Abbrev → List AttrSpec
-specs_by None = []
-specs_by (Some a) = a.specs
-
-abbrev pub specs_of : UnitParts → ℕ → List AttrSpec
-specs_of u code = if code == 0 then [] else specs_by (of_code code u.table)
+entry_met refer u l e w = described_if refer u (is_function_tag e.tag) e.code w >>= function_behind u l e.place

@@ -32,3 +32,5 @@ pub mod Linking
 pub mod KeptAnswers
 pub mod Putting
 pub mod Cold
+pub mod CallWalk
+pub mod ReadLists

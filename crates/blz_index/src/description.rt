@@ -2,11 +2,12 @@
 ghost use Rattle.std.specs.Prelude.{◌≡◌, ◌≤◌, [], Option, None, Some, IfOk, if◌then◌else◌};
 ghost use Rattle.blz_model.specs.Part.{Gives, Exactly};
 ghost use Rattle.blz_entry.specs.Marks.{or_invalid};
-ghost use Rattle.blz_index.specs.Describing.{low_bits, kept_file, with_call_site, no_ranges, undescribed, description_step, described};
+ghost use Rattle.blz_index.specs.Describing.{low_bits, kept_file, with_call_site, no_ranges, undescribed, description_step, described, described_if, specs_of};
 ghost use Rattle.blz_index.specs.Leaves.{source_in};
 ghost use Rattle.blz_index.specs.Naming.{referred, name_step};
 ghost use Rattle.blz_index.specs.Opened.{open_view};
 
+use crate::fault::invalid;
 use crate::links::Links;
 use crate::open_unit::OpenUnit;
 use crate::visit::{is_linkage_name, is_name, is_reference, or_else};
@@ -163,5 +164,44 @@ impl Description {
             };
         }
         Ok(description)
+    }
+
+    /// The description of the entry that was met last, where it is wanted; a zero has none. Else its attributes are passed
+    /// over.
+    #[tactic(auto, unfolding(crate::specs::Describing::described_if, blz_entry::specs::Walks::skipped_of))]
+    pub fn of_entry<F: Links>(
+        unit: &OpenUnit<'_, '_>,
+        links: &mut F,
+        entries: &mut Entries<'_, '_>,
+        code: u64,
+        wanted: bool,
+    ) -> Result<Option<Description>>
+        requires source { entries.old.source ≡ source_in (open_view unit.now) }
+        requires met { entries.old.pending ≡ specs_of (open_view unit.now) code }
+        ensures value { Gives (λ d. (d, entries.new.place)) result (or_invalid (described_if (F.refer links.old) (open_view unit.now) wanted code entries.old)) }
+        ensures pending { IfOk result (λ _. entries.new.pending ≡ []) }
+        ensures source { entries.new.source ≡ entries.old.source }
+        ensures depth { entries.new.depth ≡ entries.old.depth }
+        ensures ahead { entries.old.place ≤ entries.new.place }
+        ensures same { F.refer links.new ≡ F.refer links.old }
+    {
+        if !wanted || code == 0 {
+            return match entries.skip_attributes() {
+                Ok(()) => Ok(None),
+                Err(fault) => Err(fault),
+            };
+        }
+        match unit.abbreviations.get(code) {
+            Some(abbreviation) => match Description::read(
+                unit,
+                links,
+                entries,
+                abbreviation.attributes(),
+            ) {
+                Ok(description) => Ok(Some(description)),
+                Err(fault) => Err(fault),
+            },
+            None => Err(invalid("an entry has a code that no abbreviation has")),
+        }
     }
 }
