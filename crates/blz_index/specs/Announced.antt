@@ -5,6 +5,7 @@ use Rattle.blz_entry.specs.declared.span.Span.{Span}
 use Rattle.blz_index.specs.Owned.{Owned, items_of}
 use Rattle.blz_index.specs.Ranges.{OwnedRanges}
 use Rattle.blz_index.specs.Turns.{covering}
+use Rattle.blz_index.specs.UnitTables.{UnitTable, announcing}
 use Rattle.blz_index.specs.declared.units_at.Turn.{Turn}
 use Rattle.blz_index.specs.declared.units_at.Turn.TheVariants.{First, After, Over}
 
@@ -14,6 +15,10 @@ pub record Announcing : Type 0 where
   pub address : ℕ
   pub left : List ℕ
   pub fresh : Bool
+
+-- the units that announce an address, before the first is asked for
+abbrev pub announced_at : UnitTable → Bool → ℕ → Announcing
+announced_at t ordered a = record { announced = record { ranges = t.announced; ordered = ordered }; address = a; left = announcing t a; fresh = true }
 
 -- the places behind one
 abbrev pub behind : ℕ → List ℕ → List ℕ

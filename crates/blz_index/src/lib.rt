@@ -33,6 +33,7 @@ mod sites;
 #[cfg(test)]
 mod tests;
 mod unit_caches;
+mod unit_finds;
 mod unit_list;
 mod unit_looks;
 mod unit_table;
@@ -46,3 +47,4 @@ pub use inlined_functions::{InlinedFunction, InlinedFunctions};
 pub use range_index::RangeIndex;
 pub use sites::{InlinedSite, InlinedSites};
 pub use units::Units;
+pub use units_at::UnitsAt;

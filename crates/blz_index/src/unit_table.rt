@@ -1,14 +1,15 @@
 //! The units of a file, and the addresses that they announce.
-ghost use Rattle.std.specs.Prelude.{◌≡◌, true, ◌++◌, List, map, IfOk, OnOk, Option, Some, option_map};
+ghost use Rattle.std.specs.Prelude.{◌≡◌, ◌++◌, List, map, IfOk, OnOk, Option, Some, option_map};
 ghost use Rattle.blz_model.specs.Part.{Gives, Exactly};
 ghost use Rattle.blz_entry.specs.Contents.{section_view};
 ghost use Rattle.blz_entry.specs.Marks.{or_invalid};
+ghost use Rattle.blz_index.specs.Announced.{announced_at};
 ghost use Rattle.blz_index.specs.BuiltUnits.{files_view, IsReadable};
 ghost use Rattle.blz_index.specs.Keyed.{IsAccepted, begin_key};
 ghost use Rattle.blz_index.specs.Owned.{items_of};
 ghost use Rattle.blz_index.specs.References.{unit_at};
 ghost use Rattle.blz_index.specs.TableViews.{table_view};
-ghost use Rattle.blz_index.specs.UnitTables.{announcing, sup_units, units_in, units_of};
+ghost use Rattle.blz_index.specs.UnitTables.{sup_units, units_in, units_of};
 ghost use Rattle.blz_split.specs.FileSections.{sections_view};
 
 use crate::address_sets::AddressSets;
@@ -107,7 +108,7 @@ impl UnitTable {
 
     /// The units that announce an address.
     pub fn find_units(&self, probe: u64) -> UnitsAt<'_>
-        ensures { result ≡ record { announced = self.now.announced; address = probe; left = announcing (table_view self.now) probe; fresh = true } }
+        ensures { result ≡ announced_at (table_view self.now) self.now.announced.ordered probe }
     {
         UnitsAt::new(&self.announced, probe)
     }

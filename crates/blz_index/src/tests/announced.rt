@@ -110,3 +110,29 @@ fn a_unit_that_cannot_be_built_is_not_kept(rt: HostRuntime) -> Result<(), Fail> 
     }
     Ok(())
 }
+
+#[test]
+fn an_offset_leads_into_the_unit_around_it(rt: HostRuntime) -> Result<(), Fail> {
+    let alloc = rt.alloc();
+    let none = RelocationMap::new(alloc);
+    let dwarf = file(ARANGES, &none);
+    let Ok(table) = UnitTable::read(alloc, &mut AsTheyStand, &dwarf) else {
+        assert!(rt; false);
+        return Ok(());
+    };
+    // the entries of the units stand at 11 and at 23
+    for (offset, number, distance) in [(11, 0, 11), (23, 1, 11)] {
+        match table.find_unit(offset) {
+            Ok((unit, place)) => assert!(rt; unit == number && place == distance),
+            Err(_) => assert!(rt; false),
+        }
+    }
+    // the start of a unit, and the end of the last
+    for offset in [12, 24] {
+        match table.find_unit(offset) {
+            Ok(_) => assert!(rt; false),
+            Err(fault) => assert!(rt; fault.kind() == ErrorKind::InvalidDwarf),
+        }
+    }
+    Ok(())
+}

@@ -1,0 +1,36 @@
+//! Units by the offsets of references, and by addresses.
+ghost use Rattle.std.specs.Prelude.{◌≡◌, Option};
+ghost use Rattle.blz_model.specs.Part.{Exactly};
+ghost use Rattle.blz_entry.specs.Marks.{or_invalid};
+ghost use Rattle.blz_index.specs.Announced.{announced_at};
+ghost use Rattle.blz_index.specs.References.{unit_at};
+ghost use Rattle.blz_index.specs.UnitsWarm.{announced_ordered, units_table};
+
+use crate::units::Units;
+use crate::units_at::UnitsAt;
+use blz_error::Result;
+
+impl Units {
+    /// The number of the unit that an offset of `.debug_info` leads into, and the offset's distance from its start.
+    /// InvalidDwarf exactly where no unit begins below the offset, one begins at it, or it does not lie among the entries
+    /// of the last that begins below it.
+    pub fn find_unit(&self, offset: u64) -> Result<(usize, usize)>
+        ensures { Exactly (λ p. p) result (or_invalid (unit_at (units_table self.now).kept offset)) }
+    {
+        self.table.find_unit(offset)
+    }
+
+    /// The same among the units of the supplementary file, but for its type units.
+    pub fn find_sup_unit(&self, offset: u64) -> Result<(usize, usize)>
+        ensures { Exactly (λ p. p) result (or_invalid (unit_at (units_table self.now).sups offset)) }
+    {
+        self.table.find_sup_unit(offset)
+    }
+
+    /// The units that announce an address: the greatest begin first, then the earlier place.
+    pub fn find_units(&self, probe: u64) -> UnitsAt<'_>
+        ensures { result ≡ announced_at (units_table self.now) (announced_ordered self.now) probe }
+    {
+        self.table.find_units(probe)
+    }
+}
