@@ -63,7 +63,7 @@ pub struct References<'u, 's, 'b> {
 
 impl<'u, 's, 'b> Model for References<'u, 's, 'b> {
     ghost use Rattle.blz_index.specs.declared.references.Standing.TheVariants.{Numbered};
-    ghost use Rattle.blz_index.specs.Following.{Linked};
+ghost use Rattle.blz_index.specs.Following.{Linked};
     ghost use Rattle.blz_index.specs.Linking.{linked_view, AreLinked};
 
     ghost Value = { Linked };
@@ -246,7 +246,7 @@ impl<'u, 's, 'b> References<'u, 's, 'b> {
 
 impl<'u, 's, 'b> Links for References<'u, 's, 'b> {
     ghost use Rattle.blz_index.specs.declared.references.Standing.TheVariants.{Numbered};
-    ghost use Rattle.blz_index.specs.Following.{refer_in};
+ghost use Rattle.blz_index.specs.Following.{refer_in};
 
     ghost refer = { refer_in };
 
