@@ -1,17 +1,17 @@
 -- The entry of a function, whose calls are read.
-use Rattle.std.proofs.Common.{◌≡◌, ℕ, ◌-◌, ◌<◌, ◌≤◌, Bool, true, false, eqb, cond, leb, List, [], length, Option, Some, None, refl, sym, ap, ◌∙◌, arith, inl, inr, ◌⊎◌}
+use Rattle.std.proofs.Common.{◌≡◌, ℕ, ◌≤◌, Bool, true, false, eqb, cond, leb, List, [], Option, Some, None, refl, sym, ap, ◌∙◌, arith, inl, inr, ◌⊎◌}
 use Rattle.std.specs.Prelude.{option_map, ◌&&◌, not}
-use Rattle.std.proofs.lemmas.Bool.{cases_Bool, eq-eqb, both_ways}
+use Rattle.std.proofs.lemmas.Bool.{eq-eqb, both_ways}
 use Rattle.blz_error.specs.declared.kind.ErrorKind.{ErrorKind}
 use Rattle.blz_error.specs.declared.kind.ErrorKind.TheVariants.{InvalidDwarf}
 use Rattle.blz_model.specs.Part.{Part, Good, Broken}
 use Rattle.blz_model.specs.Reads.{Read, ◌>>=◌}
-use Rattle.blz_entry.specs.Attributes.{attributes, passed}
-use Rattle.blz_entry.specs.Forest.{Info, Head, Close, Open, Grown}
+use Rattle.blz_entry.specs.Attributes.{passed}
+use Rattle.blz_entry.specs.Forest.{Info, Head, Close, Open}
 use Rattle.blz_entry.specs.Walks.{Source, Walk, head_at, walk_from, next_of, skipped_of}
 use Rattle.blz_entry.specs.declared.entries.Entry.{Entry}
 use Rattle.blz_entry.specs.declared.value.AttrValue.{AttrValue}
-use Rattle.blz_index.specs.CallTree.{CallLists, all_closed, calls_from, all_calls, calls_in, below_head, lists_below, no_calls, trees_below, unit_calls}
+use Rattle.blz_index.specs.CallTree.{all_closed, calls_from, all_calls, calls_in, below_head, lists_below, no_calls, trees_below, unit_calls}
 use Rattle.blz_index.specs.Describing.{Refer}
 use Rattle.blz_index.specs.Leaves.{UnitParts, source_in}
 use Rattle.blz_index.proofs.CallSteps.{calls_at}

@@ -1,26 +1,26 @@
 -- One entry more below a function, and the calls that were met.
-use Rattle.std.proofs.Common.{◌≡◌, ℕ, zero, suc, ◌+◌, ◌-◌, ◌<◌, ◌≤◌, Bool, true, false, eqb, cond, List, [], ◌∷◌, ◌++◌, length, take, Option, Some, None, refl, sym, ap, subst, ◌∙◌, arith, inl, inr, ◌⊎◌, length-append}
+use Rattle.std.proofs.Common.{◌≡◌, ℕ, ◌-◌, ◌<◌, ◌≤◌, Bool, true, false, eqb, cond, List, [], ◌∷◌, ◌++◌, length, take, Option, Some, None, refl, sym, ap, subst, ◌∙◌, arith, inl, inr, length-append}
 use Rattle.std.specs.Prelude.{is_some, nat_lt}
 use Rattle.std.specs.List.{slice_get}
-use Rattle.std.proofs.lemmas.Bool.{cases_Bool, cases_lt, ltb-true, ltb-false, and_from, both_ways, eq-eqb}
+use Rattle.std.proofs.lemmas.Bool.{ltb-false, eq-eqb}
 use Rattle.blz_model.specs.Reads.{Read, ◌>>=◌}
-use Rattle.blz_entry.specs.Forest.{Info, Head, Close, Open, Forest, Empty, Node, Grown, node, leaf, grown_step, Leads}
+use Rattle.blz_entry.specs.Forest.{Info, Head, Close, Open, Forest, Empty, Node, Grown, leaf, grown_step, Leads}
 use Rattle.blz_entry.specs.Walks.{Walk, head_at, next_of}
 use Rattle.blz_entry.specs.declared.entries.Entry.{Entry}
 use Rattle.blz_entry.specs.declared.value.AttrValue.{AttrValue}
 use Rattle.blz_entry.proofs.Preorder.{IfEnds}
 use Rattle.blz_index.specs.declared.levels.Above.{Above}
 use Rattle.blz_index.specs.declared.levels.Above.TheVariants.{Calls}
-use Rattle.blz_index.specs.CallTree.{CallLists, RangedCall, all_closed, children, closed_trees, calls_in, all_calls, calls_below, calls_of, trees_below, calls_with, calls_from, no_calls, lists_below, unit_calls}
-use Rattle.blz_index.specs.CallWalk.{below_tag, innermost, closed_level, levels_behind, call_depth, call_if, call_behind, call_met}
+use Rattle.blz_index.specs.CallTree.{CallLists, RangedCall, all_closed, children, calls_below, calls_of, trees_below, calls_with, calls_from, no_calls, lists_below, unit_calls}
+use Rattle.blz_index.specs.CallWalk.{below_tag, innermost, closed_level, levels_behind, call_depth, call_behind, call_met}
 use Rattle.blz_index.specs.declared.description.Description.{Description}
 use Rattle.blz_index.specs.Describing.{Refer, described_if}
 use Rattle.blz_index.specs.Leaves.{UnitParts, source_in}
 use Rattle.blz_index.proofs.Binds.{bind_same, bind_bind, bind_fails, bind_some}
 use Rattle.blz_index.proofs.ListEnds.{at_end, before_end}
-use Rattle.blz_index.proofs.MetEntries.{MetZero, MetEntry, info_of, values_of, head_zero, head_entry, On, leads_on, description_if, described_entry, described_zero, met_next, Stuck, stuck_next, end_next}
+use Rattle.blz_index.proofs.MetEntries.{MetZero, MetEntry, info_of, values_of, head_zero, head_entry, leads_on, description_if, described_entry, described_zero, met_next, stuck_next, end_next}
 use Rattle.blz_index.proofs.Trees.{IfOpen, AreClosed, trees_from, children_on, children_end, children_ends, closed_children, then_node}
-use Rattle.blz_index.proofs.WithTrees.{entry_adds, told, met_adds, with_trees, added, trees_are}
+use Rattle.blz_index.proofs.WithTrees.{entry_adds, told, met_adds, with_trees, trees_are}
 
 abbrev Place : Type 0
 Place = CallLists × ℕ

@@ -1,5 +1,5 @@
 -- The calls of trees are a tree of calls.
-use Rattle.std.proofs.Common.{◌≡◌, ℕ, zero, suc, ◌+◌, List, [], ◌∷◌, ◌++◌, map, length, Option, Some, None, refl, sym, ap, subst, append_assoc, length-append, arith, inl, inr, ◌⊎◌, ◌∙◌}
+use Rattle.std.proofs.Common.{◌≡◌, ℕ, suc, ◌+◌, List, [], ◌∷◌, ◌++◌, map, length, Option, Some, None, refl, sym, ap, subst, append_assoc, length-append, arith, inl, inr, ◌∙◌}
 use Rattle.std.specs.List.{slice_get}
 use Rattle.std.proofs.lemmas.Bool.{cases_Bool}
 use Rattle.std.proofs.lemmas.List.{append-nil, length-map}
@@ -9,7 +9,6 @@ use Rattle.blz_entry.specs.Folds.{fold_maybe}
 use Rattle.blz_entry.specs.Forest.{Info, Forest, Empty, Node, Grown}
 use Rattle.blz_entry.specs.declared.span.Span.{Span}
 use Rattle.blz_index.specs.declared.description.Description.{Description}
-use Rattle.blz_index.specs.declared.inlined_functions.InlinedFunction.{InlinedFunction}
 use Rattle.blz_index.specs.declared.grouped.Grouped.{Grouped}
 use Rattle.blz_index.specs.CallTree.{CallEntry, CallLists, IsTreeOf, RangedCall, is_call, calls_in, call_by, call_of, all_calls, calls_below, calls_of, calls_with, closed_trees, inlined, no_calls, tree_call, trees_below, with_call}
 use Rattle.blz_index.specs.Chain.{TreeCall, HasParent, IsTree, call_range, ranges_of}

@@ -1,5 +1,5 @@
 -- The steps of a loop over the attributes of an entry.
-use Rattle.std.proofs.Common.{◌≡◌, ℕ, zero, suc, cond, leb, take, inl, inr, ◌+◌, ◌<◌, ◌≤◌, List, [], ◌∷◌, length, drop, get_or, Option, Some, None, refl, sym, ap, ◌∙◌, arith, drop-cons}
+use Rattle.std.proofs.Common.{◌≡◌, ℕ, suc, cond, leb, inl, inr, ◌+◌, ◌<◌, ◌≤◌, List, [], ◌∷◌, length, drop, get_or, Option, Some, None, refl, sym, ap, ◌∙◌, arith, drop-cons}
 use Rattle.std.specs.Prelude.{slice_get, pos, ◌&&◌}
 use Rattle.std.proofs.Math.ListN.{drop_of_length-le}
 use Rattle.blz_model.specs.Reads.{Read, ◌>>=◌}
@@ -17,7 +17,6 @@ use Rattle.blz_entry.specs.declared.abbreviations.AttrSpec.{AttrSpec}
 use Rattle.blz_entry.specs.declared.text.StrPlace.{StrPlace}
 use Rattle.blz_entry.specs.declared.value.AttrValue.{AttrValue}
 use Rattle.blz_index.specs.declared.description.Description.{Description}
-use Rattle.blz_index.specs.declared.visit.Visited.{Visited}
 use Rattle.blz_index.specs.declared.visit.Visited.TheVariants.{Named}
 use Rattle.blz_index.specs.Describing.{Refer, description_step, described}
 use Rattle.blz_index.specs.Leaves.{UnitParts, source_in}

@@ -1,7 +1,6 @@
 -- One entry more of a unit, and the functions that were met.
-use Rattle.std.proofs.Common.{◌≡◌, ℕ, ◌+◌, ◌-◌, ◌<◌, ◌≤◌, Bool, true, false, eqb, cond, List, [], ◌∷◌, length, map, Option, Some, None, refl, sym, ap, ◌∙◌, arith, inl, inr, ◌⊎◌}
+use Rattle.std.proofs.Common.{◌≡◌, ℕ, ◌+◌, ◌-◌, ◌<◌, Bool, true, false, cond, List, [], ◌∷◌, Option, Some, None, refl, sym, ap, ◌∙◌, arith, inl, inr}
 use Rattle.std.specs.Prelude.{option_map}
-use Rattle.std.proofs.lemmas.Bool.{cases_Bool}
 use Rattle.blz_model.specs.Reads.{Read, ◌>>=◌}
 use Rattle.blz_entry.specs.Abbrevs.{Abbrev}
 use Rattle.blz_entry.specs.declared.span.Span.{Span}
@@ -9,13 +8,13 @@ use Rattle.blz_entry.specs.declared.value.AttrValue.{AttrValue}
 use Rattle.blz_entry.specs.declared.entries.Entry.{Entry}
 use Rattle.blz_entry.specs.Forest.{Info, Head, Open, flat_step}
 use Rattle.blz_entry.specs.Folds.{fold_maybe}
-use Rattle.blz_entry.specs.Walks.{Source, Walk, head_at, next_of}
+use Rattle.blz_entry.specs.Walks.{Walk, head_at, next_of}
 use Rattle.blz_entry.proofs.Preorder.{flat_on, flat_end}
 use Rattle.blz_index.specs.declared.description.Description.{Description}
-use Rattle.blz_index.specs.Describing.{Refer, undescribed, description_step, undescribed_to, described_to}
-use Rattle.blz_index.specs.FunctionList.{RangedFunction, function_by, function_of, is_function, is_function_tag, functions_among, entries_from, infos, Lists, with_ranges, lists_with, lists_added, lists_from, function_added, function_behind, entry_met}
+use Rattle.blz_index.specs.Describing.{Refer, undescribed, description_step, described_to}
+use Rattle.blz_index.specs.FunctionList.{RangedFunction, function_by, function_of, is_function, is_function_tag, functions_among, entries_from, infos, Lists, with_ranges, lists_with, lists_added, lists_from, function_behind, entry_met}
 use Rattle.blz_index.specs.Leaves.{UnitParts, ranges_in, source_in}
-use Rattle.blz_index.proofs.MetEntries.{MetZero, MetEntry, info_of, values_of, head_zero, head_entry, On, leads_on, description_if, described_entry, described_zero, met_next, Stuck, stuck_next, end_next}
+use Rattle.blz_index.proofs.MetEntries.{MetZero, MetEntry, info_of, values_of, head_zero, head_entry, On, leads_on, description_if, described_entry, described_zero, met_next, stuck_next, end_next}
 
 abbrev then_lists : Refer → UnitParts → Lists → List (ℕ × Info) → Option Lists
 then_lists refer u l es = functions_among refer u (infos es) >>= λ (fs : List RangedFunction). Some (lists_with l fs)

@@ -1,5 +1,5 @@
 -- One function more in the lists of a unit, or one call more in those of a function.
-use Rattle.std.proofs.Common.{◌≡◌, ℕ, ◌+◌, ◌<◌, ◌≤◌, Bool, true, false, ltb, List, [], ◌∷◌, ◌++◌, length, map, Option, Some, None, refl, sym, ap, ◌∙◌, arith}
+use Rattle.std.proofs.Common.{◌≡◌, ℕ, Bool, true, false, List, [], ◌∷◌, ◌++◌, length, map, Option, Some, None, refl, sym, ap, ◌∙◌, arith}
 use Rattle.std.specs.Prelude.{nat_lt}
 use Rattle.std.proofs.lemmas.Bool.{ltb-true, ltb-false}
 use Rattle.std.proofs.lemmas.List.{append-nil}
@@ -16,7 +16,7 @@ use Rattle.blz_index.specs.Groups.{grouped}
 use Rattle.blz_index.specs.FunctionList.{Lists, function_by, with_ranges, lists_added}
 use Rattle.blz_index.specs.Leaves.{UnitParts, ranges_in}
 use Rattle.blz_index.specs.Owned.{Owned, owned, own_all, filled_up}
-use Rattle.blz_index.proofs.OwnedItems.{owned_more, length_filled}
+use Rattle.blz_index.proofs.OwnedItems.{owned_more}
 
 -- what a call that appends ranges tells
 pub record Appended (o : Option (List Span)) (old new : List Span) (some : Bool) : Type 0 where

@@ -1,11 +1,11 @@
 -- What is read from sections does not depend on where they lie in memory.
-use Rattle.std.proofs.Common.{◌≡◌, ℕ, zero, suc, ◌+◌, Bool, true, false, List, [], ◌++◌, Option, Some, None, refl, sym, ap, ◌∙◌}
+use Rattle.std.proofs.Common.{◌≡◌, ℕ, zero, suc, ◌+◌, Bool, true, false, List, [], ◌++◌, Option, Some, None, refl, ap}
 use Rattle.std.specs.Option.{option_to_list}
 use Rattle.std.specs.Prelude.{if◌then◌else◌, ◌==◌}
-use Rattle.blz_model.specs.Reads.{Read, ◌>>=◌}
+use Rattle.blz_model.specs.Reads.{◌>>=◌}
 use Rattle.blz_entry.specs.AddressIndexes.{address_of, value_address}
-use Rattle.blz_entry.specs.RangeLists.{range_offset, range_step, range_entry_at, coded_entry_at, coded_entry, base_of_index, both_by_index, begin_by_index, is_end, base_behind, spelled, list_length, spans_in, spans_from, spans_at, ranges_by, ranges_of}
-use Rattle.blz_entry.specs.StringPlaces.{string_of, indexed_string, strings_part, line_str_part, sup_string}
+use Rattle.blz_entry.specs.RangeLists.{range_offset, range_step, range_entry_at, coded_entry_at, coded_entry, base_of_index, both_by_index, begin_by_index, is_end, base_behind, spelled, list_length, spans_in, spans_from, ranges_by, ranges_of}
+use Rattle.blz_entry.specs.StringPlaces.{string_of, indexed_string, sup_string}
 use Rattle.blz_entry.specs.declared.ranges.RangeAttributes.{RangeAttributes}
 use Rattle.blz_entry.specs.declared.root.UnitRoot.{UnitRoot}
 use Rattle.blz_entry.specs.declared.section.Section.{Section}
@@ -14,7 +14,7 @@ use Rattle.blz_entry.specs.declared.span.Span.{Span}
 use Rattle.blz_entry.specs.declared.text.StrPlace.{StrPlace}
 use Rattle.blz_entry.specs.declared.units.UnitHeader.{UnitHeader}
 use Rattle.blz_entry.specs.declared.value.AttrValue.{AttrValue}
-use Rattle.blz_entry.specs.declared.value.AttrValue.TheVariants.{Addr, AddrIndex, Const, Signed, Text, StrRef, LineStrRef, StrIndex, SupStr, UnitRef, InfoRef, SupRef, SecOffset, RangeIndex, Other}
+use Rattle.blz_entry.specs.declared.value.AttrValue.TheVariants.{SupStr}
 use Rattle.blz_split.specs.FileSections.{sections_view}
 use Rattle.blz_index.specs.Leaves.{lying}
 

@@ -1,7 +1,7 @@
 -- An entry that a walk has met: what stands at its place, and its description.
 use Rattle.std.proofs.Common.{◌≡◌, ℕ, ◌+◌, ◌-◌, ◌<◌, ◌≤◌, Bool, true, false, eqb, cond, List, [], ◌∷◌, length, take, length-take, Option, Some, None, refl, sym, ap, subst, ◌∙◌, arith, inl, inr, ◌⊎◌}
-use Rattle.std.specs.Prelude.{is_some, option_map, ◌&&◌, not, nat_lt, pos}
-use Rattle.std.proofs.lemmas.Bool.{cases_Bool, ltb-true, ltb-false, eqb-true, eq-eqb}
+use Rattle.std.specs.Prelude.{is_some, option_map, nat_lt, pos}
+use Rattle.std.proofs.lemmas.Bool.{cases_Bool, ltb-true, ltb-false, eqb-true}
 use Rattle.blz_model.specs.LebNumbers.{uleb}
 use Rattle.blz_model.specs.Reads.{Read, ◌>>=◌}
 use Rattle.blz_entry.specs.Abbrevs.{Abbrev, of_code}
@@ -17,7 +17,7 @@ use Rattle.blz_entry.specs.Walks.{Source, Walk, head_at, next_of, entry_from, sk
 use Rattle.blz_entry.specs.declared.entries.Entry.{Entry}
 use Rattle.blz_entry.proofs.HeadsLead.{heads_lead_on}
 use Rattle.blz_index.specs.declared.description.Description.{Description}
-use Rattle.blz_index.specs.Describing.{Refer, undescribed, description_step, described, undescribed_to, described_to, described_by, described_if, specs_by, specs_of}
+use Rattle.blz_index.specs.Describing.{Refer, undescribed, description_step, described, undescribed_to, described_to, described_if, specs_of}
 use Rattle.blz_index.specs.Leaves.{UnitParts, source_in}
 
 -- what the entry is that a walk has met at a place, and where the walk stands behind its code

@@ -1,8 +1,8 @@
 -- The trees below an entry, by what stands at their first place.
-use Rattle.std.proofs.Common.{◌≡◌, ℕ, zero, suc, ◌+◌, ◌-◌, ◌<◌, ◌≤◌, Bool, true, false, cond, ltb, Option, Some, None, refl, sym, ap, ◌∙◌, arith, inl, inr}
-use Rattle.std.proofs.lemmas.Bool.{cases_Bool, cases_lt, ltb-true, ltb-false, le-ltb, lt-ltb, and_from, both_ways}
+use Rattle.std.proofs.Common.{◌≡◌, ℕ, zero, suc, ◌-◌, ◌<◌, ◌≤◌, Bool, true, false, ltb, Option, Some, None, refl, ap, ◌∙◌, arith, inl, inr}
+use Rattle.std.proofs.lemmas.Bool.{cases_Bool, cases_lt, ltb-true, le-ltb, lt-ltb, and_from, both_ways}
 use Rattle.blz_model.specs.Reads.{◌>>=◌}
-use Rattle.blz_entry.specs.Forest.{Info, Head, Close, Open, Forest, Empty, Grown, node, leaf, grown_step, grown, Leads, LeadsOn}
+use Rattle.blz_entry.specs.Forest.{Info, Head, Close, Open, Grown, node, leaf, grown_step, grown, Leads, LeadsOn}
 use Rattle.blz_entry.proofs.Preorder.{IfEnds, ends}
 use Rattle.blz_index.specs.CallTree.{all_closed, children}
 

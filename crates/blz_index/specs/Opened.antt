@@ -1,5 +1,5 @@
 -- A unit whose entries are read, without where it lies in memory.
-use Rattle.std.specs.Prelude.{ℕ, ◌+◌, ◌^◌, ◌<◌, ◌≤◌, length}
+use Rattle.std.specs.Prelude.{◌+◌, ◌^◌, ◌<◌, ◌≤◌, length}
 use Rattle.blz_split.specs.FileSections.{sections_view}
 use Rattle.blz_index.specs.declared.open_unit.OpenUnit.{OpenUnit}
 use Rattle.blz_index.specs.Leaves.{UnitParts}

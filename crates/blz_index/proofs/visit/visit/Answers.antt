@@ -1,4 +1,3 @@
-use Rattle.std.proofs.Common.{sym, ◌∙◌}
 use Rattle.blz_index.specs.Opened.{open_view}
 use Rattle.blz_index.proofs.Broken.{broken}
 use Rattle.blz_index.proofs.DescriptionSteps.{visited_over}

@@ -1,4 +1,4 @@
-use Rattle.std.proofs.Common.{◌≡◌, ◌<◌, List, Option, Some, ℕ, refl, sym, ap, ◌∙◌, length}
+use Rattle.std.proofs.Common.{◌<◌, List, Option, ℕ, refl, sym, ap, ◌∙◌, length}
 use Rattle.std.proofs.lemmas.Bool.{ltb-true}
 use Rattle.blz_model.specs.Reads.{◌>>=◌}
 use Rattle.blz_entry.specs.Marks.{or_invalid}

@@ -1,4 +1,4 @@
-use Rattle.std.proofs.Common.{◌≡◌, ◌++◌, ◌∷◌, ◌≤◌, [], List, sym, ap, ◌∙◌, arith, length, length-append, rules, refl, vec_len}
+use Rattle.std.proofs.Common.{◌≡◌, ◌++◌, ◌∷◌, ◌≤◌, [], List, ap, ◌∙◌, arith, length, length-append, rules, refl, vec_len}
 use Rattle.std.proofs.lemmas.Result.{err_from_is_err_and}
 use Rattle.blz_entry.specs.Marks.{or_invalid}
 use Rattle.blz_entry.proofs.Marked.{marks_on}
