@@ -33,4 +33,3 @@ pub mod KeptAnswers
 pub mod Putting
 pub mod Cold
 pub mod CallWalk
-pub mod ReadLists

@@ -1,8 +1,8 @@
 //! Functions and inlined calls of a small unit, whose places and ranges were counted by hand.
 ghost use Rattle.std.specs.Prelude.{◌≡◌, Some, None};
 
-use crate::functions::Functions;
-use crate::inlined_functions::InlinedFunctions;
+use crate::call_lists::CallLists;
+use crate::function_lists::FunctionLists;
 use crate::links::Links;
 use crate::open_unit::OpenUnit;
 use crate::visit::{Visited, visit};
@@ -106,7 +106,10 @@ fn the_functions_with_a_range_are_listed(rt: HostRuntime) -> Result<(), Fail> {
         abbreviations: &abbreviations,
         root: root(),
     };
-    let functions = Functions::read(alloc, &mut ByStdSort, &unit, &mut Nowhere)?;
+    let functions = FunctionLists::read(alloc, &unit, &mut Nowhere)?.indexed(
+        alloc,
+        &mut ByStdSort,
+    )?;
     let list = functions.functions();
     assert!(rt; list.len() == 2);
     assert!(rt; list[0].place == 12 && list[0].name == name_at(13));
@@ -131,7 +134,7 @@ fn the_calls_below_a_function_are_its_own(rt: HostRuntime) -> Result<(), Fail> {
         abbreviations: &abbreviations,
         root: root(),
     };
-    let calls = InlinedFunctions::read(alloc, &mut ByStdSort, &unit, &mut Nowhere, 12)?;
+    let calls = CallLists::read(alloc, &unit, &mut Nowhere, 12)?.indexed(alloc, &mut ByStdSort)?;
     let list = calls.calls();
     assert!(rt; list.len() == 2);
     assert!(rt; list[0].name == name_at(26) && list[0].call_file == Some(1));
@@ -142,9 +145,9 @@ fn the_calls_below_a_function_are_its_own(rt: HostRuntime) -> Result<(), Fail> {
     let shallow = calls.find_inlined_functions(alloc, 0x1005)?;
     assert!(rt; shallow.len() == 1 && shallow[0] == 0);
     assert!(rt; calls.find_inlined_functions(alloc, 0x1011)?.is_empty());
-    let inner = InlinedFunctions::read(alloc, &mut ByStdSort, &unit, &mut Nowhere, 57)?;
+    let inner = CallLists::read(alloc, &unit, &mut Nowhere, 57)?.indexed(alloc, &mut ByStdSort)?;
     assert!(rt; inner.calls().len() == 1 && inner.calls()[0].name == name_at(70));
-    let leaf = InlinedFunctions::read(alloc, &mut ByStdSort, &unit, &mut Nowhere, 88)?;
+    let leaf = CallLists::read(alloc, &unit, &mut Nowhere, 88)?.indexed(alloc, &mut ByStdSort)?;
     assert!(rt; leaf.calls().is_empty());
     Ok(())
 }
@@ -166,13 +169,16 @@ fn an_open_function_has_no_calls_and_is_still_listed(rt: HostRuntime) -> Result<
         abbreviations: &abbreviations,
         root: root(),
     };
-    let functions = Functions::read(alloc, &mut ByStdSort, &unit, &mut Nowhere)?;
+    let functions = FunctionLists::read(alloc, &unit, &mut Nowhere)?.indexed(
+        alloc,
+        &mut ByStdSort,
+    )?;
     assert!(rt; functions.functions().len() == 2);
-    match InlinedFunctions::read(alloc, &mut ByStdSort, &unit, &mut Nowhere, 12) {
+    match CallLists::read(alloc, &unit, &mut Nowhere, 12) {
         Ok(_) => assert!(rt; false),
         Err(fault) => assert!(rt; fault.kind() == ErrorKind::InvalidDwarf),
     }
-    let inner = InlinedFunctions::read(alloc, &mut ByStdSort, &unit, &mut Nowhere, 57)?;
+    let inner = CallLists::read(alloc, &unit, &mut Nowhere, 57)?.indexed(alloc, &mut ByStdSort)?;
     assert!(rt; inner.calls().len() == 1);
     Ok(())
 }

@@ -1,19 +1,11 @@
 //! The functions of a unit.
 ghost use Rattle.std.specs.Prelude.{◌≡◌, ℕ, ◌+◌, ◌*◌, ◌^◌, ◌-◌, ◌≤◌, true, List, length, map, Option, IfOk};
-ghost use Rattle.blz_model.specs.Part.{Gives};
-ghost use Rattle.blz_entry.specs.Marks.{or_invalid};
 ghost use Rattle.blz_index.specs.Best.{best};
-ghost use Rattle.blz_index.specs.FunctionList.{unit_lists};
 ghost use Rattle.blz_index.specs.Groups.{AreApart};
 ghost use Rattle.blz_index.specs.Keyed.{IsAccepted, begin_key};
 ghost use Rattle.blz_index.specs.Owned.{owned, items_of, owner_at};
-ghost use Rattle.blz_index.specs.Opened.{open_view, CanBeOpened};
-ghost use Rattle.blz_index.specs.Ranges.{best_owner};
-ghost use Rattle.blz_index.specs.ReadLists.{function_lists};
+ghost use Rattle.blz_index.specs.Ranges.{FunctionRanges, best_owner};
 
-use crate::function_lists::FunctionLists;
-use crate::links::Links;
-use crate::open_unit::OpenUnit;
 use crate::owned_ranges::OwnedRanges;
 use blz_bytes::{Orders, Steps};
 use blz_entry::{Span, StrPlace};
@@ -40,8 +32,6 @@ pub struct Functions {
 }
 
 impl Model for Functions {
-    ghost use Rattle.blz_index.specs.Ranges.{FunctionRanges};
-
     ghost Value = { FunctionRanges };
 
     ghost view = { λ x. record { functions = x.functions.items; ranges = x.ranges.ranges; ordered = x.ranges.ordered } };
@@ -65,26 +55,6 @@ impl Functions {
     {
         let ranges = OwnedRanges::build(alloc, orders, spans, owners)?;
         Ok(Functions { functions, ranges })
-    }
-
-    /// The functions of a unit, with an index of their ranges. InvalidDwarf exactly where one of its entries, or the name
-    /// or the ranges of one of its functions, has no value.
-    pub(crate) fn read<O: Orders, F: Links>(
-        alloc: Global,
-        orders: &mut O,
-        unit: &OpenUnit<'_, '_>,
-        links: &mut F,
-    ) -> blz_error::Result<Functions>
-        requires { CanBeOpened unit.now }
-        ensures value { Gives function_lists result (or_invalid (unit_lists (F.refer links.old) (open_view unit.now))) }
-        ensures accepted { IfOk result (λ x. IsAccepted (O.pair_places orders.old) (map begin_key (items_of x.ranges)) x.ordered) }
-        ensures pairs_stay { O.pair_places orders.new ≡ O.pair_places orders.old }
-        ensures names_stay { O.name_places orders.new ≡ O.name_places orders.old }
-        ensures same { F.refer links.new ≡ F.refer links.old }
-    {
-        let lists = FunctionLists::read(alloc, unit, links)?;
-        let functions = lists.indexed(alloc, orders)?;
-        Ok(functions)
     }
 
     /// The functions in file order.

@@ -1,20 +1,13 @@
 //! The inlined calls of a function.
 ghost use Rattle.std.specs.Prelude.{◌≡◌, ℕ, ◌+◌, ◌*◌, ◌^◌, ◌-◌, ◌<◌, ◌≤◌, true, List, length, map, Option, IfOk};
-ghost use Rattle.blz_model.specs.Part.{Gives};
-ghost use Rattle.blz_entry.specs.Marks.{or_invalid};
-ghost use Rattle.blz_index.specs.CallTree.{unit_calls};
 ghost use Rattle.blz_index.specs.Chain.{at_depth, chain, owner_found, ranges_of, TreeCall, IsTree, IsNested, IsPath};
 ghost use Rattle.blz_index.specs.Groups.{AreApartInGroups};
 ghost use Rattle.blz_index.specs.Keyed.{IsAccepted, group_key};
 ghost use Rattle.blz_index.specs.Owned.{owned, items_of, owner_at};
-ghost use Rattle.blz_index.specs.Opened.{open_view, CanBeOpened};
-ghost use Rattle.blz_index.specs.ReadLists.{call_lists};
+ghost use Rattle.blz_index.specs.Ranges.{CallRanges};
 
-use crate::call_lists::CallLists;
 use crate::group_index::GroupIndex;
 use crate::grouped::{Grouped, group_keys};
-use crate::links::Links;
-use crate::open_unit::OpenUnit;
 use crate::owned_ranges::number_at;
 use blz_bytes::{Orders, Steps};
 use blz_entry::StrPlace;
@@ -44,10 +37,6 @@ pub struct InlinedFunctions {
 }
 
 impl Model for InlinedFunctions {
-    ghost use Rattle.std.specs.Prelude.{◌≡◌, length};
-    ghost use Rattle.blz_index.specs.Owned.{owned};
-    ghost use Rattle.blz_index.specs.Ranges.{CallRanges};
-
     ghost Value = { CallRanges };
 
     ghost view = { λ x. record { calls = x.calls.items; ranges = owned x.index.list x.owners.items; ordered = x.index.ordered } };
@@ -78,28 +67,6 @@ impl InlinedFunctions {
             index,
             owners,
         })
-    }
-
-    /// The calls of the function whose entry stands at a place, with an index of their ranges. InvalidDwarf exactly where no
-    /// entry of the unit stands there, where it or an entry below it is not closed or has no value, or where the name or
-    /// the ranges of a call have none.
-    pub(crate) fn read<O: Orders, F: Links>(
-        alloc: Global,
-        orders: &mut O,
-        unit: &OpenUnit<'_, '_>,
-        links: &mut F,
-        place: usize,
-    ) -> blz_error::Result<InlinedFunctions>
-        requires { CanBeOpened unit.now }
-        ensures value { Gives call_lists result (or_invalid (unit_calls (F.refer links.old) (open_view unit.now) place)) }
-        ensures accepted { IfOk result (λ x. IsAccepted (O.pair_places orders.old) (map group_key (items_of x.ranges)) x.ordered) }
-        ensures pairs_stay { O.pair_places orders.new ≡ O.pair_places orders.old }
-        ensures names_stay { O.name_places orders.new ≡ O.name_places orders.old }
-        ensures same { F.refer links.new ≡ F.refer links.old }
-    {
-        let lists = CallLists::read(alloc, unit, links, place)?;
-        let calls = lists.indexed(alloc, orders)?;
-        Ok(calls)
     }
 
     /// The calls in file order.
