@@ -32,3 +32,4 @@ pub mod CallsTree
 pub mod ListEnds
 pub mod CountedLevels
 pub mod CallEntry
+pub mod ShownSteps

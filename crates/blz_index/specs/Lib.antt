@@ -33,3 +33,4 @@ pub mod KeptAnswers
 pub mod Putting
 pub mod Cold
 pub mod CallWalk
+pub mod ShownFunctions

@@ -40,6 +40,7 @@ mod unit_table;
 mod units;
 mod units_at;
 mod visit;
+mod visit_function;
 
 pub use dwarf::Dwarf;
 pub use functions::{Function, Functions};
@@ -48,3 +49,4 @@ pub use range_index::RangeIndex;
 pub use sites::{InlinedSite, InlinedSites};
 pub use units::Units;
 pub use units_at::UnitsAt;
+pub use visit_function::VisitFunction;
