@@ -33,3 +33,4 @@ pub mod ListEnds
 pub mod CountedLevels
 pub mod CallEntry
 pub mod ShownSteps
+pub mod NameSteps

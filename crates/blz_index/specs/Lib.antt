@@ -34,3 +34,4 @@ pub mod Putting
 pub mod Cold
 pub mod CallWalk
 pub mod ShownFunctions
+pub mod UnitNames

@@ -36,6 +36,7 @@ mod unit_caches;
 mod unit_finds;
 mod unit_list;
 mod unit_looks;
+mod unit_names;
 mod unit_table;
 mod units;
 mod units_at;

@@ -1,0 +1,42 @@
+-- Functions by their names, and all functions, unit by unit.
+use Rattle.std.specs.Prelude.{◌≡◌, ℕ, Bool, false, List, ◌++◌, Option, Some, None, Result, Ok, Err}
+use Rattle.blz_error.specs.Fault.{Fault}
+use Rattle.blz_model.specs.Part.{Part, Good, Fails, ◌>>=◌}
+use Rattle.blz_entry.specs.Marks.{or_invalid}
+use Rattle.blz_entry.specs.declared.text.Texts.{Texts}
+use Rattle.blz_elf.specs.declared.visit.Flow.{Flow}
+use Rattle.blz_index.specs.declared.unit_caches.UnitCaches.{UnitCaches}
+use Rattle.blz_index.specs.FunctionList.{Lists}
+use Rattle.blz_index.specs.KeptAnswers.{kept_part}
+use Rattle.blz_index.specs.KeptParts.{functions_at, lists_view}
+use Rattle.blz_index.specs.Ranges.{FunctionRanges}
+use Rattle.blz_index.specs.ShownFunctions.{Numbered, ShowsUnit}
+use Rattle.blz_index.specs.UnitAnswers.{first_called, in_unit}
+
+-- the first function of a name in a unit
+abbrev pub called_in : Texts → List ℕ → Option Lists → Option (Option ℕ)
+called_in texts name None = None
+called_in texts name (Some l) = Some (first_called texts name l)
+
+abbrev pub called_by : Texts → List ℕ → FunctionRanges → Part (Option ℕ)
+called_by texts name x = Good (first_called texts name (lists_view x))
+
+-- the same, by what is kept
+abbrev pub kept_called : Texts → List ℕ → List UnitCaches → ℕ → Part (Option ℕ)
+kept_called texts name units k = kept_part (functions_at units k) >>= called_by texts name
+
+-- the functions of a unit that were shown
+pub record ShowsLists (lists : Option Lists) (k : ℕ) (old new : Option Numbered) (stopped : Bool) (flow : Flow) : Type 0 where
+  pub list : Lists
+  pub is : lists ≡ Some list
+  pub shows : ShowsUnit (in_unit k list.functions) old new stopped flow
+
+-- A unit whose functions have no value shows none.
+pub record ShowsNone (lists : Option Lists) (old new : Option Numbered) (stopped : Bool) (fault : Fault) : Type 0 where
+  pub goes_on : stopped ≡ false
+  pub same : new ≡ old
+  pub mark : Fails fault.kind (or_invalid lists)
+
+abbrev pub ShowsIn : Option Lists → ℕ → Option Numbered → Option Numbered → Bool → Result Flow Fault → Type 0
+ShowsIn lists k old new stopped (Ok flow) = ShowsLists lists k old new stopped flow
+ShowsIn lists k old new stopped (Err e) = ShowsNone lists old new stopped e
