@@ -1,5 +1,5 @@
 //! The units of a file, and the addresses that they announce.
-ghost use Rattle.std.specs.Prelude.{◌≡◌, ◌++◌, List, map, IfOk, OnOk, Option, Some, option_map};
+ghost use Rattle.std.specs.Prelude.{◌≡◌, map, IfOk, Option, Some, option_map};
 ghost use Rattle.blz_model.specs.Part.{Gives, Exactly};
 ghost use Rattle.blz_entry.specs.Contents.{section_view};
 ghost use Rattle.blz_entry.specs.Marks.{or_invalid};

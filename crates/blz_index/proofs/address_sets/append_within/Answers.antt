@@ -1,4 +1,3 @@
-use Rattle.std.proofs.Common.{rules}
 use Rattle.blz_entry.specs.Contents.{section_view}
 use Rattle.blz_index.proofs.Named.{named_within}
 use Rattle.blz_index.proofs.address_sets.append_within.Goals as goal
