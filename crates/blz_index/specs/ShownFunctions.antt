@@ -8,7 +8,7 @@ use Rattle.blz_elf.specs.declared.visit.Flow.TheVariants.{Continue, Break}
 use Rattle.blz_index.specs.declared.functions.Function.{Function}
 use Rattle.blz_index.specs.BuiltUnits.{Files}
 use Rattle.blz_index.specs.FunctionList.{Lists}
-use Rattle.blz_index.specs.UnitAnswers.{in_unit, unit_functions, all_functions}
+use Rattle.blz_index.specs.UnitAnswers.{in_unit, unit_functions}
 use Rattle.blz_index.specs.UnitTables.{UnitTable}
 
 -- functions, each with the number of its unit

@@ -1,5 +1,5 @@
 -- Functions by their names, and all functions, unit by unit.
-use Rattle.std.specs.Prelude.{◌≡◌, ℕ, Bool, false, List, ◌++◌, Option, Some, None, Result, Ok, Err}
+use Rattle.std.specs.Prelude.{◌≡◌, ℕ, Bool, false, List, Option, Some, None, Result, Ok, Err}
 use Rattle.blz_error.specs.Fault.{Fault}
 use Rattle.blz_model.specs.Part.{Part, Good, Fails, ◌>>=◌}
 use Rattle.blz_entry.specs.Marks.{or_invalid}
