@@ -124,6 +124,21 @@ impl<'b> Package<'b> {
         read(parser, image)
     }
 
+    /// The same package for as long as it is lent.
+    pub fn lent<'u>(&'u self) -> Package<'u>
+        ensures { result ≡ self.now }
+    {
+        Package {
+            abbrev: self.abbrev,
+            index: self.index,
+            info: self.info,
+            rnglists: self.rnglists,
+            strings: self.strings,
+            str_offsets: self.str_offsets,
+            order: self.order,
+        }
+    }
+
     /// The whole data of `.debug_info.dwo`.
     pub fn info(&self) -> &'b [u8]
         ensures { result.now ≡ (package_view self.now).info }
