@@ -1,6 +1,9 @@
 -- How a reference is followed, one entry after the other (DWARF 5 section 7.5.5, class reference).
 use Rattle.std.specs.Prelude.{◌≡◌, ℕ, zero, suc, ◌+◌, Bool, true, false, Option, Some, None, is_some, if◌then◌else◌}
+use Rattle.std.specs.Coded.{Coded, coded_ℕ}
+use Rattle.std.specs.FinMap as map
 use Rattle.std.specs.Option.{option_map}
+use Rattle.blz_elf.specs.Relocations.{OffsetMap, relocation_code}
 use Rattle.blz_model.specs.Reads.{◌>>=◌}
 use Rattle.blz_entry.specs.declared.text.StrPlace.{StrPlace}
 use Rattle.blz_entry.specs.declared.value.AttrValue.{AttrValue}
@@ -18,18 +21,13 @@ use Rattle.blz_index.specs.BuiltUnits.{Files}
 use Rattle.blz_index.specs.KeptParts.{unit_of, headers_of}
 use Rattle.blz_index.specs.Leaves.{UnitParts}
 use Rattle.blz_index.specs.Naming.{visited}
-use Rattle.blz_index.specs.References.{unit_at, refer_from}
-use Rattle.blz_index.specs.UnitTables.{UnitTable, reach_of}
+use Rattle.blz_index.specs.Linkage.{Linked}
+use Rattle.blz_index.specs.References.{unit_at}
+use Rattle.blz_index.specs.UnitTables.{UnitTable}
 
--- a unit whose references are followed, among the units of its files
-pub record Linked : Type 0 where
-  pub files : Files
-  pub table : UnitTable
-  pub unit : UnitParts
-
--- the name that a value of the unit leads to
-abbrev pub refer_in : Linked → AttrValue → Option (Option StrPlace)
-refer_in l v = refer_from (reach_of l.files l.table) l.unit v
+-- by which proofs tell maps of relocations apart
+abbrev pub relocations_code : Coded OffsetMap
+relocations_code = map.code coded_ℕ relocation_code
 
 abbrev pub unit_in : Linked → Standing → Option UnitParts
 unit_in l Own = Some l.unit
@@ -67,6 +65,10 @@ seen unit sup (Leads value) = On (record { unit = unit; sup = sup; value = value
 
 abbrev pub seen_from : Standing → ℕ → UnitParts → Option Followed
 seen_from unit distance u = visited u (u.header.start + distance) >>= λ v. Some (seen unit u.sections.sup v)
+
+-- the same of a unit of a file, by its number
+abbrev pub numbered_seen : Files → UnitTable → Side → ℕ → ℕ → Option Followed
+numbered_seen f t side k distance = unit_of f side (headers_of side t) k >>= seen_from (Numbered side k) distance
 
 unfoldable pub entry_seen : Linked → Standing → ℕ → Option Followed
 entry_seen l unit distance = unit_in l unit >>= seen_from unit distance

@@ -16,6 +16,7 @@ pub mod References
 pub mod BuiltUnits
 pub mod Sets
 pub mod UnitTables
+pub mod Linkage
 pub mod UnitLists
 pub mod TableViews
 pub mod Announced

@@ -6,13 +6,14 @@ use Rattle.blz_model.specs.declared.cache.Cache.{Cache}
 use Rattle.blz_model.specs.declared.cache.Cache.TheVariants.{Empty, Value, Mark}
 use Rattle.blz_entry.specs.declared.span.Span.{Span}
 use Rattle.blz_index.specs.declared.functions.Function.{Function}
+use Rattle.blz_index.specs.declared.unit_caches.UnitCaches.{UnitCaches}
 use Rattle.blz_index.specs.declared.units.Units.{Units}
 use Rattle.blz_index.specs.BuiltUnits.{Files}
 use Rattle.blz_index.specs.Groups.{AreApart}
 use Rattle.blz_index.specs.Growing.{Told, UnitsGrowTo}
 use Rattle.blz_index.specs.KeptParts.{AllFit, AllFull, functions_at, lines_at, calls_at}
 use Rattle.blz_index.specs.Owned.{Owned, items_of}
-use Rattle.blz_index.specs.Ranges.{FunctionRanges}
+use Rattle.blz_index.specs.Ranges.{FunctionRanges, OwnedRanges}
 use Rattle.blz_index.specs.TableViews.{table_view}
 use Rattle.blz_index.specs.UnitTables.{UnitTable, units_of}
 
@@ -94,9 +95,13 @@ pub record AreCold (u : Units) : Type 0 where
 
 -- The looks that found a function among ranges that do not overlap, where both orders were accepted: for fewer than
 -- 2 ^ d announced ranges, and fewer than 2 ^ e of the unit's functions.
+abbrev pub FewLooks : OwnedRanges → List UnitCaches → Result (Option (ℕ × ℕ)) Fault → ℕ → Type 0
+FewLooks announced units (Ok (Some r)) looks =
+    announced.ordered ≡ true → AreApart (items_of announced.ranges) →
+    has_order (functions_at units r.0) ≡ true → AreApart (items_of (ranges_in (functions_at units r.0))) →
+    (d e : ℕ) → length announced.ranges < 2 ^ d → length (ranges_in (functions_at units r.0)) < 2 ^ e → looks ≤ d + e + 4
+FewLooks announced units (Ok None) looks = ⊤
+FewLooks announced units (Err e) looks = ⊤
+
 abbrev pub LooksFew : Units → Result (Option (ℕ × ℕ)) Fault → ℕ → Type 0
-LooksFew u (Ok (Some r)) looks =
-    announced_ordered u ≡ true → AreApart (items_of (units_table u).announced) →
-    functions_ordered u r.0 ≡ true → AreApart (items_of (ranges_in (functions_cache u r.0))) →
-    (d e : ℕ) → length (units_table u).announced < 2 ^ d → length (ranges_in (functions_cache u r.0)) < 2 ^ e → looks ≤ d + e + 4
-LooksFew u r looks = ⊤
+LooksFew u r looks = FewLooks u.table.announced u.caches.units.items r looks

@@ -123,6 +123,7 @@ impl<'r, 's, 'b> Reader<'r, 's, 'b> {
     }
 
     /// Builds a unit where nothing is kept of it.
+    #[tactic(auto, using(crate::proofs::BuiltSteps::not_missing))]
     fn fill_one(
         &self,
         side: Side,
@@ -138,8 +139,26 @@ impl<'r, 's, 'b> Reader<'r, 's, 'b> {
         if !is_missing(caches.as_slice(), number) {
             return Ok(());
         }
-        let Some(header) = units.get(number) else {
-            return Ok(());
+        self.fill_missing(side, units, caches, number)
+    }
+
+    /// Builds a unit of which nothing is kept.
+    fn fill_missing(
+        &self,
+        side: Side,
+        units: &UnitList,
+        caches: &mut Vec<Cache<BuiltUnit>>,
+        number: usize,
+    ) -> std::result::Result<(), AllocError>
+        requires readable { IsReadable self.now.dwarf.now }
+        requires fits { AllBuilt (reader_files self.now) side units.now caches.old.items }
+        requires missing { is_missing (slice_get caches.old.items number) ≡ true }
+        ensures fits { AllBuilt (reader_files self.now) side units.now caches.new.items }
+        ensures filled { IfOk result (λ _. IsFilled (slice_get caches.new.items number)) }
+    {
+        let header = match units.get(number) {
+            Some(header) => header,
+            None => return Ok(()),
         };
         let made = self.part(side, &header)?;
         put(caches, number, made);

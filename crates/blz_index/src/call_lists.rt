@@ -2,6 +2,7 @@
 ghost use Rattle.std.specs.Prelude.{◌≡◌, ◌++◌, [], ◌≤◌, length, map, OnOk, IfOk};
 ghost use Rattle.blz_model.specs.Part.{Gives};
 ghost use Rattle.blz_entry.specs.Marks.{or_invalid};
+ghost use Rattle.blz_index.specs.Linkage.{refer_by};
 ghost use Rattle.blz_index.specs.CallTree.{no_calls, call_by, call_added, calls_from, unit_calls};
 ghost use Rattle.blz_index.specs.CallWalk.{call_if, call_met};
 ghost use Rattle.blz_index.specs.Describing.{specs_of};
@@ -139,11 +140,11 @@ impl CallLists {
     ) -> Result<CallLists>
         requires source { entries.old.source ≡ source_in (open_view unit.now) }
         requires met { entries.old.pending ≡ specs_of (open_view unit.now) entry.now.code }
-        ensures value { Gives (λ l. (l, entries.new.place)) result (or_invalid (call_met (F.refer links.old) (open_view unit.now) self depth entry.now entries.old)) }
+        ensures value { Gives (λ l. (l, entries.new.place)) result (or_invalid (call_met (refer_by (F.linkage links.old)) (open_view unit.now) self depth entry.now entries.old)) }
         ensures pending { IfOk result (λ _. entries.new.pending ≡ []) }
         ensures source { entries.new.source ≡ entries.old.source }
         ensures ahead { entries.old.place ≤ entries.new.place }
-        ensures same { F.refer links.new ≡ F.refer links.old }
+        ensures same { F.linkage links.new ≡ F.linkage links.old }
     {
         match Description::of_entry(unit, links, entries, entry.code, depth.is_some()) {
             Ok(description) => self.with_described(unit, depth, &description),
@@ -160,8 +161,8 @@ impl CallLists {
     ) -> Result<CallLists>
         requires pending { entries.old.pending ≡ [] }
         requires source { entries.old.source ≡ source_in (open_view unit.now) }
-        ensures value { Gives (λ l. l) result (or_invalid (calls_from (F.refer links.old) (open_view unit.now) entries.old.place)) }
-        ensures same { F.refer links.new ≡ F.refer links.old }
+        ensures value { Gives (λ l. l) result (or_invalid (calls_from (refer_by (F.linkage links.old)) (open_view unit.now) entries.old.place)) }
+        ensures same { F.linkage links.new ≡ F.linkage links.old }
     {
         let mut lists = CallLists::new(alloc);
         let mut levels = Levels::new(alloc)?;
@@ -191,8 +192,8 @@ impl CallLists {
         place: usize,
     ) -> Result<CallLists>
         requires { CanBeOpened unit.now }
-        ensures value { Gives (λ l. l) result (or_invalid (unit_calls (F.refer links.old) (open_view unit.now) place)) }
-        ensures same { F.refer links.new ≡ F.refer links.old }
+        ensures value { Gives (λ l. l) result (or_invalid (unit_calls (refer_by (F.linkage links.old)) (open_view unit.now) place)) }
+        ensures same { F.linkage links.new ≡ F.linkage links.old }
     {
         let mut entries = unit.entries(place)?;
         let entry = match entries.next_entry() {

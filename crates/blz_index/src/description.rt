@@ -2,6 +2,7 @@
 ghost use Rattle.std.specs.Prelude.{◌≡◌, ◌≤◌, [], Option, None, Some, IfOk, if◌then◌else◌};
 ghost use Rattle.blz_model.specs.Part.{Gives, Exactly};
 ghost use Rattle.blz_entry.specs.Marks.{or_invalid};
+ghost use Rattle.blz_index.specs.Linkage.{refer_by};
 ghost use Rattle.blz_index.specs.Describing.{low_bits, kept_file, with_call_site, no_ranges, undescribed, description_step, described, described_if, specs_of};
 ghost use Rattle.blz_index.specs.Leaves.{source_in};
 ghost use Rattle.blz_index.specs.Naming.{referred, name_step};
@@ -98,8 +99,8 @@ fn name_with<F: Links>(
     name: u64,
     value: AttrValue,
 ) -> Result<Option<StrPlace>>
-    ensures value { Gives (λ n. n) result (or_invalid (name_step (F.refer links.old) (open_view unit.now) known (name, value))) }
-    ensures same { F.refer links.new ≡ F.refer links.old }
+    ensures value { Gives (λ n. n) result (or_invalid (name_step (refer_by (F.linkage links.old)) (open_view unit.now) known (name, value))) }
+    ensures same { F.linkage links.new ≡ F.linkage links.old }
 {
     if is_linkage_name(name) {
         return Ok(or_else(unit.string(value), known));
@@ -123,8 +124,8 @@ impl Description {
         name: u64,
         value: AttrValue,
     ) -> Result<Description>
-        ensures value { Gives (λ d. d) result (or_invalid (description_step (F.refer links.old) (open_view unit.now) self (name, value))) }
-        ensures same { F.refer links.new ≡ F.refer links.old }
+        ensures value { Gives (λ d. d) result (or_invalid (description_step (refer_by (F.linkage links.old)) (open_view unit.now) self (name, value))) }
+        ensures same { F.linkage links.new ≡ F.linkage links.old }
     {
         let known = name_with(unit, links, self.name, name, value)?;
         let ranges = unit.with_attribute(self.ranges, name, value)?;
@@ -145,12 +146,12 @@ impl Description {
     ) -> Result<Description>
         requires pending { entries.old.pending ≡ specs.now }
         requires source { entries.old.source ≡ source_in (open_view unit.now) }
-        ensures value { Gives (λ d. (d, entries.new.place)) result (or_invalid (described (F.refer links.old) (open_view unit.now) undescribed specs.now entries.old.place)) }
+        ensures value { Gives (λ d. (d, entries.new.place)) result (or_invalid (described (refer_by (F.linkage links.old)) (open_view unit.now) undescribed specs.now entries.old.place)) }
         ensures pending { IfOk result (λ _. entries.new.pending ≡ []) }
         ensures source { entries.new.source ≡ entries.old.source }
         ensures depth { entries.new.depth ≡ entries.old.depth }
         ensures ahead { entries.old.place ≤ entries.new.place }
-        ensures same { F.refer links.new ≡ F.refer links.old }
+        ensures same { F.linkage links.new ≡ F.linkage links.old }
     {
         let mut description = undescribed();
         for spec in specs {
@@ -178,12 +179,12 @@ impl Description {
     ) -> Result<Option<Description>>
         requires source { entries.old.source ≡ source_in (open_view unit.now) }
         requires met { entries.old.pending ≡ specs_of (open_view unit.now) code }
-        ensures value { Gives (λ d. (d, entries.new.place)) result (or_invalid (described_if (F.refer links.old) (open_view unit.now) wanted code entries.old)) }
+        ensures value { Gives (λ d. (d, entries.new.place)) result (or_invalid (described_if (refer_by (F.linkage links.old)) (open_view unit.now) wanted code entries.old)) }
         ensures pending { IfOk result (λ _. entries.new.pending ≡ []) }
         ensures source { entries.new.source ≡ entries.old.source }
         ensures depth { entries.new.depth ≡ entries.old.depth }
         ensures ahead { entries.old.place ≤ entries.new.place }
-        ensures same { F.refer links.new ≡ F.refer links.old }
+        ensures same { F.linkage links.new ≡ F.linkage links.old }
     {
         if !wanted || code == 0 {
             return match entries.skip_attributes() {

@@ -116,4 +116,24 @@ impl<'s, 'b> Dwarf<'s, 'b> {
             },
         }
     }
+
+    /// The same for as long as the files lie in memory.
+    pub(crate) fn whole_sections(&self, origin: &Origin) -> Sections<'s, 'b>
+        requires readable { IsReadable self.now }
+        requires inside { IsInside (files_view self.now).«package» origin.now }
+        ensures view { sections_view result ≡ sections_from (files_view self.now) origin.now }
+        ensures fits { result.shift + length result.info.bytes.now < 2 ^ 64 }
+    {
+        match origin {
+            Origin::Main => self.main,
+            Origin::Split(pieces) => match &self.package {
+                Some(parts) => sections_of(parts, pieces, &self.main, self.none),
+                None => self.main,
+            },
+            Origin::Sup => match self.sup {
+                Some(sections) => sections,
+                None => self.main,
+            },
+        }
+    }
 }

@@ -22,8 +22,11 @@ use std::test::Fail;
 struct Nowhere;
 
 impl Links for Nowhere {
-    ghost refer = { λ _ v. Some None };
+    ghost use Rattle.blz_index.specs.Linkage.{Nowhere as leads_nowhere};
 
+    ghost linkage = { λ _. leads_nowhere };
+
+    #[tactic(auto, unfolding(crate::specs::Linkage::refer_by))]
     fn follow(&mut self, _value: AttrValue) -> blz_error::Result<Option<StrPlace>> {
         Ok(None)
     }

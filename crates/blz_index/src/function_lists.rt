@@ -2,6 +2,7 @@
 ghost use Rattle.std.specs.Prelude.{◌≡◌, [], ◌≤◌, map, IfOk};
 ghost use Rattle.blz_model.specs.Part.{Gives};
 ghost use Rattle.blz_entry.specs.Marks.{or_invalid};
+ghost use Rattle.blz_index.specs.Linkage.{refer_by};
 ghost use Rattle.blz_index.specs.Describing.{specs_of};
 ghost use Rattle.blz_index.specs.FunctionList.{is_function_tag, function_by, lists_added, function_added, no_lists, unit_lists, entry_met};
 ghost use Rattle.blz_index.specs.Keyed.{IsAccepted, begin_key};
@@ -128,12 +129,12 @@ impl FunctionLists {
     ) -> Result<FunctionLists>
         requires source { entries.old.source ≡ source_in (open_view unit.now) }
         requires met { entries.old.pending ≡ specs_of (open_view unit.now) entry.now.code }
-        ensures value { Gives (λ l. (l, entries.new.place)) result (or_invalid (entry_met (F.refer links.old) (open_view unit.now) self entry.now entries.old)) }
+        ensures value { Gives (λ l. (l, entries.new.place)) result (or_invalid (entry_met (refer_by (F.linkage links.old)) (open_view unit.now) self entry.now entries.old)) }
         ensures pending { IfOk result (λ _. entries.new.pending ≡ []) }
         ensures source { entries.new.source ≡ entries.old.source }
         ensures depth { entries.new.depth ≡ entries.old.depth }
         ensures ahead { entries.old.place ≤ entries.new.place }
-        ensures same { F.refer links.new ≡ F.refer links.old }
+        ensures same { F.linkage links.new ≡ F.linkage links.old }
     {
         let wanted = is_function_tag(entry.tag);
         match Description::of_entry(unit, links, entries, entry.code, wanted) {
@@ -150,8 +151,8 @@ impl FunctionLists {
         links: &mut F,
     ) -> Result<FunctionLists>
         requires { CanBeOpened unit.now }
-        ensures value { Gives (λ l. l) result (or_invalid (unit_lists (F.refer links.old) (open_view unit.now))) }
-        ensures same { F.refer links.new ≡ F.refer links.old }
+        ensures value { Gives (λ l. l) result (or_invalid (unit_lists (refer_by (F.linkage links.old)) (open_view unit.now))) }
+        ensures same { F.linkage links.new ≡ F.linkage links.old }
     {
         let mut entries = unit.entries(unit.header.entries)?;
         let mut lists = FunctionLists::new(alloc);

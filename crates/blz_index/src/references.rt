@@ -2,25 +2,27 @@
 ghost use Rattle.std.specs.Prelude.{◌≡◌, ◌≤◌, ◌<◌, ◌+◌, ◌^◌, ◌-◌, Option, IfOk};
 ghost use Rattle.std.specs.List.{slice_get};
 ghost use Rattle.blz_model.specs.Part.{Gives, Exactly};
-ghost use Rattle.blz_model.specs.Reads.{◌>>=◌};
 ghost use Rattle.blz_entry.specs.Marks.{or_invalid};
-ghost use Rattle.blz_index.specs.BuiltUnits.{IsReadable};
-ghost use Rattle.blz_index.specs.declared.references.Standing.TheVariants.{Numbered};
-ghost use Rattle.blz_index.specs.Following.{Linked, refer_in, target_in, target_of, seen, seen_from, entry_seen, step_of, name_over, own_side};
-ghost use Rattle.blz_index.specs.KeptParts.{caches_of, headers_of, unit_of, IsFilled, AllBuilt, BuiltFit};
+ghost use Rattle.blz_index.specs.BuiltUnits.{built_view, files_view, BuiltFits, IsReadable};
+ghost use Rattle.blz_index.specs.Following.{target_in, target_of, seen, seen_from, numbered_seen, entry_seen, step_of, name_over, own_side};
+ghost use Rattle.blz_index.specs.KeptParts.{caches_of, IsFilled, BuiltFit};
 ghost use Rattle.blz_index.specs.Naming.{visited};
 ghost use Rattle.blz_index.specs.Opened.{open_view, CanBeOpened};
 ghost use Rattle.blz_index.specs.Readers.{reader_files, reader_table};
-ghost use Rattle.blz_index.specs.References.{unit_at};
+ghost use Rattle.blz_index.specs.TableViews.{table_view};
 
+use crate::built_unit::BuiltUnit;
 use crate::built_units::{BuiltUnits, Side, look};
+use crate::dwarf::Dwarf;
 use crate::fault::invalid;
 use crate::links::Links;
 use crate::open_unit::OpenUnit;
 use crate::reader::Reader;
+use crate::unit_table::UnitTable;
 use crate::visit::{Visited, visit};
 use blz_entry::{AttrValue, StrPlace};
 use blz_error::Result;
+use std::alloc::Global;
 use std::marker::Model;
 
 /// How many entries a name is looked for over.
@@ -55,22 +57,43 @@ pub enum Followed {
 
 /// The references of a unit, and the units that are built on the way.
 #[derive(Drop)]
-pub struct References<'u, 's, 'b> {
-    reader: Reader<'u, 's, 'b>,
-    unit: OpenUnit<'u, 'b>,
+pub struct References<'u> {
+    alloc: Global,
+    dwarf: Dwarf<'u, 'u>,
+    table: &'u UnitTable,
+    unit: OpenUnit<'u, 'u>,
     built: BuiltUnits,
 }
 
-impl<'u, 's, 'b> Model for References<'u, 's, 'b> {
-    ghost use Rattle.blz_index.specs.declared.references.Standing.TheVariants.{Numbered};
-ghost use Rattle.blz_index.specs.Following.{Linked};
-    ghost use Rattle.blz_index.specs.Linking.{linked_view, AreLinked};
+impl<'u> Model for References<'u> {
+    ghost use Rattle.std.specs.Coded.{codes};
+    ghost use Rattle.blz_index.specs.Following.{relocations_code};
+    ghost use Rattle.blz_index.specs.Linkage.{Linked};
 
     ghost Value = { Linked };
+
+    ghost coded = { Prim.hlevel (codes, relocations_code) };
+
+    ghost use Rattle.blz_index.specs.Linking.{linked_view, AreLinked};
 
     ghost view = { linked_view };
 
     ghost invariant = { AreLinked };
+}
+
+/// A unit that is built, under one lifetime.
+pub fn open_in<'u>(unit: &'u BuiltUnit, dwarf: &Dwarf<'u, 'u>) -> OpenUnit<'u, 'u>
+    requires readable { IsReadable dwarf.now }
+    requires fits { BuiltFits (files_view dwarf.now) unit.now }
+    ensures view { open_view result ≡ built_view (files_view dwarf.now) unit.now }
+    ensures opened { CanBeOpened result }
+{
+    OpenUnit {
+        sections: dwarf.whole_sections(&unit.origin),
+        header: unit.header,
+        abbreviations: &unit.abbreviations,
+        root: unit.root,
+    }
 }
 
 /// The file whose offsets the references of a unit of a file count.
@@ -126,7 +149,7 @@ fn seen_in(
     requires readable { IsReadable reader.now.dwarf.now }
     requires fits { BuiltFit (reader_files reader.now) (reader_table reader.now) built.now }
     requires filled { IsFilled (slice_get (caches_of side built.now) number) }
-    ensures { Exactly (λ f. f) result (or_invalid (unit_of (reader_files reader.now) side (headers_of side (reader_table reader.now)) number >>= seen_from (Numbered side number) distance)) }
+    ensures { Exactly (λ f. f) result (or_invalid (numbered_seen (reader_files reader.now) (reader_table reader.now) side number distance)) }
 {
     let standing = Standing::Numbered(side, number);
     match side {
@@ -141,20 +164,47 @@ fn seen_in(
     }
 }
 
-impl<'u, 's, 'b> References<'u, 's, 'b> {
-    /// The references of a unit that is open, where some units are built.
+/// The same of a unit that is built where it is not yet; the place is its file, its number and the distance.
+fn filled_and_seen(
+    alloc: Global,
+    dwarf: &Dwarf<'_, '_>,
+    table: &UnitTable,
+    built: &mut BuiltUnits,
+    place: (Side, usize, u64),
+) -> Result<Followed>
+    requires readable { IsReadable dwarf.now }
+    requires fits { BuiltFit (files_view dwarf.now) (table_view table.now) built.old }
+    ensures value { Gives (λ f. f) result (or_invalid (numbered_seen (files_view dwarf.now) (table_view table.now) place.0 place.1 place.2)) }
+    ensures fits { BuiltFit (files_view dwarf.now) (table_view table.now) built.new }
+{
+    let (side, number, distance) = place;
+    let reader = Reader {
+        alloc,
+        dwarf,
+        table,
+    };
+    reader.fill_unit(side, built, number)?;
+    seen_in(&reader, side, built, number, distance)
+}
+
+impl<'u> References<'u> {
+    /// The references of a unit that is built, among other units that are.
     pub fn new(
-        reader: Reader<'u, 's, 'b>,
-        unit: OpenUnit<'u, 'b>,
+        alloc: Global,
+        dwarf: Dwarf<'u, 'u>,
+        table: &'u UnitTable,
+        unit: OpenUnit<'u, 'u>,
         built: BuiltUnits,
-    ) -> References<'u, 's, 'b>
-        requires readable { IsReadable reader.dwarf.now }
+    ) -> References<'u>
+        requires readable { IsReadable dwarf }
         requires opened { CanBeOpened unit }
-        requires fits { BuiltFit (reader_files reader) (reader_table reader) built }
-        ensures { result ≡ record { files = reader_files reader; table = reader_table reader; unit = open_view unit } }
+        requires fits { BuiltFit (files_view dwarf) (table_view table.now) built }
+        ensures { result ≡ record { files = files_view dwarf.entry; table = table_view table.now; unit = open_view unit.entry } }
     {
         References {
-            reader,
+            alloc,
+            dwarf,
+            table,
             unit,
             built,
         }
@@ -171,8 +221,8 @@ impl<'u, 's, 'b> References<'u, 's, 'b> {
         ensures { Exactly (λ t. t) result (or_invalid (target_in self.now side offset)) }
     {
         let found = match side {
-            Side::File => self.reader.table.kept.find(offset),
-            Side::Sup => self.reader.table.sups.find(offset),
+            Side::File => self.table.kept.find(offset),
+            Side::Sup => self.table.sups.find(offset),
         };
         match found {
             Some((number, distance)) => {
@@ -190,7 +240,7 @@ impl<'u, 's, 'b> References<'u, 's, 'b> {
             AttrValue::UnitRef(distance) => Ok(Some((reference.unit, distance))),
             AttrValue::InfoRef(offset) => self.target_in(own_side(reference.sup), offset),
             AttrValue::SupRef(offset) => {
-                if reference.sup || self.reader.dwarf.sup.is_none() {
+                if reference.sup || self.dwarf.sup.is_none() {
                     return Ok(None);
                 }
                 self.target_in(Side::Sup, offset)
@@ -199,6 +249,7 @@ impl<'u, 's, 'b> References<'u, 's, 'b> {
         }
     }
 
+    #[tactic(auto, unfolding(crate::specs::Following::entry_seen))]
     fn entry_seen(&mut self, standing: Standing, distance: u64) -> Result<Followed>
         ensures value { Gives (λ f. f) result (or_invalid (entry_seen self.old standing distance)) }
         ensures same { self.new ≡ self.old }
@@ -206,12 +257,14 @@ impl<'u, 's, 'b> References<'u, 's, 'b> {
         match standing {
             Standing::Own => seen_from(standing, &self.unit, distance),
             Standing::Numbered(side, number) => {
-                self.reader.fill_unit(side, &mut self.built, number)?;
-                seen_in(&self.reader, side, &self.built, number, distance)
+                let (alloc, table) = (self.alloc, self.table);
+                let place = (side, number, distance);
+                filled_and_seen(alloc, &self.dwarf, table, &mut self.built, place)
             },
         }
     }
 
+    #[tactic(auto, unfolding(crate::specs::Following::step_of))]
     fn step(&mut self, reference: &Reference) -> Result<Followed>
         ensures value { Gives (λ f. f) result (or_invalid (step_of self.old reference.now)) }
         ensures same { self.new ≡ self.old }
@@ -244,11 +297,10 @@ impl<'u, 's, 'b> References<'u, 's, 'b> {
     }
 }
 
-impl<'u, 's, 'b> Links for References<'u, 's, 'b> {
-    ghost use Rattle.blz_index.specs.declared.references.Standing.TheVariants.{Numbered};
-ghost use Rattle.blz_index.specs.Following.{refer_in};
+impl<'u> Links for References<'u> {
+    ghost use Rattle.blz_index.specs.Linkage.{Among};
 
-    ghost refer = { refer_in };
+    ghost linkage = { λ r. Among r };
 
     fn follow(&mut self, value: AttrValue) -> Result<Option<StrPlace>> {
         let sup = self.is_sup();

@@ -1,5 +1,6 @@
 //! What is told of units by what is kept of them; nothing here takes memory but the chain of calls.
 ghost use Rattle.std.specs.Prelude.{◌≡◌, ◌+◌, ◌-◌, ◌*◌, ◌^◌, ◌≤◌, true, length, Option, option_map};
+ghost use Rattle.std.specs.List.{slice_get};
 ghost use Rattle.blz_model.specs.Part.{Gives};
 ghost use Rattle.blz_entry.specs.Marks.{or_invalid};
 ghost use Rattle.blz_line.specs.Lookups.{location_view};
@@ -143,6 +144,12 @@ pub fn location_at<'b>(
     }
 }
 
+fn call_at(calls: &[InlinedFunction], number: usize) -> Option<InlinedFunction>
+    ensures { result ≡ slice_get calls.now number }
+{
+    calls.get(number).copied()
+}
+
 /// Some calls of a list by their numbers.
 fn chosen(
     alloc: Global,
@@ -153,10 +160,10 @@ fn chosen(
 {
     let mut some = Vec::new(alloc);
     for number in numbers {
-        let Some(call) = calls.get(*number) else {
-            return Err(invalid("a call has no such number"));
-        };
-        some.push(*call)?;
+        match call_at(calls, *number) {
+            Some(call) => some.push(call)?,
+            None => return Err(invalid("a call has no such number")),
+        }
     }
     Ok(some)
 }

@@ -16,20 +16,22 @@ ghost use Rattle.blz_index.specs.UnitSites.{location_at, inlined_at};
 ghost use Rattle.blz_index.specs.UnitTables.{units_of};
 ghost use Rattle.blz_index.specs.UnitsWarm.{units_table, announced_ordered, units_prepared, functions_kept, kept_function, UnitsFit, UnitsGrow, AreCold, LooksFew};
 
+use crate::cold::cold_caches;
 use crate::dwarf::Dwarf;
-use crate::fault::invalid;
 use crate::functions::{Function, Functions};
 use crate::inlined_functions::InlinedFunctions;
+use crate::reader::Reader;
 use crate::sites::InlinedSites;
 use crate::unit_caches::Caches;
+use crate::unit_looks;
 use crate::unit_table::UnitTable;
-use blz_bytes::{Orders, Steps};
-use blz_entry::Texts;
+use blz_bytes::Orders;
 use blz_error::Result;
 use blz_line::{Lines, Location};
 use blz_model::SrcLang;
 use std::alloc::{AllocError, Global};
-use std::sync::ledger::Ledger;
+use std::marker::Brand;
+use std::sync::ledger::Blank;
 
 /// The units of a file, each known by its number. What was read of them is kept, as places and numbers.
 #[derive(Drop)]
@@ -51,7 +53,13 @@ impl Units {
         ensures pairs_stay { O.pair_places orders.new ≡ O.pair_places orders.old }
         ensures names_stay { O.name_places orders.new ≡ O.name_places orders.old }
     {
-        Err(invalid("the units are not read yet"))
+        let table = UnitTable::read(alloc, orders, dwarf)?;
+        let caches = cold_caches(alloc, table.kept.len(), table.sups.len())?;
+        Ok(Units {
+            table,
+            caches,
+            prepared: false,
+        })
     }
 
     /// How many units are kept.
@@ -77,7 +85,12 @@ impl Units {
         ensures prepared { units_prepared self.new ≡ units_prepared self.old }
         ensures grows { (told : Told) → UnitsGrow told self.old self.new }
     {
-        Err(invalid("the units are not read yet"))
+        let reader = Reader {
+            alloc,
+            dwarf,
+            table: &self.table,
+        };
+        reader.language(&mut self.caches, unit)
     }
 
     /// The functions of a unit. InvalidDwarf exactly where the unit they are read from cannot be built, or one of its
@@ -94,7 +107,13 @@ impl Units {
         requires there { unit < length (units_table self.old).kept }
         ensures value { Gives (λ x. lists_view x.now) result (or_invalid (unit_functions (files_view dwarf.now) (units_table self.old) unit)) }
     {
-        Err(invalid("the units are not read yet"))
+        let reader = Reader {
+            alloc,
+            dwarf,
+            table: &self.table,
+        };
+        reader.fill_functions(orders, &mut self.caches, unit)?;
+        unit_looks::functions_of(self.caches.units.as_slice(), unit)
     }
 
     /// The lines of a unit; None exactly where it has no line program. InvalidDwarf exactly where the unit cannot be
@@ -111,7 +130,16 @@ impl Units {
         requires there { unit < length (units_table self.old).kept }
         ensures value { Gives (λ o. option_map (λ l. l.now.table) o) result (or_invalid (unit_lines (files_view dwarf.now) (units_table self.old) unit)) }
     {
-        Err(invalid("the units are not read yet"))
+        let reader = Reader {
+            alloc,
+            dwarf,
+            table: &self.table,
+        };
+        reader.fill_lines(orders, &mut self.caches, unit)?;
+        match unit_looks::lines_of(self.caches.units.as_slice(), unit)? {
+            Some(lines) => Ok(Some(lines)),
+            None => Ok(None),
+        }
     }
 
     /// The inlined calls of a function of a unit. InvalidDwarf exactly where the functions of the unit have no value, an
@@ -129,7 +157,13 @@ impl Units {
         requires there { unit < length (units_table self.old).kept }
         ensures value { Gives (λ x. calls_view x.now) result (or_invalid (function_calls (files_view dwarf.now) (units_table self.old) unit function)) }
     {
-        Err(invalid("the units are not read yet"))
+        let reader = Reader {
+            alloc,
+            dwarf,
+            table: &self.table,
+        };
+        reader.fill_calls(orders, &mut self.caches, unit, function)?;
+        unit_looks::calls_of(self.caches.units.as_slice(), unit, function)
     }
 
     /// The function of an address, by the numbers of its unit and of the function there: of the units that announce the
@@ -152,7 +186,12 @@ impl Units {
         ensures pairs_stay { O.pair_places orders.new ≡ O.pair_places orders.old }
         ensures names_stay { O.name_places orders.new ≡ O.name_places orders.old }
     {
-        Err(invalid("the units are not read yet"))
+        let reader = Reader {
+            alloc,
+            dwarf,
+            table: &self.table,
+        };
+        reader.find_function::<O, Brand>(orders, &mut self.caches, probe, Blank::new(1))
     }
 
     /// The place of an address in the sources: of the units that announce the address, greatest begin first, the first
@@ -174,7 +213,12 @@ impl Units {
         ensures pairs_stay { O.pair_places orders.new ≡ O.pair_places orders.old }
         ensures names_stay { O.name_places orders.new ≡ O.name_places orders.old }
     {
-        Err(invalid("the units are not read yet"))
+        let reader = Reader {
+            alloc,
+            dwarf,
+            table: &self.table,
+        };
+        reader.find_location::<O, Brand>(orders, &mut self.caches, probe, Blank::new(1))
     }
 
     /// The inlined calls of a function of a unit that cover an address, the outermost first, each with its name and the
@@ -199,7 +243,12 @@ impl Units {
         ensures pairs_stay { O.pair_places orders.new ≡ O.pair_places orders.old }
         ensures names_stay { O.name_places orders.new ≡ O.name_places orders.old }
     {
-        Err(invalid("the units are not read yet"))
+        let reader = Reader {
+            alloc,
+            dwarf,
+            table: &self.table,
+        };
+        reader.find_inlined(orders, &mut self.caches, unit, function, probe)
     }
 
     /// A function of a unit by its number; Some exactly where the functions of the unit are kept, and the number is among
@@ -207,7 +256,10 @@ impl Units {
     pub fn function(&self, unit: usize, function: usize) -> Option<&Function>
         ensures { option_map (λ f. f.now) result ≡ kept_function self.now unit function }
     {
-        None
+        match unit_looks::functions_of(self.caches.units.as_slice(), unit) {
+            Ok(functions) => functions.functions().get(function),
+            Err(_) => None,
+        }
     }
 
     /// Puts each part of each unit into its cache, as its value or its mark's kind, for the prepared calls. Only want of
@@ -227,7 +279,14 @@ impl Units {
         ensures pairs_stay { O.pair_places orders.new ≡ O.pair_places orders.old }
         ensures names_stay { O.name_places orders.new ≡ O.name_places orders.old }
     {
-        Err(AllocError)
+        let reader = Reader {
+            alloc,
+            dwarf,
+            table: &self.table,
+        };
+        reader.fill_all(orders, &mut self.caches)?;
+        self.prepared = true;
+        Ok(())
     }
 
     /// Whether `prepare` has filled each cache.
@@ -235,42 +294,5 @@ impl Units {
         ensures { result ≡ units_prepared self.now }
     {
         self.prepared
-    }
-
-    /// The function of an address, as `find_function` has it, from what is kept: it takes no memory. It looks at no more
-    /// entries than two halvings need, where no two ranges share an address and both orders were accepted.
-    pub fn find_function_prepared<L: Ledger>(
-        &self,
-        probe: u64,
-        steps: &mut Steps<L>,
-    ) -> Result<Option<(usize, usize)>>
-        requires { units_prepared self.now ≡ true }
-        ensures value { (f : Files) → UnitsFit f self.now → Exactly (λ r. r) result (or_invalid (function_at f (units_table self.now) probe)) }
-        ensures there { IfOk result (λ r. IfSome r (λ r. functions_kept self.now r.0 ≡ true)) }
-        ensures cost { LooksFew self.now result (steps.new - steps.old) }
-    {
-        Err(invalid("the units are not read yet"))
-    }
-
-    /// The language of a unit, as `language` has it, from what is kept: it takes no memory.
-    pub fn language_prepared(&self, unit: usize) -> Result<SrcLang>
-        requires prepared { units_prepared self.now ≡ true }
-        requires there { unit < length (units_table self.now).kept }
-        ensures { (f : Files) → UnitsFit f self.now → Exactly (λ l. l) result (or_invalid (unit_language f (units_table self.now) unit)) }
-    {
-        Err(invalid("the units are not read yet"))
-    }
-
-    /// The place of an address in the sources, as `find_location` has it, from what is kept: it takes no memory.
-    pub fn find_location_prepared<'b, L: Ledger>(
-        &self,
-        texts: &Texts<'b>,
-        probe: u64,
-        steps: &mut Steps<L>,
-    ) -> Result<Option<Location<'b>>>
-        requires { units_prepared self.now ≡ true }
-        ensures { (f : Files) → UnitsFit f self.now → Exactly (λ o. option_map location_view o) result (location_at texts.now f (units_table self.now) probe) }
-    {
-        Err(invalid("the units are not read yet"))
     }
 }

@@ -3,6 +3,7 @@ use Rattle.std.proofs.lemmas.Result.{err_from_is_err_and}
 use Rattle.blz_entry.specs.Marks.{or_invalid}
 use Rattle.blz_entry.proofs.Marked.{marks}
 use Rattle.blz_model.specs.Part.{Good}
+use Rattle.blz_index.specs.Linkage.{refer_by}
 use Rattle.blz_index.specs.CallTree.{CallLists}
 use Rattle.blz_index.specs.Opened.{open_view}
 use Rattle.blz_index.proofs.CallEntry.{begins, refused, calls_outside, calls_over, calls_stuck, calls_zero, calls_unread, calls_leaf, calls_inside, not_true, not_false, skipped_pending}
@@ -52,4 +53,4 @@ pub returns-clause-value : goal.returns-clause-value
 returns-clause-value g c =
     let u = open_view c.args.unit.now in
     let b = begins u c.args.place c.in_ok-entries.entries c.in_ok-entries.ensures in
-    rw (calls_inside (g.F.Links.refer c.args.links.now) u c.args.place c.in_ok-entries.entries b c.next_entry.new.self c.skip_attributes.new.self c.in-Ok-Some.entry (rw c.in-Ok-Some.field-0-is at c.in-Ok-Some.ensures.value) c.in-Ok.ensures.value c.if-entry-eq0.false (not_false c.in-Ok-Some.entry.children c.if-not-entry.false)) c.read_below.ensures.value
+    rw (calls_inside (refer_by (g.F.Links.linkage c.args.links.now)) u c.args.place c.in_ok-entries.entries b c.next_entry.new.self c.skip_attributes.new.self c.in-Ok-Some.entry (rw c.in-Ok-Some.field-0-is at c.in-Ok-Some.ensures.value) c.in-Ok.ensures.value c.if-entry-eq0.false (not_false c.in-Ok-Some.entry.children c.if-not-entry.false)) c.read_below.ensures.value

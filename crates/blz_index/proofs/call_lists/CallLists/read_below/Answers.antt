@@ -3,6 +3,7 @@ use Rattle.std.proofs.lemmas.Bool.{ltb-true}
 use Rattle.blz_model.specs.Reads.{◌>>=◌}
 use Rattle.blz_entry.specs.Marks.{or_invalid}
 use Rattle.blz_entry.proofs.Marked.{marks, marks_on, good_some}
+use Rattle.blz_index.specs.Linkage.{refer_by}
 use Rattle.blz_index.specs.declared.levels.Above.{Above}
 use Rattle.blz_index.specs.CallTree.{CallLists}
 use Rattle.blz_index.specs.CallWalk.{levels_behind}
@@ -19,7 +20,7 @@ loop-entries-init g c = record {
   pending = c.requires.pending;
   source = c.requires.source;
   same = refl;
-  rest = rw (c.new-lists.ensures, c.in_ok-levels.ensures) (rest_start (g.F.Links.refer c.args.links.now) (open_view c.args.unit.now) c.args.entries.now.place);
+  rest = rw (c.new-lists.ensures, c.in_ok-levels.ensures) (rest_start (refer_by (g.F.Links.linkage c.args.links.now)) (open_view c.args.unit.now) c.args.entries.now.place);
 }
 
 pub with_entry-requires-clause-met : goal.with_entry-requires-clause-met
@@ -40,7 +41,7 @@ returns-in-Err-clause-value g c =
 pub returns-in-Err-with_entry-clause-value : goal.returns-in-Err-with_entry-clause-value
 returns-in-Err-with_entry-clause-value g c =
     let k = c.loop-entries.invariant in
-    let refer = g.F.Links.refer c.args.links.now in
+    let refer = refer_by (g.F.Links.linkage c.args.links.now) in
     let u = open_view c.args.unit.now in
     let levels : List Above = c.loop-entries.levels in
     let lt : 0 < length levels = ltb-true 0 (length levels) (sym c.is_open.ensures ∙ c.loop-entries-test.true) in
@@ -51,7 +52,7 @@ returns-in-Err-with_entry-clause-value g c =
 pub loop-entries-preserved : goal.loop-entries-preserved
 loop-entries-preserved g c =
     let k = c.loop-entries.invariant in
-    let refer = g.F.Links.refer c.args.links.now in
+    let refer = refer_by (g.F.Links.linkage c.args.links.now) in
     let u = open_view c.args.unit.now in
     let levels : List Above = c.loop-entries.levels in
     let lt : 0 < length levels = ltb-true 0 (length levels) (sym c.is_open.ensures ∙ c.loop-entries-test.true) in

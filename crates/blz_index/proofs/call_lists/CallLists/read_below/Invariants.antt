@@ -1,5 +1,6 @@
 use Rattle.std.proofs.Common.{◌≡◌, ◌-◌, []}
 use Rattle.blz_model.specs.Reads.{◌>>=◌}
+use Rattle.blz_index.specs.Linkage.{refer_by}
 use Rattle.blz_index.specs.CallTree.{calls_from}
 use Rattle.blz_index.specs.Leaves.{source_in}
 use Rattle.blz_index.specs.Opened.{open_view}
@@ -10,8 +11,8 @@ abbrev pub invariant-loop-entries : goal.invariant-loop-entries
 invariant-loop-entries g l = record {
   pending : l.entries.pending ≡ [];
   source : l.entries.source ≡ source_in (open_view l.unit);
-  same : g.F.Links.refer l.links ≡ g.F.Links.refer l.fn.links;
-  rest : (calls_rest (g.F.Links.refer l.fn.links) (open_view l.unit) l.levels (l.lists, l.entries.place) >>= first) ≡ calls_from (g.F.Links.refer l.fn.links) (open_view l.unit) l.fn.entries.place;
+  same : g.F.Links.linkage l.links ≡ g.F.Links.linkage l.fn.links;
+  rest : (calls_rest (refer_by (g.F.Links.linkage l.fn.links)) (open_view l.unit) l.levels (l.lists, l.entries.place) >>= first) ≡ calls_from (refer_by (g.F.Links.linkage l.fn.links)) (open_view l.unit) l.fn.entries.place;
 }
 
 abbrev pub decreases-loop-entries : goal.decreases-loop-entries

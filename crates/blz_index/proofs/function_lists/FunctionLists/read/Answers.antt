@@ -2,6 +2,7 @@ use Rattle.std.proofs.Common.{sym, ap, ◌∙◌, Option, ℕ}
 use Rattle.blz_model.specs.Reads.{◌>>=◌}
 use Rattle.blz_entry.specs.Marks.{or_invalid}
 use Rattle.blz_entry.proofs.Marked.{marks, marks_on, good_some}
+use Rattle.blz_index.specs.Linkage.{refer_by}
 use Rattle.blz_index.specs.FunctionList.{Lists}
 use Rattle.blz_index.specs.Opened.{open_view}
 use Rattle.blz_index.proofs.FunctionSteps.{one_more, no_more, none_next, lists_behind}
@@ -22,7 +23,7 @@ with_entry-requires-clause-met g c = met_specs (open_view c.args.unit.now) c.loo
 pub returns-in-Err-with_entry-clause-value : goal.returns-in-Err-with_entry-clause-value
 returns-in-Err-with_entry-clause-value g c =
     let k = c.loop-entry.invariant in
-    let refer = g.F.Links.refer c.args.links.now in
+    let refer = refer_by (g.F.Links.linkage c.args.links.now) in
     let u = open_view c.args.unit.now in
     let step = one_more refer u c.loop-entry.lists c.loop-entry.entries c.next_entry.new.self _ k.pending k.source (rw c.in-Ok-Some.field-0-is at c.in-Ok-Some.ensures.value) in
     marks_on _ _ _ c.in-Err-with_entry.ensures.value (λ fails. sym k.rest ∙ (step ∙ ap (λ (o : Option (Lists × ℕ)). o >>= lists_behind refer u c.next_entry.new.self.depth) (rw k.same at fails)))
@@ -30,7 +31,7 @@ returns-in-Err-with_entry-clause-value g c =
 pub loop-entry-preserved : goal.loop-entry-preserved
 loop-entry-preserved g c =
     let k = c.loop-entry.invariant in
-    let refer = g.F.Links.refer c.args.links.now in
+    let refer = refer_by (g.F.Links.linkage c.args.links.now) in
     let u = open_view c.args.unit.now in
     let step = one_more refer u c.loop-entry.lists c.loop-entry.entries c.next_entry.new.self _ k.pending k.source (rw c.in-Ok-Some.field-0-is at c.in-Ok-Some.ensures.value) in
     let met = rw k.same at (good_some {A = Lists × ℕ} _ _ c.in-Ok.ensures.value) in

@@ -1,4 +1,5 @@
 use Rattle.std.proofs.Common.{◌≡◌, ◌-◌, []}
+use Rattle.blz_index.specs.Linkage.{refer_by}
 use Rattle.blz_index.specs.FunctionList.{lists_from, unit_lists}
 use Rattle.blz_index.specs.Leaves.{source_in}
 use Rattle.blz_index.specs.Opened.{open_view}
@@ -8,8 +9,8 @@ abbrev pub invariant-loop-entry : goal.invariant-loop-entry
 invariant-loop-entry g l = record {
   pending : l.entries.pending ≡ [];
   source : l.entries.source ≡ source_in (open_view l.unit);
-  same : g.F.Links.refer l.links ≡ g.F.Links.refer l.fn.links;
-  rest : lists_from (g.F.Links.refer l.fn.links) (open_view l.unit) l.lists l.entries.depth l.entries.place ≡ unit_lists (g.F.Links.refer l.fn.links) (open_view l.unit);
+  same : g.F.Links.linkage l.links ≡ g.F.Links.linkage l.fn.links;
+  rest : lists_from (refer_by (g.F.Links.linkage l.fn.links)) (open_view l.unit) l.lists l.entries.depth l.entries.place ≡ unit_lists (refer_by (g.F.Links.linkage l.fn.links)) (open_view l.unit);
 }
 
 abbrev pub decreases-loop-entry : goal.decreases-loop-entry

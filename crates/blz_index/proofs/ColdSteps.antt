@@ -1,0 +1,58 @@
+-- Caches of which nothing is kept fit any file.
+use Rattle.std.proofs.Common.{◌≡◌, ℕ, zero, suc, List, [], ◌∷◌, ◌++◌, length, Option, Some, None, refl, ◌∙◌}
+use Rattle.std.specs.List.{slice_get}
+use Rattle.blz_model.specs.Kept.{Kept}
+use Rattle.blz_model.specs.Part.{Part}
+use Rattle.blz_model.specs.declared.cache.Cache.{Cache}
+use Rattle.blz_model.specs.declared.cache.Cache.TheVariants.{Empty}
+use Rattle.blz_entry.specs.Marks.{or_invalid}
+use Rattle.blz_entry.specs.declared.units.UnitHeader.{UnitHeader}
+use Rattle.blz_index.specs.declared.built_unit.BuiltUnit.{BuiltUnit}
+use Rattle.blz_index.specs.declared.built_units.Side.{Side}
+use Rattle.blz_index.specs.declared.built_units.Side.TheVariants.{File, Sup}
+use Rattle.blz_index.specs.declared.unit_caches.UnitCaches.{UnitCaches}
+use Rattle.blz_index.specs.declared.unit_caches.Caches.{Caches}
+use Rattle.blz_index.specs.BuiltUnits.{Files, built_view, BuiltFits}
+use Rattle.blz_index.specs.Cold.{NothingKept, HasNothing, AreEmpty, IsCold}
+use Rattle.blz_index.specs.KeptParts.{or_empty, unit_root, unit_of, lists_view, lines_view, calls_view, kept_root, kept_functions, kept_lines, kept_calls, CachesFit, PartsFit, AllBuilt, BuiltFit, AllFit}
+use Rattle.blz_index.specs.UnitAnswers.{unit_functions, unit_lines, function_calls}
+use Rattle.blz_index.specs.UnitTables.{UnitTable}
+
+-- an empty cache behind others changes nothing
+pub push_empty : {X : Type 0} (xs : List (Cache X)) (k : ℕ) → or_empty (slice_get (xs ++ Empty ∷ []) k) ≡ or_empty (slice_get xs k)
+push_empty [] zero = refl
+push_empty [] (suc k) = refl
+push_empty (x ∷ xs) zero = refl
+push_empty (x ∷ xs) (suc k) = push_empty xs k
+
+pub push_cold : (P : Option UnitCaches → Type 0) (xs : List UnitCaches) (x : UnitCaches) → P None → P (Some x) → ((k : ℕ) → P (slice_get xs k)) → (k : ℕ) → P (slice_get (xs ++ x ∷ []) k)
+push_cold P [] x none some each zero = some
+push_cold P [] x none some each (suc k) = none
+push_cold P (y ∷ xs) x none some each zero = each zero
+push_cold P (y ∷ xs) x none some each (suc k) = push_cold P xs x none some (λ i. each (suc i)) k
+
+pub nothing : HasNothing None
+nothing = record { root = refl; functions = refl; lines = refl; calls = λ n. refl }
+
+any_kept : {X A : Type 0} (fits : X → Type 0) (v : X → A) (c : Cache X) (p : Part A) → c ≡ Empty → Kept fits v c p
+any_kept fits v c p e = rw e tt
+
+all_cold : (f : Files) (side : Side) (headers : List UnitHeader) (caches : List (Cache BuiltUnit)) → length caches ≡ length headers → NothingKept caches → AllBuilt f side headers caches
+all_cold f side headers caches same empty = record {
+  same = same;
+  each = λ k. any_kept (BuiltFits f) (built_view f) (or_empty (slice_get caches k)) (or_invalid (unit_of f side headers k)) (empty k);
+}
+
+unit_cold : (f : Files) (t : UnitTable) (k : ℕ) (o : Option UnitCaches) → HasNothing o → CachesFit f t k o
+unit_cold f t k o cold = record {
+  root = any_kept (λ _. Unit {0}) (λ r. r) (kept_root o) (or_invalid (unit_root f t k)) cold.root;
+  functions = any_kept (λ _. Unit {0}) lists_view (kept_functions o) (or_invalid (unit_functions f t k)) cold.functions;
+  lines = any_kept (λ _. Unit {0}) lines_view (kept_lines o) (or_invalid (unit_lines f t k)) cold.lines;
+  calls = λ n. any_kept (λ _. Unit {0}) calls_view (kept_calls o n) (or_invalid (function_calls f t k n)) (cold.calls n);
+}
+
+pub cold_fits : (f : Files) (t : UnitTable) (kept sups : ℕ) (c : Caches) → kept ≡ length t.kept → sups ≡ length t.sups → IsCold kept sups c → AllFit f t c
+cold_fits f t kept sups c k s cold = record {
+  built = record { kept = all_cold f File t.kept c.built.kept.items (cold.kept_count ∙ k) cold.kept_empty; sups = all_cold f Sup t.sups c.built.sups.items (cold.sup_count ∙ s) cold.sups_empty };
+  units = record { same = cold.unit_count ∙ k; each = λ n. unit_cold f t n (slice_get c.units.items n) (cold.units_empty n) };
+}

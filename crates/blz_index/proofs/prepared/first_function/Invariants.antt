@@ -1,0 +1,9 @@
+use Rattle.std.proofs.Common.{◌≡◌, length}
+use Rattle.blz_index.specs.KeptAnswers.{first_kept}
+use Rattle.blz_index.proofs.prepared.first_function.Given as goal
+
+abbrev pub invariant-loop-number : goal.invariant-loop-number
+invariant-loop-number g l = first_kept l.units l.probe l.announcing.left ≡ first_kept l.units l.probe l.fn.announcing.left
+
+abbrev pub decreases-loop-number : goal.decreases-loop-number
+decreases-loop-number g l = length l.announcing.left

@@ -1,0 +1,12 @@
+use Rattle.blz_index.specs.declared.built_units.Side.TheVariants.{File}
+use Rattle.blz_index.specs.Readers.{reader_files, reader_table}
+use Rattle.blz_index.specs.UnitAnswers.{read_unit}
+use Rattle.blz_index.proofs.BuiltSteps.{all_put, back_is}
+use Rattle.blz_index.proofs.reader.Reader.put_unit.Goals as goal
+
+pub returns : goal.returns
+unfolding read_unit
+returns c =
+    let f = reader_files c.args.self.now in
+    let t = reader_table c.args.self.now in
+    record { kept = rw c.put.ensures (all_put f File t.kept c.args.built.now.kept.items c.args.number c.args.unit (back_is f c.args.unit (read_unit f t c.args.number) c.requires.unit) c.requires.fits.kept); sups = c.requires.fits.sups }

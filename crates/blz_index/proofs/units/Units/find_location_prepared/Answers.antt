@@ -1,0 +1,14 @@
+use Rattle.std.specs.Option.{option_map}
+use Rattle.blz_line.specs.Lookups.{location_view}
+use Rattle.blz_index.specs.UnitSites.{location_at}
+use Rattle.blz_index.specs.UnitTables.{announcing}
+use Rattle.blz_index.specs.UnitsWarm.{units_table}
+use Rattle.blz_index.proofs.KeptTold.{first_line_is}
+use Rattle.blz_index.proofs.NeverFull.{line_exactly}
+use Rattle.blz_index.proofs.units.Units.find_location_prepared.Goals as goal
+
+pub returns : goal.returns
+unfolding location_at
+returns g c = λ f fits.
+    let u = c.args.self.now in
+    line_exactly c.args.texts.now f (units_table u) c.args.probe (announcing (units_table u) c.args.probe) c.first_location.result (rw (c.new-announcing.ensures, c.as_slice.ensures.value, first_line_is c.args.texts.now f (units_table u) u.caches.units.items c.args.probe (announcing (units_table u) c.args.probe) fits.caches.units (fits.full c.requires)) at c.first_location.ensures)

@@ -1,0 +1,153 @@
+//! Questions to units, whose parts are read when they are first asked for.
+ghost use Rattle.std.specs.Prelude.{◌≡◌, ◌<◌, true, false, map, Option, option_map, IfOk, IfSome};
+ghost use Rattle.blz_model.specs.Kept.{Kept};
+ghost use Rattle.blz_model.specs.Part.{Part, Gives, all_good};
+ghost use Rattle.blz_entry.specs.Marks.{or_invalid};
+ghost use Rattle.blz_line.specs.Lookups.{location_view};
+ghost use Rattle.blz_index.specs.BuiltUnits.{IsReadable};
+ghost use Rattle.blz_index.specs.Growing.{Told, UnitsGrowTo};
+ghost use Rattle.blz_index.specs.KeptParts.{functions_at, lacks_lines, AllFit};
+ghost use Rattle.blz_index.specs.Readers.{reader_files, reader_table};
+ghost use Rattle.blz_index.specs.SiteViews.{inlined_view};
+ghost use Rattle.blz_index.specs.UnitAnswers.{unit_language, unit_lines, best_function, function_at, covering_calls};
+ghost use Rattle.blz_index.specs.UnitSites.{line_in, location_at, call_name, call_site, inlined_by};
+ghost use Rattle.blz_index.specs.UnitsWarm.{is_value};
+
+use crate::fault::invalid;
+use crate::inlined_functions::InlinedFunction;
+use crate::reader::Reader;
+use crate::sites::InlinedSite;
+use crate::unit_caches::Caches;
+use crate::unit_looks;
+use crate::units_at::UnitsAt;
+use blz_bytes::{Orders, Steps};
+use blz_entry::{StrPlace, Texts};
+use blz_error::Result;
+use blz_line::Location;
+use blz_model::SrcLang;
+use std::sync::ledger::{Blank, Ledger};
+
+impl<'r, 's, 'b> Reader<'r, 's, 'b> {
+    /// The language of a unit.
+    pub fn language(&self, caches: &mut Caches, number: usize) -> Result<SrcLang>
+        requires readable { IsReadable self.now.dwarf.now }
+        requires fits { AllFit (reader_files self.now) (reader_table self.now) caches.old }
+        ensures value { Gives (λ l. l) result (or_invalid (unit_language (reader_files self.now) (reader_table self.now) number)) }
+        ensures fits { AllFit (reader_files self.now) (reader_table self.now) caches.new }
+        ensures grows { (told : Told) → UnitsGrowTo told caches.old.units.items caches.new.units.items }
+    {
+        self.fill_root(caches, number)?;
+        unit_looks::language_of(caches.units.as_slice(), number)
+    }
+
+    /// The number of the function of an address in a unit.
+    fn function_in<O: Orders, L: Ledger>(
+        &self,
+        orders: &mut O,
+        caches: &mut Caches,
+        number: usize,
+        probe: u64,
+        steps: &mut Steps<L>,
+    ) -> Result<Option<usize>>
+        requires readable { IsReadable self.now.dwarf.now }
+        requires fits { AllFit (reader_files self.now) (reader_table self.now) caches.old }
+        ensures value { Gives (λ n. n) result (or_invalid (best_function (reader_files self.now) (reader_table self.now) probe number)) }
+        ensures there { IfOk result (λ _. is_value (functions_at caches.new.units.items number) ≡ true) }
+        ensures fits { AllFit (reader_files self.now) (reader_table self.now) caches.new }
+        ensures grows { UnitsGrowTo (O.pair_places orders.old) caches.old.units.items caches.new.units.items }
+        ensures pairs_stay { O.pair_places orders.new ≡ O.pair_places orders.old }
+        ensures names_stay { O.name_places orders.new ≡ O.name_places orders.old }
+    {
+        self.fill_functions(orders, caches, number)?;
+        unit_looks::function_at(caches.units.as_slice(), number, probe, steps)
+    }
+
+    /// The function of an address, of the units that announce it.
+    pub fn find_function<O: Orders, L: Ledger>(
+        &self,
+        orders: &mut O,
+        caches: &mut Caches,
+        probe: u64,
+        blank: Blank,
+    ) -> Result<Option<(usize, usize)>>
+        requires name { blank.name ≡ L.name }
+        requires parts { blank.parts ≡ L.parts }
+        requires some { 0 < blank.parts }
+        requires readable { IsReadable self.now.dwarf.now }
+        requires fits { AllFit (reader_files self.now) (reader_table self.now) caches.old }
+        ensures value { Gives (λ r. r) result (or_invalid (function_at (reader_files self.now) (reader_table self.now) probe)) }
+        ensures there { IfOk result (λ r. IfSome r (λ r. is_value (functions_at caches.new.units.items r.0) ≡ true)) }
+        ensures fits { AllFit (reader_files self.now) (reader_table self.now) caches.new }
+        ensures grows { UnitsGrowTo (O.pair_places orders.old) caches.old.units.items caches.new.units.items }
+        ensures pairs_stay { O.pair_places orders.new ≡ O.pair_places orders.old }
+        ensures names_stay { O.name_places orders.new ≡ O.name_places orders.old }
+    {
+        let mut steps: Steps<L> = Steps::new(blank);
+        let mut units = UnitsAt::new(&self.table.announced, probe);
+        loop {
+            let number = match units.next_unit(&mut steps) {
+                Some(number) => number,
+                None => return Ok(None),
+            };
+            match self.function_in(orders, caches, number, probe, &mut steps) {
+                Ok(Some(function)) => return Ok(Some((number, function))),
+                Ok(None) => {},
+                Err(fault) => return Err(fault),
+            }
+        }
+    }
+
+    /// The place of an address in the sources, by the lines of a unit.
+    fn location_in<O: Orders>(
+        &self,
+        orders: &mut O,
+        caches: &mut Caches,
+        number: usize,
+        probe: u64,
+    ) -> Result<Option<Location<'b>>>
+        requires readable { IsReadable self.now.dwarf.now }
+        requires fits { AllFit (reader_files self.now) (reader_table self.now) caches.old }
+        ensures value { Gives (λ o. option_map location_view o) result (line_in self.now.dwarf.now.texts (reader_files self.now) (reader_table self.now) probe number) }
+        ensures fits { AllFit (reader_files self.now) (reader_table self.now) caches.new }
+        ensures grows { UnitsGrowTo (O.pair_places orders.old) caches.old.units.items caches.new.units.items }
+        ensures pairs_stay { O.pair_places orders.new ≡ O.pair_places orders.old }
+        ensures names_stay { O.name_places orders.new ≡ O.name_places orders.old }
+    {
+        self.fill_lines(orders, caches, number)?;
+        unit_looks::location_at(caches.units.as_slice(), &self.dwarf.texts, number, probe)
+    }
+
+    /// The place of an address in the sources, of the units that announce it.
+    pub fn find_location<O: Orders, L: Ledger>(
+        &self,
+        orders: &mut O,
+        caches: &mut Caches,
+        probe: u64,
+        blank: Blank,
+    ) -> Result<Option<Location<'b>>>
+        requires name { blank.name ≡ L.name }
+        requires parts { blank.parts ≡ L.parts }
+        requires some { 0 < blank.parts }
+        requires readable { IsReadable self.now.dwarf.now }
+        requires fits { AllFit (reader_files self.now) (reader_table self.now) caches.old }
+        ensures value { Gives (λ o. option_map location_view o) result (location_at self.now.dwarf.now.texts (reader_files self.now) (reader_table self.now) probe) }
+        ensures fits { AllFit (reader_files self.now) (reader_table self.now) caches.new }
+        ensures grows { UnitsGrowTo (O.pair_places orders.old) caches.old.units.items caches.new.units.items }
+        ensures pairs_stay { O.pair_places orders.new ≡ O.pair_places orders.old }
+        ensures names_stay { O.name_places orders.new ≡ O.name_places orders.old }
+    {
+        let mut steps: Steps<L> = Steps::new(blank);
+        let mut units = UnitsAt::new(&self.table.announced, probe);
+        loop {
+            let number = match units.next_unit(&mut steps) {
+                Some(number) => number,
+                None => return Ok(None),
+            };
+            match self.location_in(orders, caches, number, probe) {
+                Ok(Some(location)) => return Ok(Some(location)),
+                Ok(None) => {},
+                Err(fault) => return Err(fault),
+            }
+        }
+    }
+}

@@ -1,0 +1,207 @@
+//! The parts of a unit, as they are read.
+ghost use Rattle.std.specs.Prelude.{◌≡◌, ◌≤◌, true, false, List, Option, map, IfOk};
+ghost use Rattle.std.specs.List.{slice_get};
+ghost use Rattle.blz_model.specs.Part.{Gives};
+ghost use Rattle.blz_model.specs.Kept.{Kept, is_kept};
+ghost use Rattle.blz_model.specs.declared.cache.Cache.TheVariants.{Empty};
+ghost use Rattle.blz_entry.specs.Marks.{or_invalid};
+ghost use Rattle.blz_index.specs.BuiltUnits.{built, built_view, has_id, reading, files_view, BuiltFits, IsReadable};
+ghost use Rattle.blz_index.specs.Growing.{LinesOrdered};
+ghost use Rattle.blz_index.specs.KeptParts.{lines_view, unit_root, BuiltFit, IsBuilt, IsFilled};
+ghost use Rattle.blz_index.specs.Readers.{reader_files, reader_table};
+ghost use Rattle.blz_index.specs.UnitAnswers.{read_unit, lists_in, calls_in, place_calls, unit_functions, unit_lines};
+
+use crate::built_unit::BuiltUnit;
+use crate::built_units::{BuiltUnits, Side, look, put, take};
+use crate::call_lists::CallLists;
+use crate::dwarf::{Dwarf, Origin};
+use crate::fault::invalid;
+use crate::function_lists::FunctionLists;
+use crate::lent::lent;
+use crate::reader::Reader;
+use crate::references::{References, open_in};
+use blz_bytes::Orders;
+use blz_entry::{UnitHeader, UnitKind, UnitRoot};
+use blz_error::{Error, Result, Str};
+use blz_line::Lines;
+use blz_model::Cache;
+use std::mem;
+
+/// Whether the functions of a unit may stand in a package.
+#[tactic(auto, unfolding(crate::specs::BuiltUnits::reading, crate::specs::BuiltUnits::pieces_of))]
+fn may_be_split(dwarf: &Dwarf<'_, '_>, header: &UnitHeader) -> bool
+    ensures { result ≡ false → reading (files_view dwarf.now) header.now ≡ built (files_view dwarf.now).main header.now }
+{
+    match header.kind {
+        UnitKind::Skeleton | UnitKind::SplitCompile => dwarf.package.is_some(),
+        _ => false,
+    }
+}
+
+impl<'r, 's, 'b> Reader<'r, 's, 'b> {
+    /// Takes a unit out of those that are built.
+    fn take_unit(&self, built: &mut BuiltUnits, number: usize) -> Cache<BuiltUnit>
+        requires fits { BuiltFit (reader_files self.now) (reader_table self.now) built.old }
+        requires filled { IsFilled (slice_get built.old.kept.items number) }
+        ensures fits { BuiltFit (reader_files self.now) (reader_table self.now) built.new }
+        ensures taken { IsBuilt (reader_files self.now) result (read_unit (reader_files self.now) (reader_table self.now) number) }
+    {
+        take(&mut built.kept, number)
+    }
+
+    /// Puts a unit, or its mark, back among those that are built.
+    fn put_unit(&self, built: &mut BuiltUnits, number: usize, unit: Cache<BuiltUnit>)
+        requires fits { BuiltFit (reader_files self.now) (reader_table self.now) built.old }
+        requires unit { IsBuilt (reader_files self.now) unit (read_unit (reader_files self.now) (reader_table self.now) number) }
+        ensures { BuiltFit (reader_files self.now) (reader_table self.now) built.new }
+    {
+        put(&mut built.kept, number, unit);
+    }
+
+    /// No units; takes no memory.
+    fn no_units(&self) -> BuiltUnits {
+        BuiltUnits {
+            kept: Vec::new(self.alloc),
+            sups: Vec::new(self.alloc),
+        }
+    }
+
+    /// The functions of a unit that is built, which is none of those that are kept meanwhile.
+    fn functions_of(
+        &self,
+        built: &mut BuiltUnits,
+        unit: &BuiltUnit,
+    ) -> Result<FunctionLists>
+        requires readable { IsReadable self.now.dwarf.now }
+        requires fits { BuiltFit (reader_files self.now) (reader_table self.now) built.old }
+        requires unit { BuiltFits (reader_files self.now) unit.now }
+        ensures value { Gives (λ l. l) result (or_invalid (lists_in (reader_files self.now) (reader_table self.now) (built_view (reader_files self.now) unit.now))) }
+        ensures fits { BuiltFit (reader_files self.now) (reader_table self.now) built.new }
+    {
+        let dwarf = lent(&*self.dwarf);
+        let open = open_in(&*unit, &dwarf);
+        let others = mem::replace(built, self.no_units());
+        let mut links = References::new(self.alloc, dwarf, &*self.table, open, others);
+        let lists = FunctionLists::read(self.alloc, &open, &mut links);
+        *built = links.into_built();
+        lists
+    }
+
+    /// The calls of the function at a place of such a unit.
+    fn calls_of(
+        &self,
+        built: &mut BuiltUnits,
+        unit: &BuiltUnit,
+        place: usize,
+    ) -> Result<CallLists>
+        requires readable { IsReadable self.now.dwarf.now }
+        requires fits { BuiltFit (reader_files self.now) (reader_table self.now) built.old }
+        requires unit { BuiltFits (reader_files self.now) unit.now }
+        ensures value { Gives (λ l. l) result (or_invalid (calls_in (reader_files self.now) (reader_table self.now) place (built_view (reader_files self.now) unit.now))) }
+        ensures fits { BuiltFit (reader_files self.now) (reader_table self.now) built.new }
+    {
+        let dwarf = lent(&*self.dwarf);
+        let open = open_in(&*unit, &dwarf);
+        let others = mem::replace(built, self.no_units());
+        let mut links = References::new(self.alloc, dwarf, &*self.table, open, others);
+        let lists = CallLists::read(self.alloc, &open, &mut links, place);
+        *built = links.into_built();
+        lists
+    }
+
+    /// The functions of a kept unit.
+    #[tactic(auto, unfolding(crate::specs::UnitAnswers::unit_functions))]
+    pub fn read_functions(&self, built: &mut BuiltUnits, number: usize) -> Result<FunctionLists>
+        requires readable { IsReadable self.now.dwarf.now }
+        requires fits { BuiltFit (reader_files self.now) (reader_table self.now) built.old }
+        ensures value { Gives (λ l. l) result (or_invalid (unit_functions (reader_files self.now) (reader_table self.now) number)) }
+        ensures fits { BuiltFit (reader_files self.now) (reader_table self.now) built.new }
+    {
+        self.fill_unit(Side::File, built, number)?;
+        match self.take_unit(built, number) {
+            Cache::Value(unit) => {
+                let lists = self.functions_of(built, &unit);
+                self.put_unit(built, number, Cache::Value(unit));
+                lists
+            },
+            Cache::Mark(kind) => {
+                self.put_unit(built, number, Cache::Mark(kind));
+                Err(Error::new(kind, Str::fixed("unit")))
+            },
+            Cache::Empty => Err(invalid("a unit has no such number")),
+        }
+    }
+
+    /// The calls of the function at a place of a kept unit.
+    #[tactic(auto, unfolding(crate::specs::UnitAnswers::place_calls))]
+    pub fn read_calls(
+        &self,
+        built: &mut BuiltUnits,
+        number: usize,
+        place: usize,
+    ) -> Result<CallLists>
+        requires readable { IsReadable self.now.dwarf.now }
+        requires fits { BuiltFit (reader_files self.now) (reader_table self.now) built.old }
+        ensures value { Gives (λ l. l) result (or_invalid (place_calls (reader_files self.now) (reader_table self.now) number place)) }
+        ensures fits { BuiltFit (reader_files self.now) (reader_table self.now) built.new }
+    {
+        self.fill_unit(Side::File, built, number)?;
+        match self.take_unit(built, number) {
+            Cache::Value(unit) => {
+                let lists = self.calls_of(built, &unit, place);
+                self.put_unit(built, number, Cache::Value(unit));
+                lists
+            },
+            Cache::Mark(kind) => {
+                self.put_unit(built, number, Cache::Mark(kind));
+                Err(Error::new(kind, Str::fixed("unit")))
+            },
+            Cache::Empty => Err(invalid("a unit has no such number")),
+        }
+    }
+
+    /// The root of a kept unit itself.
+    #[tactic(auto, unfolding(crate::specs::UnitAnswers::main_unit))]
+    pub fn read_root(&self, built: &mut BuiltUnits, number: usize) -> Result<UnitRoot>
+        requires readable { IsReadable self.now.dwarf.now }
+        requires fits { BuiltFit (reader_files self.now) (reader_table self.now) built.old }
+        ensures value { Gives (λ r. r) result (or_invalid (unit_root (reader_files self.now) (reader_table self.now) number)) }
+        ensures fits { BuiltFit (reader_files self.now) (reader_table self.now) built.new }
+    {
+        let Some(header) = self.table.kept.get(number) else {
+            return Err(invalid("a unit has no such number"));
+        };
+        if may_be_split(self.dwarf, &header) {
+            let unit = BuiltUnit::of_file(self.alloc, self.dwarf, Origin::Main, &header)?;
+            return Ok(unit.root);
+        }
+        self.fill_unit(Side::File, built, number)?;
+        let unit = look(
+            self.dwarf,
+            Side::File,
+            &self.table.kept,
+            &built.kept,
+            number,
+        )?;
+        Ok(unit.root)
+    }
+
+    /// The lines of a kept unit, whose root is this.
+    pub fn read_lines<O: Orders>(
+        &self,
+        orders: &mut O,
+        number: usize,
+        root: &UnitRoot,
+    ) -> Result<Option<Lines>>
+        requires { unit_root (reader_files self.now) (reader_table self.now) number ≡ Some root.now }
+        ensures value { Gives lines_view result (or_invalid (unit_lines (reader_files self.now) (reader_table self.now) number)) }
+        ensures ordered { IfOk result (LinesOrdered (O.pair_places orders.old)) }
+        ensures pairs_stay { O.pair_places orders.new ≡ O.pair_places orders.old }
+        ensures names_stay { O.name_places orders.new ≡ O.name_places orders.old }
+    {
+        match self.table.kept.get(number) {
+            Some(header) => Lines::parse(self.alloc, orders, &self.dwarf.main, &header, root),
+            None => Err(invalid("a unit has no such number")),
+        }
+    }
+}
