@@ -1,6 +1,7 @@
 //! Ranges that overlap, in orders that are accepted and that are not, and the chain of inlined calls.
 
 mod announced;
+mod asked;
 
 use crate::functions::{Function, Functions};
 use crate::grouped::Grouped;

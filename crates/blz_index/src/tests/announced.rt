@@ -37,11 +37,24 @@ fn file<'s>(aranges: &'static [u8], none: &'s RelocationMap) -> Dwarf<'s, 'stati
     requires { none.now ≡ map.empty }
     ensures { IsReadable result }
 {
+    file_of(INFO, ABBREV, aranges, none)
+}
+
+/// A file of units with their abbreviations and sets of address ranges.
+pub fn file_of<'s>(
+    info: &'static [u8],
+    abbrev: &'static [u8],
+    aranges: &'static [u8],
+    none: &'s RelocationMap,
+) -> Dwarf<'s, 'static>
+    requires { none.now ≡ map.empty }
+    ensures { IsReadable result }
+{
     let main = Sections {
-        abbrev: section(ABBREV, none),
+        abbrev: section(abbrev, none),
         addr: section(&[], none),
         aranges: section(aranges, none),
-        info: section(INFO, none),
+        info: section(info, none),
         line: section(&[], none),
         line_str: section(&[], none),
         ranges: section(&[], none),
