@@ -51,3 +51,4 @@ pub mod UnitSteps
 pub mod UnitsFits
 pub mod AmongUnits
 pub mod SiteSteps
+pub mod ListingSteps

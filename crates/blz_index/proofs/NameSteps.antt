@@ -10,10 +10,10 @@ use Rattle.blz_index.specs.UnitAnswers.{first_called, with_called, called_from, 
 use Rattle.blz_index.specs.UnitNames.{called_in}
 use Rattle.blz_index.specs.UnitTables.{UnitTable}
 
-abbrev Numbers : Type 0
+abbrev pub Numbers : Type 0
 Numbers = List (ℕ × ℕ)
 
-abbrev behind : {A : Type 0} → List A → Option (List A) → Option (List A)
+abbrev pub behind : {A : Type 0} → List A → Option (List A) → Option (List A)
 behind front o = o >>= λ rest. Some (front ++ rest)
 
 nothing_more : {A : Type 0} (front : List A) → behind front (Some []) ≡ Some front

@@ -1,17 +1,23 @@
 -- Functions by their names, and all functions, unit by unit.
-use Rattle.std.specs.Prelude.{◌≡◌, ℕ, Bool, false, List, Option, Some, None, Result, Ok, Err}
+use Rattle.std.specs.Prelude.{◌≡◌, ℕ, Bool, true, false, List, Option, Some, None, Result, Ok, Err}
+use Rattle.std.specs.List.{slice_get}
 use Rattle.blz_error.specs.Fault.{Fault}
 use Rattle.blz_model.specs.Part.{Part, Good, Fails, ◌>>=◌}
+use Rattle.blz_model.specs.declared.cache.Cache.{Cache}
+use Rattle.blz_model.specs.declared.cache.Cache.TheVariants.{Empty, Value, Mark}
 use Rattle.blz_entry.specs.Marks.{or_invalid}
 use Rattle.blz_entry.specs.declared.text.Texts.{Texts}
 use Rattle.blz_elf.specs.declared.visit.Flow.{Flow}
+use Rattle.blz_index.specs.declared.functions.Function.{Function}
 use Rattle.blz_index.specs.declared.unit_caches.UnitCaches.{UnitCaches}
+use Rattle.blz_index.specs.declared.units.Units.{Units}
 use Rattle.blz_index.specs.FunctionList.{Lists}
 use Rattle.blz_index.specs.KeptAnswers.{kept_part}
 use Rattle.blz_index.specs.KeptParts.{functions_at, lists_view}
 use Rattle.blz_index.specs.Ranges.{FunctionRanges}
 use Rattle.blz_index.specs.ShownFunctions.{Numbered, ShowsUnit}
 use Rattle.blz_index.specs.UnitAnswers.{first_called, in_unit}
+use Rattle.blz_index.specs.UnitsWarm.{functions_cache, functions_kept, is_value}
 
 -- the first function of a name in a unit
 abbrev pub called_in : Texts → List ℕ → Option Lists → Option (Option ℕ)
@@ -24,6 +30,27 @@ called_by texts name x = Good (first_called texts name (lists_view x))
 -- the same, by what is kept
 abbrev pub kept_called : Texts → List ℕ → List UnitCaches → ℕ → Part (Option ℕ)
 kept_called texts name units k = kept_part (functions_at units k) >>= called_by texts name
+
+-- the functions of each unit that some numbers name are kept
+abbrev pub AllThere : List UnitCaches → List (ℕ × ℕ) → Type 0
+AllThere units found = (i : ℕ) (at : ℕ × ℕ) → slice_get found i ≡ Some at → is_value (functions_at units at.0) ≡ true
+
+abbrev pub AllKept : Units → List (ℕ × ℕ) → Type 0
+AllKept u found = (i : ℕ) (at : ℕ × ℕ) → slice_get found i ≡ Some at → functions_kept u at.0 ≡ true
+
+-- the functions of a unit
+abbrev pub listed : Option Lists → Option (Option (List Function))
+listed None = None
+listed (Some l) = Some (Some l.functions)
+
+-- the same, by what is kept
+abbrev pub list_in : Cache FunctionRanges → Option (List Function)
+list_in Empty = None
+list_in (Value x) = Some x.functions
+list_in (Mark k) = None
+
+abbrev pub kept_list : Units → ℕ → Option (List Function)
+kept_list u k = list_in (functions_cache u k)
 
 -- the functions of a unit that were shown
 pub record ShowsLists (lists : Option Lists) (k : ℕ) (old new : Option Numbered) (stopped : Bool) (flow : Flow) : Type 0 where

@@ -40,6 +40,7 @@ mod unit_caches;
 mod unit_filling;
 mod unit_finds;
 mod unit_list;
+mod unit_listing;
 mod unit_looks;
 mod unit_names;
 mod unit_parts;

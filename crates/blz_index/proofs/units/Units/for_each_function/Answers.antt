@@ -1,0 +1,10 @@
+use Rattle.std.proofs.Common.{refl}
+use Rattle.blz_index.specs.BuiltUnits.{files_view}
+use Rattle.blz_index.proofs.UnitsFits.{fit_on}
+use Rattle.blz_index.proofs.units.Units.for_each_function.Goals as goal
+
+pub returns-clause-fits : goal.returns-clause-fits
+returns-clause-fits g c =
+    let u = c.args.self.now in
+    let f = files_view c.args.dwarf.now in
+    fit_on f (g.O.Orders.pair_places c.args.orders.now) u _ c.requires.fits refl refl c.for_each_function.ensures.fits c.for_each_function.ensures.grows
