@@ -132,9 +132,9 @@ lines_put f t told units new k c lines is lacks e kept made fits =
 
 either : (m n : ℕ) → (m ≡ n → ⊥) ⊎ (m ≡ n)
 either m n = elim (cases_Bool (eqb m n)) [
-    | inl t ↦ inr (eqb-true m n t)
-    | inr f ↦ inl (eqb-false m n f)
-  ]
+  | inl t ↦ inr (eqb-true m n t)
+  | inr f ↦ inl (eqb-false m n f)
+]
 
 calls_fit : (f : Files) (t : UnitTable) (k n m : ℕ) (old new : UnitCaches) (calls : Cache CallRanges) → (m ≡ n → ⊥) ⊎ (m ≡ n) → HasCalls old new n calls → Kept (λ _. Unit {0}) calls_view calls (or_invalid (function_calls f t k n)) → Kept (λ _. Unit {0}) calls_view (call_cache old m) (or_invalid (function_calls f t k m)) → Kept (λ _. Unit {0}) calls_view (call_cache new m) (or_invalid (function_calls f t k m))
 calls_fit f t k n m old new calls (inl other) has kept before = rw (has.others m other) before

@@ -56,6 +56,7 @@ no_other spans a p q s t apart is_s is_t cov passes =
     not_later : (s t : Span) (p q : ℕ) → s ≡ t → p ≡ q → (t.begin < s.begin) ⊎ (p < q) → ⊥
     not_later s t p q eq same (inl h) = let b : s.begin ≡ t.begin = ap (λ (x : Span). x.begin) eq in absurd (omega arith)
     not_later s t p q eq same (inr h) = absurd (omega arith)
+
     clash : (s t : Span) (a : ℕ) → (s.begin ≤ a) × (a < s.end) → (t.begin ≤ a) × (a < t.end) → (s.end ≤ t.begin) ⊎ (t.end ≤ s.begin) → ⊥
     clash s t a x y (inl h) = absurd (omega (arith, x.0, x.1, y.0, y.1, h))
     clash s t a x y (inr h) = absurd (omega (arith, x.0, x.1, y.0, y.1, h))

@@ -55,13 +55,7 @@ impl<'r, 's, 'b> Reader<'r, 's, 'b> {
         ensures names_stay { O.name_places orders.new ≡ O.name_places orders.old }
     {
         self.fill_calls(orders, caches, number, function)?;
-        chain_at(
-            self.alloc,
-            caches.units.as_slice(),
-            number,
-            function,
-            probe,
-        )
+        chain_at(self.alloc, caches.units.as_slice(), number, function, probe)
     }
 
     /// Where a call stands in a file of its function's unit.
@@ -82,7 +76,13 @@ impl<'r, 's, 'b> Reader<'r, 's, 'b> {
         ensures names_stay { O.name_places orders.new ≡ O.name_places orders.old }
     {
         self.fill_lines(orders, caches, number)?;
-        site_at(caches.units.as_slice(), &self.dwarf.texts, number, call, file)
+        site_at(
+            caches.units.as_slice(),
+            &self.dwarf.texts,
+            number,
+            call,
+            file,
+        )
     }
 
     /// Where a call of a function of a unit stands in the sources.

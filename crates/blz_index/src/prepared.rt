@@ -108,12 +108,7 @@ impl Units {
         ensures cost { LooksFew self.now result (steps.new - steps.old) }
     {
         let mut announcing = UnitsAt::new(&self.table.announced, probe);
-        function_of(
-            self.caches.units.as_slice(),
-            &mut announcing,
-            probe,
-            steps,
-        )
+        function_of(self.caches.units.as_slice(), &mut announcing, probe, steps)
     }
 
     /// The language of a unit, as `language` has it, from what is kept: it takes no memory.

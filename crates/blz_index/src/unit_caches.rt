@@ -114,10 +114,7 @@ pub fn put_lines(units: &mut Vec<UnitCaches>, number: usize, lines: Cache<Option
 }
 
 /// A list that is long enough for a number, with empty caches behind the others.
-fn lengthen(
-    calls: &mut Vec<Cache<InlinedFunctions>>,
-    number: usize,
-) -> Result<(), AllocError>
+fn lengthen(calls: &mut Vec<Cache<InlinedFunctions>>, number: usize) -> Result<(), AllocError>
     ensures long { IfOk result (λ _. number < length calls.new.items) }
     ensures same { (n : ℕ) → or_empty (slice_get calls.new.items n) ≡ or_empty (slice_get calls.old.items n) }
 {

@@ -67,11 +67,7 @@ impl<'r, 's, 'b> Reader<'r, 's, 'b> {
     }
 
     /// The functions of a unit that is built, which is none of those that are kept meanwhile.
-    fn functions_of(
-        &self,
-        built: &mut BuiltUnits,
-        unit: &BuiltUnit,
-    ) -> Result<FunctionLists>
+    fn functions_of(&self, built: &mut BuiltUnits, unit: &BuiltUnit) -> Result<FunctionLists>
         requires readable { IsReadable self.now.dwarf.now }
         requires fits { BuiltFit (reader_files self.now) (reader_table self.now) built.old }
         requires unit { BuiltFits (reader_files self.now) unit.now }
@@ -88,12 +84,7 @@ impl<'r, 's, 'b> Reader<'r, 's, 'b> {
     }
 
     /// The calls of the function at a place of such a unit.
-    fn calls_of(
-        &self,
-        built: &mut BuiltUnits,
-        unit: &BuiltUnit,
-        place: usize,
-    ) -> Result<CallLists>
+    fn calls_of(&self, built: &mut BuiltUnits, unit: &BuiltUnit, place: usize) -> Result<CallLists>
         requires readable { IsReadable self.now.dwarf.now }
         requires fits { BuiltFit (reader_files self.now) (reader_table self.now) built.old }
         requires unit { BuiltFits (reader_files self.now) unit.now }

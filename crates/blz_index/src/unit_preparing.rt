@@ -72,11 +72,7 @@ impl<'r, 's, 'b> Reader<'r, 's, 'b> {
     }
 
     /// Reads all parts of all units that are not kept.
-    pub fn fill_all<O: Orders>(
-        &self,
-        orders: &mut O,
-        caches: &mut Caches,
-    ) -> Result<(), AllocError>
+    pub fn fill_all<O: Orders>(&self, orders: &mut O, caches: &mut Caches) -> Result<(), AllocError>
         requires readable { IsReadable self.now.dwarf.now }
         requires fits { AllFit (reader_files self.now) (reader_table self.now) caches.old }
         ensures filled { IfOk result (λ _. AllFull caches.new.units.items) }

@@ -71,12 +71,7 @@ impl Units {
 
     /// The language of a unit, which stands in the unit itself also where its functions stand in a package. InvalidDwarf
     /// exactly where the unit cannot be built.
-    pub fn language(
-        &mut self,
-        alloc: Global,
-        dwarf: &Dwarf<'_, '_>,
-        unit: usize,
-    ) -> Result<SrcLang>
+    pub fn language(&mut self, alloc: Global, dwarf: &Dwarf<'_, '_>, unit: usize) -> Result<SrcLang>
         requires readable { IsReadable dwarf.now }
         requires fits { UnitsFit (files_view dwarf.now) self.old }
         requires there { unit < length (units_table self.old).kept }

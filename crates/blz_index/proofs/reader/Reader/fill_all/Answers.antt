@@ -23,6 +23,6 @@ loop-number-preserved g c =
 
 pub returns-clause-filled : goal.returns-clause-filled
 returns-clause-filled g c = λ n. elim (cases_Bool (ltb n c.loop-number.number)) [
-    | inl t ↦ c.loop-number.invariant.filled n (ltb-true n c.loop-number.number t)
-    | inr f ↦ full_past c.loop-number.caches.units.items n (let le = ltb-false n c.loop-number.number f in omega (arith, le, c.loop-number-test.false, c.loop-number.invariant.fits.units.same, c.len-number-end.ensures))
-  ]
+  | inl t ↦ c.loop-number.invariant.filled n (ltb-true n c.loop-number.number t)
+  | inr f ↦ full_past c.loop-number.caches.units.items n (let le = ltb-false n c.loop-number.number f in omega (arith, le, c.loop-number-test.false, c.loop-number.invariant.fits.units.same, c.len-number-end.ensures))
+]
