@@ -2,8 +2,8 @@
 use crate::Writer;
 use std::alloc::AllocError;
 
-/// DW_FORM_addr, _data2, _data4, _data8, _string, _data1, _udata, _ref4, _sec_offset, _flag_present, _strx, _addrx and
-/// _rnglistx (DWARF 5 section 7.5.6).
+/// DW_FORM_addr, _data2, _data4, _data8, _string, _data1, _udata, _ref_addr, _ref4, _sec_offset, _flag_present, _strx,
+/// _addrx and _rnglistx (DWARF 5 section 7.5.6).
 const ADDRESS: u64 = 0x01;
 
 const DATA2: u64 = 0x05;
@@ -18,6 +18,8 @@ const DATA1: u64 = 0x0b;
 
 const UDATA: u64 = 0x0f;
 
+const FILE_REFERENCE: u64 = 0x10;
+
 const REFERENCE4: u64 = 0x13;
 
 const SECTION_OFFSET: u64 = 0x17;
@@ -29,6 +31,9 @@ const STRING_INDEX: u64 = 0x1a;
 const ADDRESS_INDEX: u64 = 0x1b;
 
 const RANGE_LIST_INDEX: u64 = 0x23;
+
+/// DW_FORM_GNU_ref_alt.
+const SUPPLEMENTARY_REFERENCE: u64 = 0x1f20;
 
 /// How a value is written.
 #[derive(Clone, Copy)]
@@ -94,6 +99,16 @@ impl<'a> Attribute<'a> {
     /// The place of an entry in the same unit.
     pub fn reference(name: u64, place: u32) -> Attribute<'a> {
         Attribute::of_form(name, REFERENCE4, Value::Four(place))
+    }
+
+    /// The offset of an entry in the `.debug_info` of the same file, from version 3 on.
+    pub fn file_reference(name: u64, offset: u32) -> Attribute<'a> {
+        Attribute::of_form(name, FILE_REFERENCE, Value::Four(offset))
+    }
+
+    /// The offset of an entry in the `.debug_info` of the supplementary file.
+    pub fn supplementary_reference(name: u64, offset: u32) -> Attribute<'a> {
+        Attribute::of_form(name, SUPPLEMENTARY_REFERENCE, Value::Four(offset))
     }
 
     /// A place in another section, from version 4 on; before it is `data4`.

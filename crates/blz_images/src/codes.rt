@@ -6,6 +6,8 @@ pub const DW_TAG_INLINED_SUBROUTINE: u64 = 0x1d;
 
 pub const DW_TAG_SUBPROGRAM: u64 = 0x2e;
 
+pub const DW_TAG_SKELETON_UNIT: u64 = 0x4a;
+
 pub const DW_AT_NAME: u64 = 0x03;
 
 pub const DW_AT_STMT_LIST: u64 = 0x10;

@@ -2,6 +2,35 @@
 use crate::{Attribute, ByteOrder, Class, Writer};
 use std::alloc::{AllocError, Global};
 
+/// What a unit of version 5 is (DWARF 5 section 7.5.1).
+#[derive(Clone, Copy)]
+pub enum UnitKind {
+    /// A whole unit, as all those of earlier versions are.
+    Whole,
+    /// A unit whose functions stand in the split unit of this number.
+    Skeleton(u64),
+    /// The unit of a package of this number.
+    Split(u64),
+}
+
+impl UnitKind {
+    // DW_UT_compile, DW_UT_skeleton or DW_UT_split_compile
+    fn code(self) -> u8 {
+        match self {
+            UnitKind::Whole => 1,
+            UnitKind::Skeleton(_) => 4,
+            UnitKind::Split(_) => 5,
+        }
+    }
+
+    fn id(self) -> Option<u64> {
+        match self {
+            UnitKind::Whole => None,
+            UnitKind::Skeleton(id) | UnitKind::Split(id) => Some(id),
+        }
+    }
+}
+
 /// The bytes of `.debug_abbrev` and `.debug_info`, written entry by entry, in 32-bit DWARF with addresses of 64 bits
 /// (DWARF 5 section 7.5). All units share one table, in which each entry has an abbreviation of its own.
 #[derive(Drop)]
@@ -9,6 +38,7 @@ pub struct DebugInfo {
     alloc: Global,
     order: ByteOrder,
     version: u16,
+    kind: UnitKind,
     abbreviations: Writer,
     code: u64,
     // the units that have ended, and the entries of the one that has not
@@ -23,11 +53,17 @@ impl DebugInfo {
             alloc,
             order,
             version,
+            kind: UnitKind::Whole,
             abbreviations: Writer::new(alloc, Class::Elf64, order),
             code: 0,
             units: Writer::new(alloc, Class::Elf64, order),
             entries: Writer::new(alloc, Class::Elf64, order),
         }
+    }
+
+    /// Says what the next units are, before their first entry.
+    pub fn of_kind(&mut self, kind: UnitKind) {
+        self.kind = kind;
     }
 
     /// An entry whose children follow, up to `close`.
@@ -43,6 +79,11 @@ impl DebugInfo {
     /// Ends the children of the last entry that is open.
     pub fn close(&mut self) -> Result<(), AllocError> {
         self.entries.u8(0)
+    }
+
+    /// Bytes as they are, in place of an entry.
+    pub fn raw(&mut self, bytes: &[u8]) -> Result<(), AllocError> {
+        self.entries.raw(bytes)
     }
 
     /// The place that the next entry has in its unit, as a reference gives it.
@@ -65,9 +106,12 @@ impl DebugInfo {
         self.units.u32(length)?;
         self.units.u16(self.version)?;
         if self.version >= 5 {
-            self.units.u8(1)?;
+            self.units.u8(self.kind.code())?;
             self.units.u8(8)?;
             self.units.u32(0)?;
+            if let Some(id) = self.kind.id() {
+                self.units.u64(id)?;
+            }
         } else {
             self.units.u32(0)?;
             self.units.u8(8)?;
@@ -75,6 +119,10 @@ impl DebugInfo {
         self.units.raw(self.entries.bytes())?;
         self.entries = next;
         Ok(())
+    }
+
+    pub fn order(&self) -> ByteOrder {
+        self.order
     }
 
     /// The bytes of `.debug_info`, of the units that have ended.
@@ -109,8 +157,13 @@ impl DebugInfo {
         self.abbreviations.u16(0)
     }
 
-    // length, version, offset of the table and size of an address; the type of the unit from version 5 on
+    // length, version, offset of the table and size of an address; from version 5 on the type of the unit, and its
+    // number where it has one
     fn header_size(&self) -> u32 {
-        if self.version >= 5 { 12 } else { 11 }
+        match (self.version >= 5, self.kind.id()) {
+            (false, _) => 11,
+            (true, None) => 12,
+            (true, Some(_)) => 20,
+        }
     }
 }

@@ -12,6 +12,7 @@ mod debug_info;
 mod debug_line;
 mod image;
 mod layout;
+mod package;
 mod section;
 mod segment;
 mod strings;
@@ -19,6 +20,7 @@ mod symbol;
 mod tables;
 #[cfg(test)]
 mod tests;
+mod units;
 mod walk;
 mod worked;
 mod writer;
@@ -26,15 +28,17 @@ mod writer;
 pub use attribute::{Attribute, Value};
 pub use blz_model::ByteOrder;
 pub use class::Class;
-pub use debug_info::DebugInfo;
+pub use debug_info::{DebugInfo, UnitKind};
 pub use debug_line::DebugLine;
 pub use image::Image;
+pub use package::{UnitIndex, package_of_unit};
 pub use section::Section;
 pub use segment::Segment;
 pub use strings::Strings;
 pub use symbol::Symbol;
 pub use tables::{
-    INDEX_BASE, RANGE_LISTS_BASE, address_ranges, address_table, range_lists, string_offsets,
+    INDEX_BASE, RANGE_LISTS_BASE, address_ranges, address_table, range_lists, range_pairs,
+    string_offsets,
 };
 pub use walk::realistic_walk;
 pub use worked::{

@@ -56,6 +56,22 @@ pub fn range_lists(
     with_length(alloc, order, &table)
 }
 
+/// The bytes of one list in `.debug_ranges`: pairs of a begin and an end, and the pair of zeros that ends them (DWARF 4
+/// section 2.17.3).
+pub fn range_pairs(
+    alloc: Global,
+    order: ByteOrder,
+    ranges: &[(u64, u64)],
+) -> Result<Vec<u8>, AllocError> {
+    let mut list = Writer::new(alloc, Class::Elf64, order);
+    for (begin, end) in ranges {
+        list.u64(*begin)?;
+        list.u64(*end)?;
+    }
+    list.zeros(16)?;
+    Ok(list.into_bytes())
+}
+
 /// The bytes of one set in `.debug_aranges`, of the unit at an offset: pairs of an address and a size (DWARF 5 section
 /// 6.1.2).
 pub fn address_ranges(

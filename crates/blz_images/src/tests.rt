@@ -1,8 +1,9 @@
 //! Places in images, as the formats give them.
-use crate::codes::{DW_AT_NAME, DW_TAG_COMPILE_UNIT};
+use crate::codes::{DW_AT_NAME, DW_TAG_COMPILE_UNIT, DW_TAG_SKELETON_UNIT};
 use crate::{
-    Attribute, ByteOrder, Class, DebugInfo, Image, Section, Symbol, Writer, nested_functions,
-    no_sections, patched, prefix, realistic_walk, with_nested_functions,
+    Attribute, ByteOrder, Class, DebugInfo, Image, Section, Symbol, UnitIndex, UnitKind, Writer,
+    nested_functions, no_sections, patched, prefix, range_pairs, realistic_walk,
+    with_nested_functions,
 };
 use std::test::Fail;
 
@@ -113,6 +114,45 @@ fn writes_a_unit_of_one_entry(rt: HostRuntime) -> Result<(), Fail> {
         entries.abbreviations()?.as_slice(),
         [1, 0x11, 0, 3, 8, 0, 0, 0].as_slice()
     );
+    Ok(())
+}
+
+#[test]
+fn writes_the_number_of_a_skeleton(rt: HostRuntime) -> Result<(), Fail> {
+    let mut entries = DebugInfo::new(rt.alloc(), ByteOrder::Little, 5);
+    entries.of_kind(UnitKind::Skeleton(7));
+    let place = entries.place();
+    entries.entry(DW_TAG_SKELETON_UNIT, &[])?;
+    entries.end_unit()?;
+    assert_eq!(rt; place, 20);
+    // length, version, kind, size of an address, offset of the table, number; code
+    let unit = [
+        17, 0, 0, 0, 5, 0, 4, 8, 0, 0, 0, 0, 7, 0, 0, 0, 0, 0, 0, 0, 1,
+    ];
+    assert_eq!(rt; entries.info(), unit.as_slice());
+    Ok(())
+}
+
+#[test]
+fn writes_an_index_of_units(rt: HostRuntime) -> Result<(), Fail> {
+    let mut index = UnitIndex::new(rt.alloc(), ByteOrder::Big);
+    index.slot(7, 1)?;
+    index.row((2, 3), (4, 5))?;
+    // version; columns, rows and slots; the slot's unit and row; the columns; offsets, and sizes
+    let bytes = [
+        0, 5, 0, 0, 0, 0, 0, 2, 0, 0, 0, 1, 0, 0, 0, 1, 0, 0, 0, 0, 0, 0, 0, 7, 0, 0, 0, 1, 0, 0,
+        0, 1, 0, 0, 0, 3, 0, 0, 0, 2, 0, 0, 0, 4, 0, 0, 0, 3, 0, 0, 0, 5,
+    ];
+    assert_eq!(rt; index.bytes()?.as_slice(), bytes.as_slice());
+    Ok(())
+}
+
+#[test]
+fn writes_pairs_of_a_range_list(rt: HostRuntime) -> Result<(), Fail> {
+    let list = range_pairs(rt.alloc(), ByteOrder::Big, &[(1, 2)])?;
+    assert_eq!(rt; list.len(), 32);
+    let pair = [0, 0, 0, 0, 0, 0, 0, 1, 0, 0, 0, 0, 0, 0, 0, 2];
+    assert_eq!(rt; prefix(&list, 16), pair.as_slice());
     Ok(())
 }
 
