@@ -1,25 +1,44 @@
 -- One turn of a loop over attributes.
-use Rattle.std.proofs.Common.{◌≡◌, ℕ, zero, suc, ◌+◌, ◌≤◌, ◌<◌, List, [], ◌∷◌, ◌++◌, length, get_or, drop, Some, None, refl, sym, ap, arith, append_assoc, drop-cons}
+use Rattle.std.proofs.Common.{◌≡◌, ℕ, zero, suc, ◌+◌, ◌≤◌, ◌<◌, List, [], ◌∷◌, ◌++◌, length, get_or, drop, Some, None, refl, sym, ap, ◌∙◌, arith, append_assoc, drop-cons}
 use Rattle.std.proofs.lemmas.List.{append-nil}
 use Rattle.blz_model.specs.Reads.{Read, ◌>>=◌}
 use Rattle.std.proofs.Math.ListN.{drop_of_length-le}
 use Rattle.blz_entry.specs.Contents.{Contents}
 use Rattle.blz_entry.specs.Attributes.{attribute, attributes, passed}
+use Rattle.blz_entry.specs.Sizes.{behind}
+use Rattle.blz_entry.proofs.Sizes.{next_place, behind_is}
 use Rattle.blz_entry.specs.declared.abbreviations.AttrSpec.{AttrSpec}
 use Rattle.blz_entry.specs.declared.encoding.Encoding.{Encoding}
 use Rattle.blz_entry.specs.declared.text.StrBase.{StrBase}
 use Rattle.blz_entry.specs.declared.value.AttrValue.{AttrValue}
 
-pub passed_more : (specs : List AttrSpec) (i : ℕ) (d : AttrSpec) (e : Encoding) (base : StrBase) (s : Contents) (at next : ℕ) (v : AttrValue) → i < length specs → attribute (get_or specs i d) e base s at ≡ Some (v, next) → passed (drop i specs) e base s at ≡ passed (drop (i + 1) specs) e base s next
+passed_more : (specs : List AttrSpec) (i : ℕ) (d : AttrSpec) (e : Encoding) (base : StrBase) (s : Contents) (at next : ℕ) (v : AttrValue) → i < length specs → attribute (get_or specs i d) e base s at ≡ Some (v, next) → passed (drop i specs) e base s at ≡ passed (drop (i + 1) specs) e base s next
 unfolding passed
 passed_more specs i d e base s at next v lt h =
     let first = drop-cons specs i d lt in
     let k : i + 1 ≡ suc i = omega arith in
     rw (k, first, h) refl
 
-pub passed_none : (specs : List AttrSpec) (i : ℕ) (d : AttrSpec) (e : Encoding) (base : StrBase) (s : Contents) (at : ℕ) → i < length specs → attribute (get_or specs i d) e base s at ≡ None → passed (drop i specs) e base s at ≡ None
+passed_none : (specs : List AttrSpec) (i : ℕ) (d : AttrSpec) (e : Encoding) (base : StrBase) (s : Contents) (at : ℕ) → i < length specs → attribute (get_or specs i d) e base s at ≡ None → passed (drop i specs) e base s at ≡ None
 unfolding passed
 passed_none specs i d e base s at lt h = let first = drop-cons specs i d lt in rw (first, h) refl
+
+-- the attribute that is passed over has some value
+behind_some : (specs : List AttrSpec) (i : ℕ) (d : AttrSpec) (e : Encoding) (base : StrBase) (s : Contents) (at next : ℕ) (o : Read AttrValue) → i < length specs → attribute (get_or specs i d) e base s at ≡ o → next_place o ≡ Some next → passed (drop i specs) e base s at ≡ passed (drop (i + 1) specs) e base s next
+behind_some specs i d e base s at next None lt h n = absurd cc
+behind_some specs i d e base s at next (Some r) lt h n =
+    let same : r.1 ≡ next = cc in
+    rw (← same) (passed_more specs i d e base s at r.1 r.0 lt h)
+
+behind_nothing : (specs : List AttrSpec) (i : ℕ) (d : AttrSpec) (e : Encoding) (base : StrBase) (s : Contents) (at : ℕ) (o : Read AttrValue) → i < length specs → attribute (get_or specs i d) e base s at ≡ o → next_place o ≡ None → passed (drop i specs) e base s at ≡ None
+behind_nothing specs i d e base s at None lt h n = passed_none specs i d e base s at lt h
+behind_nothing specs i d e base s at (Some r) lt h n = absurd cc
+
+pub behind_more : (specs : List AttrSpec) (i : ℕ) (d : AttrSpec) (e : Encoding) (base : StrBase) (s : Contents) (at next : ℕ) → i < length specs → behind (get_or specs i d) e s at ≡ Some next → passed (drop i specs) e base s at ≡ passed (drop (i + 1) specs) e base s next
+behind_more specs i d e base s at next lt h = behind_some specs i d e base s at next _ lt refl (behind_is (get_or specs i d) e base s at ∙ h)
+
+pub behind_none : (specs : List AttrSpec) (i : ℕ) (d : AttrSpec) (e : Encoding) (base : StrBase) (s : Contents) (at : ℕ) → i < length specs → behind (get_or specs i d) e s at ≡ None → passed (drop i specs) e base s at ≡ None
+behind_none specs i d e base s at lt h = behind_nothing specs i d e base s at _ lt refl (behind_is (get_or specs i d) e base s at ∙ h)
 
 pub passed_end : (specs : List AttrSpec) (i : ℕ) (e : Encoding) (base : StrBase) (s : Contents) (at : ℕ) → length specs ≤ i → passed (drop i specs) e base s at ≡ Some at
 unfolding passed

@@ -1,4 +1,5 @@
 pub mod Bytes
+pub mod Sizes
 pub mod AttributeSteps
 pub mod AbbreviationIndex
 pub mod Marked

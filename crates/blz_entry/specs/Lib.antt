@@ -5,6 +5,7 @@ pub mod Forms
 pub mod Abbrevs
 pub mod AbbreviationTables
 pub mod Attributes
+pub mod Sizes
 pub mod Headers
 pub mod Forest
 pub mod Walks

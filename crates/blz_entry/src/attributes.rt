@@ -4,6 +4,7 @@ ghost use Rattle.blz_entry.specs.Contents.{section_view};
 ghost use Rattle.blz_entry.specs.Attributes.{form_for, direct_attribute, attribute, passed};
 
 use crate::abbreviations::AttrSpec;
+use crate::behind::behind;
 use crate::encoding::Encoding;
 use crate::form::{Field, Form, Makes, form_of};
 use crate::section::Section;
@@ -81,7 +82,7 @@ pub(crate) fn passed(
 {
     let mut place = at;
     for spec in specs {
-        let (_, next) = attribute(*spec, encoding, base, section, place)?;
+        let next = behind(*spec, encoding, section, place)?;
         place = next;
     }
     Some(place)

@@ -124,7 +124,7 @@ fn nth_place(base: u64, index: u64, size: u8) -> Option<usize>
     Some(place as usize)
 }
 
-fn offset_len(wide: bool) -> u8
+pub(crate) fn offset_len(wide: bool) -> u8
     ensures { result ≡ offset_len wide }
 {
     if wide { 8 } else { 4 }

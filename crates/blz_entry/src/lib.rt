@@ -5,6 +5,7 @@ mod abbreviations;
 mod addresses;
 mod aranges;
 mod attributes;
+mod behind;
 mod encoding;
 mod entries;
 mod extent;

@@ -1,0 +1,53 @@
+-- Fields whose bytes the sizes of a unit tell, and the place behind an attribute, whatever its value (DWARF 5 section
+-- 7.5.6).
+use Rattle.std.specs.Prelude.{ℕ, ◌||◌, Option, Some, None, option_map, ◌==◌, if◌then◌else◌, List}
+use Rattle.blz_model.specs.Reads.{◌>>=◌, passed_over}
+use Rattle.blz_model.specs.LebNumbers.{uleb, sleb}
+use Rattle.blz_bytes.specs.Pieces.{zero_ended}
+use Rattle.blz_entry.specs.Contents.{Contents, bytes_in, offset_len, field_at}
+use Rattle.blz_entry.specs.Forms.{form_of}
+use Rattle.blz_entry.specs.declared.abbreviations.AttrSpec.{AttrSpec}
+use Rattle.blz_entry.specs.declared.encoding.Encoding.{Encoding}
+use Rattle.blz_entry.specs.declared.form.Field.{Field}
+use Rattle.blz_entry.specs.declared.form.Field.TheVariants.{Nothing, Fixed, Address, Offset, RefAddress, Uleb, Sixteen, Block, UlebBlock}
+use Rattle.blz_entry.specs.declared.form.Form.{Form}
+use Rattle.blz_entry.specs.declared.form.Form.TheVariants as forms
+use Rattle.blz_entry.specs.declared.form.Form.TheVariants.{Numeric}
+
+-- no other address can be read
+abbrev pub address_len : ℕ → Option ℕ
+address_len size = if size == 4 || size == 8 then Some size else None
+
+-- the bytes of a field, where its own bytes do not tell them
+abbrev pub size_of : Field → Encoding → Option ℕ
+size_of Nothing e = Some 0
+size_of (Fixed w) e = Some (bytes_in w)
+size_of Address e = address_len e.address_size
+size_of Offset e = Some (offset_len e.wide)
+size_of RefAddress e = if e.version == 2 then address_len e.address_size else Some (offset_len e.wide)
+size_of Uleb e = None
+size_of Sixteen e = Some 16
+size_of (Block w) e = None
+size_of UlebBlock e = None
+
+-- n bytes are passed over where they are there; no bytes are everywhere
+unfoldable pub over : ℕ → List ℕ → ℕ → Option ℕ
+over n bytes at = if n == 0 then Some at else passed_over n bytes at
+
+-- the place behind what a form reads
+unfoldable pub behind_form : Form → Encoding → Contents → ℕ → Option ℕ
+behind_form (Numeric field makes) e s at = option_map (λ r. r.1) (field_at field e s at)
+behind_form forms.Signed e s at = option_map (λ r. r.1) (sleb s.bytes at)
+behind_form forms.Text e s at = option_map (λ r. r.1) (zero_ended s.bytes at)
+
+-- the same of a form of the table by its code
+unfoldable pub behind_code : ℕ → Encoding → Contents → ℕ → Option ℕ
+behind_code code e s at = do
+  form ← form_of code
+  behind_form form e s at
+
+-- the place behind an attribute
+unfoldable pub behind : AttrSpec → Encoding → Contents → ℕ → Option ℕ
+behind a e s at = if a.form == 0x21 then Some at else (if a.form == 0x16 then (do
+  inner ← uleb s.bytes at
+  behind_code inner.0 e s inner.1) else behind_code a.form e s at)
