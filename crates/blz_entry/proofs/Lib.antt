@@ -1,5 +1,6 @@
 pub mod Bytes
 pub mod Sizes
+pub mod Together
 pub mod AttributeSteps
 pub mod AbbreviationIndex
 pub mod Marked

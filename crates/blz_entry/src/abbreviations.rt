@@ -5,9 +5,12 @@ ghost use Rattle.std.specs.Option.{option_copied};
 ghost use Rattle.blz_model.specs.Part.{Gives};
 ghost use Rattle.blz_entry.specs.Marks.{or_invalid};
 ghost use Rattle.blz_entry.specs.Abbrevs.{of_code};
+ghost use Rattle.blz_entry.specs.Sizes.{size_together};
 ghost use Rattle.blz_entry.specs.AbbreviationTables.{spec_at, is_last, specs_in, has_children, abbreviation_at, has_code, abbreviations};
 
+use crate::encoding::Encoding;
 use crate::fault::invalid;
+use crate::fixed::FixedSize;
 use blz_bytes::{sleb_at, u8_at, uleb_at};
 use blz_error::Result;
 use std::alloc::{AllocError, Global};
@@ -31,14 +34,20 @@ pub struct Abbreviation {
     /// Whether they have children.
     pub children: bool,
     specs: Vec<AttrSpec>,
+    // what the attributes have together, where the bytes of each are fixed
+    fixed: Option<FixedSize>,
 }
 
 impl Model for Abbreviation {
+    ghost use Rattle.std.specs.Prelude.{IfSome};
     ghost use Rattle.blz_entry.specs.Abbrevs.{Abbrev};
+    ghost use Rattle.blz_entry.specs.Sizes.{Counts};
 
     ghost Value = { Abbrev };
 
     ghost view = { λ a. record { code = a.code; tag = a.tag; children = a.children; specs = a.specs.items } };
+
+    ghost invariant = { λ a. IfSome a.fixed (λ f. Counts f a.specs.items) };
 }
 
 impl Abbreviation {
@@ -47,6 +56,13 @@ impl Abbreviation {
         ensures { result.now ≡ self.now.specs }
     {
         &self.specs
+    }
+
+    /// The bytes of the attributes, where those of each are fixed.
+    pub(crate) fn size_in(&self, encoding: Encoding) -> Option<usize>
+        ensures { IfSome result (λ n. size_together self.now.specs encoding ≡ Some n) }
+    {
+        self.fixed?.total_in(encoding)
     }
 }
 
@@ -230,11 +246,13 @@ fn abbreviation_at(
         return Err(invalid("the children byte of an abbreviation is neither 0 nor 1"));
     };
     let (specs, next) = specs_at(alloc, bytes, next)?;
+    let fixed = FixedSize::of(&specs);
     let abbreviation = Abbreviation {
         code,
         tag,
         children,
         specs,
+        fixed,
     };
     Ok((abbreviation, next))
 }

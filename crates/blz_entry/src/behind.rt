@@ -10,8 +10,9 @@ use crate::form::{Field, Form, Width, form_of};
 use crate::section::Section;
 use blz_bytes::{sleb_at, uleb_at, zero_ended_at};
 
-fn bytes_in(width: Width) -> usize
-    ensures { result ≡ bytes_in width }
+pub(crate) fn bytes_in(width: Width) -> usize
+    ensures value { result ≡ bytes_in width }
+    ensures few { result ≤ 8 }
 {
     match width {
         Width::One => 1,
@@ -55,7 +56,7 @@ fn size_of(field: Field, encoding: Encoding) -> Option<usize>
 
 /// The place behind so many bytes.
 #[tactic(auto, unfolding(crate::specs::Sizes::over, blz_model::specs::Reads::passed_over))]
-fn over(size: usize, bytes: &[u8], at: usize) -> Option<usize>
+pub(crate) fn over(size: usize, bytes: &[u8], at: usize) -> Option<usize>
     ensures value { result ≡ over size bytes.now at }
     ensures within { IfSome result (λ n. (at ≤ n) × (at ≤ length bytes.now → n ≤ length bytes.now)) }
 {

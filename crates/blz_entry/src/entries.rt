@@ -3,10 +3,12 @@ ghost use Rattle.std.specs.Prelude.{◌≡◌, ◌≤◌, ◌<◌, ◌+◌, ◌^
 ghost use Rattle.std.specs.Option.{option_copied};
 ghost use Rattle.blz_error.specs.declared.kind.ErrorKind.TheVariants.{InvalidDwarf};
 ghost use Rattle.blz_model.specs.Part.{Exactly, Good, Broken};
+ghost use Rattle.blz_entry.specs.Attributes.{passed};
 ghost use Rattle.blz_entry.specs.Walks.{Steps, IsNext, walk_from, source_of, info_base, next_of, value_of, skipped_of};
 
 use crate::abbreviations::{Abbreviations, AttrSpec};
 use crate::attributes::{attribute, passed};
+use crate::behind::over;
 use crate::encoding::Encoding;
 use crate::fault::invalid;
 use crate::section::{Section, Sections, cut};
@@ -42,14 +44,17 @@ pub struct Entries<'s, 'b> {
     end: usize,
     place: usize,
     pending: &'s [AttrSpec],
+    // the bytes of what is pending, where it is whole and they are fixed
+    size: Option<usize>,
     depth: usize,
 }
 
 impl<'s, 'b> Model for Entries<'s, 'b> {
-    ghost use Rattle.std.specs.Prelude.{◌≤◌, ◌<◌, ◌+◌, ◌^◌, length};
+    ghost use Rattle.std.specs.Prelude.{◌≡◌, ◌≤◌, ◌<◌, ◌+◌, ◌^◌, length, IfSome, Some};
     ghost use Rattle.blz_entry.specs.Contents.{section_view};
     ghost use Rattle.blz_entry.specs.Codes.{walk_code};
     ghost use Rattle.blz_entry.specs.Walks.{Walk};
+    ghost use Rattle.blz_entry.specs.Sizes.{size_together};
 
     ghost Value = { Walk };
 
@@ -57,7 +62,7 @@ impl<'s, 'b> Model for Entries<'s, 'b> {
 
     ghost view = { λ e. record { source = record { section = section_view e.section; base = e.base; encoding = e.encoding; table = e.abbreviations.now; end = e.end }; place = e.place; pending = e.pending.now; depth = e.depth } };
 
-    ghost invariant = { λ e. record { cut : length e.section.bytes.now ≤ e.end; texts : e.base.start + length e.section.bytes.now < 2 ^ 64; low : e.depth ≤ e.place } };
+    ghost invariant = { λ e. record { cut : length e.section.bytes.now ≤ e.end; texts : e.base.start + length e.section.bytes.now < 2 ^ 64; low : e.depth ≤ e.place; sized : IfSome e.size (λ n. size_together e.pending.now e.encoding ≡ Some n) } };
 }
 
 /// Where the texts among the entries of a unit stand.
@@ -89,6 +94,7 @@ fn depth_behind(depth: usize, children: bool) -> usize
 impl<'s, 'b> Entries<'s, 'b> {
     /// The entries of a unit from a place on. InvalidDwarf exactly where the place is not among them. The header and the
     /// abbreviations are those of the unit.
+    #[tactic(auto, unfolding(crate::specs::Sizes::size_together))]
     pub fn new(
         sections: Sections<'s, 'b>,
         header: UnitHeader,
@@ -109,31 +115,43 @@ impl<'s, 'b> Entries<'s, 'b> {
             end: header.end,
             place: at,
             pending: &[],
+            size: Some(0),
             depth: 0,
         })
     }
 
+    fn behind_pending(&self) -> Option<usize>
+        ensures value { result ≡ passed self.now.pending self.now.source.encoding self.now.source.base self.now.source.section self.now.place }
+        ensures within { IfSome result (λ n. (self.now.place ≤ n) × (self.now.place ≤ length self.now.source.section.bytes → n ≤ length self.now.source.section.bytes)) }
+    {
+        if let Some(size) = self.size {
+            return over(size, self.section.bytes, self.place);
+        }
+        passed(
+            self.pending,
+            self.encoding,
+            self.base,
+            &self.section,
+            self.place,
+        )
+    }
+
     /// The next entry, behind what was not read of the last one; None exactly at the unit's end. InvalidDwarf exactly
     /// where no entry can be read, and then nothing has changed.
-    #[tactic(auto, unfolding(crate::specs::Walks::next_of, crate::specs::Walks::entry_from, crate::specs::Attributes::passed))]
+    #[tactic(auto, unfolding(crate::specs::Walks::next_of, crate::specs::Walks::entry_from, crate::specs::Attributes::passed, crate::specs::Sizes::size_together))]
     pub fn next_entry(&mut self) -> Result<Option<Entry>>
         ensures value { Steps (λ e. e) (next_of self.old) self.old result self.new }
         ensures source { self.new.source ≡ self.old.source }
         ensures cut { length self.old.source.section.bytes ≤ self.old.source.end }
         ensures ahead { IfOk result (λ r. IfSome r (λ e. (self.old.place ≤ e.place) × (e.place < self.new.place) × (self.new.place ≤ self.new.source.end))) }
     {
-        let Some(at) = passed(
-            self.pending,
-            self.encoding,
-            self.base,
-            &self.section,
-            self.place,
-        ) else {
+        let Some(at) = self.behind_pending() else {
             return Err(invalid("the attributes of an entry are not whole"));
         };
         if at >= self.end {
             self.place = at;
             self.pending = &[];
+            self.size = Some(0);
             return Ok(None);
         }
         let Some((code, next)) = uleb_at(self.section.bytes, at) else {
@@ -143,6 +161,7 @@ impl<'s, 'b> Entries<'s, 'b> {
         if code == 0 {
             self.place = next;
             self.pending = &[];
+            self.size = Some(0);
             self.depth = depth.saturating_sub(1);
             return Ok(Some(Entry {
                 place: at,
@@ -157,6 +176,7 @@ impl<'s, 'b> Entries<'s, 'b> {
         };
         self.place = next;
         self.pending = abbreviation.attributes();
+        self.size = abbreviation.size_in(self.encoding);
         self.depth = depth_behind(depth, abbreviation.children);
         Ok(Some(Entry {
             place: at,
@@ -195,28 +215,24 @@ impl<'s, 'b> Entries<'s, 'b> {
         };
         self.place = next;
         self.pending = &self.pending[1..];
+        self.size = None;
         Ok(value)
     }
 
     /// Passes over the attributes of the entry that were not read. InvalidDwarf exactly where one has no value, and then
     /// nothing has changed.
-    #[tactic(auto, unfolding(crate::specs::Walks::skipped_of))]
+    #[tactic(auto, unfolding(crate::specs::Walks::skipped_of, crate::specs::Sizes::size_together))]
     pub fn skip_attributes(&mut self) -> Result<()>
         ensures value { Steps (λ _. tt) (skipped_of self.old) self.old result self.new }
         ensures source { self.new.source ≡ self.old.source }
         ensures ahead { self.old.place ≤ self.new.place }
     {
-        let Some(at) = passed(
-            self.pending,
-            self.encoding,
-            self.base,
-            &self.section,
-            self.place,
-        ) else {
+        let Some(at) = self.behind_pending() else {
             return Err(invalid("the attributes of an entry are not whole"));
         };
         self.place = at;
         self.pending = &[];
+        self.size = Some(0);
         Ok(())
     }
 }

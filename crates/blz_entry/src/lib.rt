@@ -11,6 +11,7 @@ mod entries;
 mod extent;
 mod fault;
 mod field;
+mod fixed;
 mod form;
 pub mod laws;
 mod listing;
