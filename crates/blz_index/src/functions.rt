@@ -6,7 +6,7 @@ ghost use Rattle.blz_index.specs.Keyed.{IsAccepted, begin_key};
 ghost use Rattle.blz_index.specs.Owned.{owned, items_of, owner_at};
 ghost use Rattle.blz_index.specs.Ranges.{FunctionRanges, best_owner};
 
-use crate::owned_ranges::OwnedRanges;
+use crate::owned_ranges::{OwnedRanges, fitted};
 use blz_bytes::{Orders, Steps};
 use blz_entry::{Span, StrPlace};
 use std::alloc::{AllocError, Global};
@@ -54,7 +54,10 @@ impl Functions {
         ensures names_stay { O.name_places orders.new ≡ O.name_places orders.old }
     {
         let ranges = OwnedRanges::build(alloc, orders, spans, owners)?;
-        Ok(Functions { functions, ranges })
+        Ok(Functions {
+            functions: fitted(functions),
+            ranges,
+        })
     }
 
     /// The functions in file order.

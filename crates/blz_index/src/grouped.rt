@@ -114,10 +114,10 @@ pub fn in_order(
 ) -> Result<Vec<Ordered>, AllocError>
     ensures { IfOk result (λ v. ordered ≡ true → v.items ≡ in_order list.now 0 0 places.now) }
 {
-    let mut order = Vec::new(alloc);
     if !ordered {
-        return Ok(order);
+        return Ok(Vec::new(alloc));
     }
+    let mut order = Vec::with_capacity(alloc, places.len())?;
     let mut group = 0;
     let mut reach = 0;
     for place in places {

@@ -8,7 +8,7 @@ ghost use Rattle.blz_index.specs.Ranges.{CallRanges};
 
 use crate::group_index::GroupIndex;
 use crate::grouped::{Grouped, group_keys};
-use crate::owned_ranges::number_at;
+use crate::owned_ranges::{fitted, number_at};
 use blz_bytes::{Orders, Steps};
 use blz_entry::StrPlace;
 use std::alloc::{AllocError, Global};
@@ -61,11 +61,11 @@ impl InlinedFunctions {
         ensures names_stay { O.name_places orders.new ≡ O.name_places orders.old }
     {
         let keys = group_keys(alloc, ranges.as_slice())?;
-        let index = GroupIndex::build(alloc, orders, ranges, keys.as_slice())?;
+        let index = GroupIndex::build(alloc, orders, fitted(ranges), keys.as_slice())?;
         Ok(InlinedFunctions {
-            calls,
+            calls: fitted(calls),
             index,
-            owners,
+            owners: fitted(owners),
         })
     }
 

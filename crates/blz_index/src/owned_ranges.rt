@@ -36,6 +36,15 @@ pub fn number_at(numbers: &[usize], place: usize) -> Option<usize>
     numbers.get(place).copied()
 }
 
+/// A list that is kept, without room behind its items.
+pub fn fitted<T>(list: Vec<T>) -> Vec<T>
+    ensures { result.items ≡ list.items }
+{
+    let mut list = list;
+    list.shrink_to_fit();
+    list
+}
+
 impl OwnedRanges {
     /// Asks for an order by the begins, and keeps it where it passes the check. Only want of memory is refused.
     pub fn build<O: Orders>(
@@ -51,9 +60,11 @@ impl OwnedRanges {
         ensures names_stay { O.name_places orders.new ≡ O.name_places orders.old }
     {
         let index = RangeIndex::build(alloc, orders, spans)?;
+        let owners = fitted(owners);
         Ok(OwnedRanges { index, owners })
     }
 
+    /// Whether the order was accepted.
     pub fn is_ordered(&self) -> bool
         ensures { result ≡ self.now.ordered }
     {

@@ -114,7 +114,9 @@ impl Machine {
     fn end(&mut self, alloc: Global) -> std::result::Result<(), AllocError>
         ensures { IfOk result (λ _. self.new ≡ ended self.old) }
     {
-        let rows = mem::replace(&mut self.rows, Vec::new(alloc));
+        let mut rows = mem::replace(&mut self.rows, Vec::new(alloc));
+        // rows are most of what a reader keeps, so no room is left behind them
+        rows.shrink_to_fit();
         if !self.registers.skipping && !rows.is_empty() {
             let start = rows[0].address;
             let end = self.registers.address;
