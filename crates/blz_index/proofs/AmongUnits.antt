@@ -7,7 +7,7 @@ use Rattle.blz_index.specs.BuiltUnits.{Files}
 use Rattle.blz_index.specs.CallTree.{CallLists, unit_calls}
 use Rattle.blz_index.specs.FunctionList.{Lists, unit_lists}
 use Rattle.blz_index.specs.Leaves.{UnitParts}
-use Rattle.blz_index.specs.Linkage.{Linked, Linkage, Among, refer_by}
+use Rattle.blz_index.specs.Linkage.{Linked, Among, refer_by}
 use Rattle.blz_index.specs.UnitAnswers.{lists_in, calls_in}
 use Rattle.blz_index.specs.UnitTables.{UnitTable}
 

@@ -1,12 +1,11 @@
 -- Ranges of a unit behind those of others.
-use Rattle.std.proofs.Common.{◌≡◌, ◌≢◌, ℕ, suc, ◌+◌, ◌<◌, ◌≤◌, true, false, Bool, ltb, List, [], ◌∷◌, ◌++◌, length, length-append, get_or, drop, drop-cons, append_assoc, Option, Some, None, refl, sym, ap, ◌∙◌, arith}
+use Rattle.std.proofs.Common.{◌≡◌, ◌≢◌, ℕ, suc, ◌+◌, ◌<◌, ◌≤◌, true, false, Bool, List, [], ◌∷◌, ◌++◌, length, length-append, get_or, drop, drop-cons, append_assoc, Option, Some, None, refl, sym, ap, ◌∙◌, arith}
 use Rattle.std.proofs.Math.ListN.{drop_of_length-le}
-use Rattle.std.specs.Prelude.{nat_lt}
 use Rattle.std.proofs.lemmas.Bool.{lt-ltb, false≢true}
 use Rattle.std.proofs.lemmas.List.{append-nil}
 use Rattle.blz_error.specs.declared.kind.ErrorKind.{ErrorKind}
 use Rattle.blz_error.specs.declared.kind.ErrorKind.TheVariants.{OutOfMemory}
-use Rattle.blz_model.specs.Part.{Part, Good, Broken, Fails}
+use Rattle.blz_model.specs.Part.{Good, Fails}
 use Rattle.blz_model.specs.Reads.{◌>>=◌}
 use Rattle.blz_entry.specs.Marks.{or_invalid}
 use Rattle.blz_entry.specs.RangeLists.{appended}

@@ -1,10 +1,9 @@
 -- Units that are built, one more of which is kept.
-use Rattle.std.proofs.Common.{◌≡◌, ℕ, true, false, List, length, Option, Some, None, refl, sym, ap, ◌∙◌, subst}
+use Rattle.std.proofs.Common.{◌≡◌, ℕ, true, false, List, length, Option, Some, None, refl, sym, ap, ◌∙◌}
 use Rattle.std.specs.List.{slice_get, slice_set}
 use Rattle.std.proofs.lemmas.List.{length-set}
 use Rattle.blz_model.specs.Kept.{Kept, is_kept}
-use Rattle.blz_model.specs.Part.{Good, Broken}
-use Rattle.blz_model.specs.Reads.{◌>>=◌}
+use Rattle.blz_model.specs.Part.{Good}
 use Rattle.blz_model.specs.declared.cache.Cache.{Cache}
 use Rattle.blz_model.specs.declared.cache.Cache.TheVariants.{Empty, Value, Mark}
 use Rattle.blz_entry.specs.Marks.{or_invalid}

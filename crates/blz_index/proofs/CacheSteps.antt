@@ -1,5 +1,5 @@
 -- What is kept of units, with one part more.
-use Rattle.std.proofs.Common.{◌≡◌, ℕ, ◌<◌, Bool, true, false, List, length, Option, Some, None, Result, Ok, Err, refl, sym, ap, ◌∙◌, subst, ◌⊎◌, inl, inr, eqb}
+use Rattle.std.proofs.Common.{◌≡◌, ℕ, Bool, true, false, List, Option, Some, None, Result, Ok, Err, refl, ◌∙◌, subst, ◌⊎◌, inl, inr, eqb}
 use Rattle.std.specs.List.{slice_get, slice_set}
 use Rattle.std.specs.Prelude.{⊤, MatchResult}
 use Rattle.std.proofs.lemmas.Bool.{cases_Bool, eqb-true, eqb-false}
@@ -13,7 +13,7 @@ use Rattle.blz_line.specs.UnitLines.{OrderedLines}
 use Rattle.blz_index.specs.declared.unit_caches.UnitCaches.{UnitCaches}
 use Rattle.blz_index.specs.BuiltUnits.{Files}
 use Rattle.blz_index.specs.Growing.{Told, Made, AreOrdered, LinesOrdered, CallsOrdered, CachesGrow, UnitsGrowTo}
-use Rattle.blz_index.specs.KeptParts.{call_cache, unit_root, lists_view, lines_view, calls_view, kept_root, kept_functions, kept_lines, kept_calls, functions_count, is_empty, lacks_root, lacks_functions, lacks_lines, lacks_calls, CachesFit, PartsFit, AreFull, AllFull}
+use Rattle.blz_index.specs.KeptParts.{call_cache, unit_root, lists_view, lines_view, calls_view, kept_root, kept_functions, kept_lines, kept_calls, is_empty, CachesFit, PartsFit}
 use Rattle.blz_index.specs.Putting.{HasCalls, PutsCalls}
 use Rattle.blz_index.specs.Ranges.{FunctionRanges, CallRanges}
 use Rattle.blz_index.specs.UnitAnswers.{unit_functions, unit_lines, function_calls}

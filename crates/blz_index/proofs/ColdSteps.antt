@@ -13,8 +13,8 @@ use Rattle.blz_index.specs.declared.built_units.Side.TheVariants.{File, Sup}
 use Rattle.blz_index.specs.declared.unit_caches.UnitCaches.{UnitCaches}
 use Rattle.blz_index.specs.declared.unit_caches.Caches.{Caches}
 use Rattle.blz_index.specs.BuiltUnits.{Files, built_view, BuiltFits}
-use Rattle.blz_index.specs.Cold.{NothingKept, HasNothing, AreEmpty, IsCold}
-use Rattle.blz_index.specs.KeptParts.{or_empty, unit_root, unit_of, lists_view, lines_view, calls_view, kept_root, kept_functions, kept_lines, kept_calls, CachesFit, PartsFit, AllBuilt, BuiltFit, AllFit}
+use Rattle.blz_index.specs.Cold.{NothingKept, HasNothing, IsCold}
+use Rattle.blz_index.specs.KeptParts.{or_empty, unit_root, unit_of, lists_view, lines_view, calls_view, kept_root, kept_functions, kept_lines, kept_calls, CachesFit, AllBuilt, AllFit}
 use Rattle.blz_index.specs.UnitAnswers.{unit_functions, unit_lines, function_calls}
 use Rattle.blz_index.specs.UnitTables.{UnitTable}
 

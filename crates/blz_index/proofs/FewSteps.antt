@@ -1,9 +1,8 @@
 -- A search that goes on behind the first unit finds nothing where no two announced ranges share an address.
-use Rattle.std.proofs.Common.{◌≡◌, ℕ, List, [], drop, Option, Some, None, Result, Ok, Err, refl, sym, ap, ◌∙◌, subst}
+use Rattle.std.proofs.Common.{◌≡◌, ℕ, List, [], drop, Option, Some, None, Result, Ok, Err, refl, sym, ◌∙◌}
 use Rattle.blz_error.specs.Fault.{Fault}
-use Rattle.blz_model.specs.Part.{Part, Good}
+use Rattle.blz_model.specs.Part.{Good}
 use Rattle.blz_index.specs.declared.unit_caches.UnitCaches.{UnitCaches}
-use Rattle.blz_index.specs.Groups.{AreApart}
 use Rattle.blz_index.specs.KeptAnswers.{Repeats, first_kept}
 use Rattle.blz_index.specs.Owned.{items_of}
 use Rattle.blz_index.specs.Ranges.{OwnedRanges}

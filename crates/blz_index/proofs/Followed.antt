@@ -1,5 +1,5 @@
 -- A name that is followed entry after entry is the one that a value refers to.
-use Rattle.std.proofs.Common.{◌≡◌, ℕ, zero, suc, ◌+◌, ◌<◌, Bool, true, false, Option, Some, None, refl, sym, ap, ◌∙◌, arith}
+use Rattle.std.proofs.Common.{◌≡◌, ℕ, zero, suc, ◌+◌, ◌<◌, Bool, true, false, Option, Some, None, refl, arith}
 use Rattle.std.specs.Option.{option_map}
 use Rattle.std.specs.Prelude.{is_some, if◌then◌else◌}
 use Rattle.blz_model.specs.Reads.{◌>>=◌}
@@ -11,17 +11,15 @@ use Rattle.blz_index.specs.declared.built_units.Side.TheVariants.{File, Sup}
 use Rattle.blz_index.specs.declared.references.Standing.{Standing}
 use Rattle.blz_index.specs.declared.references.Standing.TheVariants.{Own, Numbered}
 use Rattle.blz_index.specs.declared.references.Reference.{Reference}
-use Rattle.blz_index.specs.declared.references.Followed.{Followed}
 use Rattle.blz_index.specs.declared.references.Followed.TheVariants.{Name, On}
 use Rattle.blz_index.specs.declared.visit.Visited.{Visited}
 use Rattle.blz_index.specs.declared.visit.Visited.TheVariants.{Named, Leads, Nameless}
-use Rattle.blz_index.specs.BuiltUnits.{Files, reading, sup_built}
-use Rattle.blz_index.specs.Following.{unit_in, placed_in, own_side, target_in, target_of, seen, seen_from, entry_seen, followed, step_of, going, name_over}
+use Rattle.blz_index.specs.Following.{unit_in, placed_in, own_side, target_in, seen, entry_seen, followed, step_of, going, name_over}
 use Rattle.blz_index.specs.KeptParts.{unit_of, headers_of}
 use Rattle.blz_index.specs.Linkage.{Linked, refer_in}
 use Rattle.blz_index.specs.Leaves.{UnitParts}
 use Rattle.blz_index.specs.Naming.{visited}
-use Rattle.blz_index.specs.References.{Reach, entry_in, in_main, in_sup, target, go_on, visit_then, unit_at, referenced}
+use Rattle.blz_index.specs.References.{entry_in, in_main, in_sup, target, go_on, visit_then, unit_at, referenced}
 use Rattle.blz_index.specs.UnitTables.{reach_of}
 
 abbrev Names : Type 0

@@ -1,5 +1,5 @@
 -- One unit more among those that are kept.
-use Rattle.std.proofs.Common.{◌≡◌, ◌≤◌, ℕ, Bool, true, false, List, [], ◌∷◌, ◌++◌, length, length-append, Option, Some, None, refl, sym, ap, ◌∙◌, arith}
+use Rattle.std.proofs.Common.{◌≡◌, ◌≤◌, ℕ, true, false, List, [], ◌∷◌, ◌++◌, length, length-append, Option, Some, None, refl, sym, ap, ◌∙◌, arith}
 use Rattle.std.proofs.lemmas.Bool.{false≢true}
 use Rattle.blz_error.specs.declared.kind.ErrorKind.{ErrorKind}
 use Rattle.blz_model.specs.Part.{Good, Fails}
@@ -9,7 +9,7 @@ use Rattle.blz_entry.specs.declared.span.Span.{Span}
 use Rattle.blz_entry.specs.declared.units.UnitHeader.{UnitHeader}
 use Rattle.blz_entry.proofs.Marked.{marks_on}
 use Rattle.blz_index.specs.Owned.{Owned, owned, own_all, filled_up}
-use Rattle.blz_index.specs.UnitTables.{KeptUnits, added, added_to, keep}
+use Rattle.blz_index.specs.UnitTables.{KeptUnits, added_to, keep}
 use Rattle.blz_index.proofs.Appended.{list_of, flag_of}
 use Rattle.blz_index.proofs.OwnedItems.{owned_more}
 

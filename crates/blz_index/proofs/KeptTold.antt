@@ -1,11 +1,10 @@
 -- What is kept of units tells what they are.
-use Rattle.std.proofs.Common.{◌≡◌, ℕ, true, false, List, [], ◌∷◌, Option, Some, None, Result, Ok, Err, refl, sym, ap, ◌∙◌, subst}
+use Rattle.std.proofs.Common.{◌≡◌, ℕ, true, false, List, [], ◌∷◌, Option, Some, None, Result, Ok, Err, refl, sym, ◌∙◌}
 use Rattle.std.specs.List.{slice_get}
 use Rattle.std.specs.Prelude.{option_and_then, IfOk}
 use Rattle.blz_error.specs.Fault.{Fault}
 use Rattle.blz_error.specs.declared.kind.ErrorKind.{ErrorKind}
 use Rattle.blz_error.specs.declared.kind.ErrorKind.TheVariants.{InvalidDwarf, OutOfMemory}
-use Rattle.blz_model.specs.Answers.{Site}
 use Rattle.blz_model.specs.Languages.{language_of}
 use Rattle.blz_model.specs.Kept.{Kept}
 use Rattle.blz_model.specs.Part.{Part, Good, Broken, ◌>>=◌, Gives, Exactly}
@@ -14,16 +13,15 @@ use Rattle.blz_model.specs.declared.cache.Cache.TheVariants.{Empty, Value, Mark}
 use Rattle.blz_entry.specs.Marks.{or_invalid}
 use Rattle.blz_entry.specs.declared.root.UnitRoot.{UnitRoot}
 use Rattle.blz_entry.specs.declared.text.Texts.{Texts}
-use Rattle.blz_line.specs.UnitLines.{OrderedLines}
 use Rattle.blz_index.specs.declared.inlined_functions.InlinedFunction.{InlinedFunction}
 use Rattle.blz_index.specs.declared.unit_caches.UnitCaches.{UnitCaches}
 use Rattle.blz_index.specs.BuiltUnits.{Files}
 use Rattle.blz_index.specs.KeptAnswers.{Repeats, kept_part, language_by, kept_language, best_by_ranges, kept_best, place_by, kept_place, line_by, kept_line, chain_by, kept_chain, site_by, kept_site, or_later, first_kept, first_kept_line}
 use Rattle.blz_index.specs.KeptParts.{unit_root, lists_view, lines_view, calls_view, is_empty, call_cache, kept_root, kept_functions, kept_lines, kept_calls, root_at, functions_at, lines_at, calls_at, lacks_root, lacks_functions, lacks_lines, lacks_calls, PartsFit, AllFull}
 use Rattle.blz_index.specs.Leaves.{UnitParts}
-use Rattle.blz_index.specs.Ranges.{FunctionRanges, CallRanges}
+use Rattle.blz_index.specs.Ranges.{FunctionRanges}
 use Rattle.blz_index.specs.UnitAnswers.{main_unit, read_unit, unit_language, unit_functions, unit_lines, function_place, function_calls, place_calls, place_in, best_of, best_function, found_or, first_function, chain_of, covering_calls}
-use Rattle.blz_index.specs.UnitSites.{line_of, line_in, site_or, first_line, site_of, call_site}
+use Rattle.blz_index.specs.UnitSites.{line_of, line_in, first_line, site_of, call_site}
 use Rattle.blz_index.specs.UnitTables.{UnitTable}
 use Rattle.blz_index.specs.UnitsWarm.{is_value}
 use Rattle.blz_index.proofs.PutItems.{none_both}

@@ -52,3 +52,4 @@ pub mod UnitsFits
 pub mod AmongUnits
 pub mod SiteSteps
 pub mod ListingSteps
+pub mod LentLines

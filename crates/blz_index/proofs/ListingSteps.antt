@@ -1,10 +1,10 @@
 -- What units tell by what is kept of them, one after the other.
-use Rattle.std.proofs.Common.{◌≡◌, ◌≢◌, ℕ, suc, ◌+◌, ◌-◌, ◌<◌, ◌≤◌, Bool, true, false, List, [], ◌∷◌, ◌++◌, length, length-append, append_assoc, Option, Some, None, Result, Ok, Err, IfOk, refl, sym, ap, subst, ◌∙◌, arith, inl, inr}
+use Rattle.std.proofs.Common.{◌≡◌, ℕ, suc, ◌+◌, ◌-◌, ◌<◌, ◌≤◌, Bool, true, false, List, [], ◌++◌, length, length-append, append_assoc, Option, Some, None, Result, Ok, Err, IfOk, refl, sym, ap, subst, ◌∙◌, arith, inl, inr}
 use Rattle.std.specs.List.{slice_get}
 use Rattle.std.proofs.lemmas.List.{append-nil}
 use Rattle.blz_error.specs.Fault.{Fault}
 use Rattle.blz_error.specs.declared.kind.ErrorKind.{ErrorKind}
-use Rattle.blz_error.specs.declared.kind.ErrorKind.TheVariants.{OutOfMemory, InvalidDwarf}
+use Rattle.blz_error.specs.declared.kind.ErrorKind.TheVariants.{InvalidDwarf}
 use Rattle.blz_model.specs.Part.{Part, Good, Broken, Fails, Gives, ◌>>=◌}
 use Rattle.blz_model.specs.declared.cache.Cache.{Cache}
 use Rattle.blz_model.specs.declared.cache.Cache.TheVariants.{Empty, Value, Mark}
@@ -17,7 +17,7 @@ use Rattle.blz_index.specs.FunctionList.{Lists}
 use Rattle.blz_index.specs.Growing.{Told, Made, AreOrdered, UnitsGrowTo}
 use Rattle.blz_index.specs.Ranges.{FunctionRanges}
 use Rattle.blz_index.specs.KeptAnswers.{Repeats, kept_part}
-use Rattle.blz_index.specs.KeptParts.{kept_functions, functions_at, lists_view, lacks_functions, PartsFit}
+use Rattle.blz_index.specs.KeptParts.{functions_at, lists_view, lacks_functions, PartsFit}
 use Rattle.blz_index.specs.ShownFunctions.{Numbered, ShowsMore, StopsWithin, IsAllShown, IsCutOff, IsWhole, shown_from, all_shown}
 use Rattle.blz_index.specs.UnitAnswers.{first_called, with_called, called_from, functions_named, in_unit, functions_from, all_functions, unit_functions}
 use Rattle.blz_index.specs.UnitNames.{called_in, called_by, kept_called, AllThere, listed, list_in, ShowsNone}

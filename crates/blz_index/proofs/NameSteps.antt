@@ -5,7 +5,7 @@ use Rattle.blz_model.specs.Reads.{◌>>=◌}
 use Rattle.blz_entry.specs.declared.text.Texts.{Texts}
 use Rattle.blz_index.specs.BuiltUnits.{Files}
 use Rattle.blz_index.specs.FunctionList.{Lists}
-use Rattle.blz_index.specs.ShownFunctions.{Numbered, shown_by, shown_from}
+use Rattle.blz_index.specs.ShownFunctions.{Numbered, shown_from}
 use Rattle.blz_index.specs.UnitAnswers.{first_called, with_called, called_from, in_unit, functions_from, unit_functions}
 use Rattle.blz_index.specs.UnitNames.{called_in}
 use Rattle.blz_index.specs.UnitTables.{UnitTable}

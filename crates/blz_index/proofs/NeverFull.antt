@@ -1,9 +1,8 @@
 -- The line of an address is never a mark of want of memory.
-use Rattle.std.proofs.Common.{◌≡◌, ℕ, List, [], ◌∷◌, Option, Some, None, Result, Ok, Err, refl, sym, ap, ◌∙◌}
+use Rattle.std.proofs.Common.{◌≡◌, ℕ, List, [], ◌∷◌, Option, Some, None, Result, Ok, Err, ◌∙◌}
 use Rattle.std.specs.List.{slice_get}
 use Rattle.std.specs.Option.{option_map}
 use Rattle.blz_error.specs.Fault.{Fault}
-use Rattle.blz_error.specs.declared.kind.ErrorKind.{ErrorKind}
 use Rattle.blz_error.specs.declared.kind.ErrorKind.TheVariants.{InvalidDwarf, OutOfMemory}
 use Rattle.blz_model.specs.Answers.{Site}
 use Rattle.blz_model.specs.Part.{Part, Good, Broken, ◌>>=◌, or_mark, Exactly}
@@ -12,7 +11,7 @@ use Rattle.blz_entry.specs.declared.text.Texts.{Texts}
 use Rattle.blz_line.specs.declared.lines.Location.{Location}
 use Rattle.blz_line.specs.declared.row.LineRow.{LineRow}
 use Rattle.blz_line.specs.FileNames.{file_text}
-use Rattle.blz_line.specs.Lookups.{location_view, row_site, row_in, line_at, site_of}
+use Rattle.blz_line.specs.Lookups.{location_view, row_site, row_in, site_of}
 use Rattle.blz_line.specs.UnitLines.{LineTable}
 use Rattle.blz_index.specs.BuiltUnits.{Files}
 use Rattle.blz_index.specs.KeptAnswers.{Repeats}

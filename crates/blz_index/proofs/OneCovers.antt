@@ -1,8 +1,8 @@
 -- Ranges that share no address: at most one of them covers it, and few looks find it.
-use Rattle.std.proofs.Common.{◌≡◌, ℕ, zero, suc, ◌+◌, ◌-◌, ◌*◌, ◌^◌, ◌<◌, ◌≤◌, Bool, true, false, ltb, leb, eqb, List, [], ◌∷◌, ◌++◌, drop, Option, Some, None, refl, sym, ap, ◌∙◌, subst, arith, inl, inr, ◌⊎◌}
+use Rattle.std.proofs.Common.{◌≡◌, ℕ, suc, ◌+◌, ◌*◌, ◌^◌, ◌<◌, ◌≤◌, Bool, true, false, ltb, leb, eqb, List, [], ◌∷◌, ◌++◌, drop, Option, Some, None, refl, sym, ap, ◌∙◌, subst, arith, inl, inr, ◌⊎◌}
 use Rattle.std.specs.List.{slice_get}
 use Rattle.std.specs.Option.{option_to_list}
-use Rattle.std.specs.Prelude.{◌&&◌, ◌||◌, slice_index_or}
+use Rattle.std.specs.Prelude.{◌&&◌, ◌||◌}
 use Rattle.std.proofs.Math.Nat.{pow-suc, pow-le-pow_right}
 use Rattle.std.proofs.lemmas.Bool.{cases_Bool, ltb-true, leb-true, leb-false}
 use Rattle.std.proofs.lemmas.Option.{get_or_from_slice_get}
@@ -11,7 +11,7 @@ use Rattle.blz_index.specs.declared.placed.Placed.{Placed}
 use Rattle.blz_index.specs.Best.{covers, comes_after, placed, no_span, best, next, IsBest, IsBestAt}
 use Rattle.blz_index.specs.Groups.{AreApart}
 use Rattle.blz_index.specs.Owned.{Owned, items_of, owner_at}
-use Rattle.blz_index.specs.Turns.{covering, IsTurns}
+use Rattle.blz_index.specs.Turns.{covering}
 use Rattle.blz_index.specs.UnitTables.{owners_of}
 use Rattle.blz_index.proofs.BestOf.{best_is_best}
 use Rattle.blz_index.proofs.InTurn.{turns}

@@ -1,5 +1,5 @@
 -- The root of a unit does not depend on where its sections lie in memory.
-use Rattle.std.proofs.Common.{◌≡◌, ℕ, List, [], ◌∷◌, Option, Some, None, refl, sym, ap, ◌∙◌}
+use Rattle.std.proofs.Common.{◌≡◌, ℕ, List, [], ◌∷◌, Option, Some, None, refl, ap, ◌∙◌}
 use Rattle.std.specs.Prelude.{option_and_then, if◌then◌else◌}
 use Rattle.blz_model.specs.Reads.{◌>>=◌}
 use Rattle.blz_entry.specs.Abbrevs.{Abbrev}

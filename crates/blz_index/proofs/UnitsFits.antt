@@ -1,5 +1,5 @@
 -- Units that a call has asked fit the same file.
-use Rattle.std.proofs.Common.{◌≡◌, ℕ, ◌<◌, ◌≤◌, Bool, true, false, List, length, Option, Some, None, refl, sym, ap, ◌∙◌, subst, arith}
+use Rattle.std.proofs.Common.{◌≡◌, ℕ, ◌<◌, ◌≤◌, false, List, length, Option, Some, None, refl, sym, ap, ◌∙◌, subst}
 use Rattle.std.specs.List.{slice_get}
 use Rattle.std.specs.Prelude.{⊤}
 use Rattle.std.proofs.lemmas.Option.{slice_get_past}
@@ -9,8 +9,8 @@ use Rattle.blz_index.specs.declared.unit_caches.UnitCaches.{UnitCaches}
 use Rattle.blz_index.specs.declared.units.Units.{Units}
 use Rattle.blz_index.specs.BuiltUnits.{Files}
 use Rattle.blz_index.specs.Growing.{Told, Made, AreOrdered, LinesOrdered, CallsOrdered, CachesGrow, UnitsGrowTo}
-use Rattle.blz_index.specs.KeptParts.{is_empty, call_cache, kept_root, kept_functions, kept_lines, kept_calls, functions_at, functions_count, lacks_root, lacks_functions, lacks_lines, lacks_calls, AllFit, AreFull, AllFull}
-use Rattle.blz_index.specs.Ranges.{FunctionRanges, CallRanges}
+use Rattle.blz_index.specs.KeptParts.{is_empty, call_cache, kept_functions, functions_at, functions_count, lacks_root, lacks_functions, lacks_lines, lacks_calls, AllFit, AreFull}
+use Rattle.blz_index.specs.Ranges.{FunctionRanges}
 use Rattle.blz_index.specs.UnitsWarm.{units_table, UnitsFit}
 use Rattle.blz_index.proofs.PutItems.{none_both}
 

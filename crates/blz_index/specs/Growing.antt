@@ -1,5 +1,5 @@
 -- What a call may add to what is kept of units: lists are made once, each with the order that it was given.
-use Rattle.std.specs.Prelude.{◌≡◌, ℕ, Bool, true, false, List, map, Option, Some, None, ⊤}
+use Rattle.std.specs.Prelude.{◌≡◌, ℕ, List, map, Option, Some, None, ⊤}
 use Rattle.std.specs.List.{slice_get}
 use Rattle.blz_model.specs.declared.cache.Cache.{Cache}
 use Rattle.blz_model.specs.declared.cache.Cache.TheVariants.{Empty, Value, Mark}

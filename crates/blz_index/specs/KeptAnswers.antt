@@ -1,6 +1,5 @@
 -- What is told of units by what is kept of them.
-use Rattle.std.specs.Prelude.{◌≡◌, ℕ, ◌+◌, ◌-◌, ◌*◌, ◌^◌, ◌≤◌, true, List, [], ◌∷◌, length, Option, Some, None, Result, Ok, Err, option_map}
-use Rattle.std.specs.List.{slice_get}
+use Rattle.std.specs.Prelude.{◌≡◌, ℕ, List, [], ◌∷◌, Option, Some, None, Result, Ok, Err}
 use Rattle.blz_error.specs.Fault.{Fault}
 use Rattle.blz_error.specs.declared.kind.ErrorKind.TheVariants.{InvalidDwarf}
 use Rattle.blz_model.specs.Answers.{Site}

@@ -2,6 +2,7 @@
 use Rattle.std.specs.Prelude.{◌≡◌, ℕ, ◌+◌, ◌^◌, ◌<◌, ◌≤◌, Bool, true, false, List, [], length, Option, Some, None, Result, Ok, Err, ⊤}
 use Rattle.std.specs.List.{slice_get}
 use Rattle.blz_error.specs.Fault.{Fault}
+use Rattle.blz_model.specs.Kept.{is_kept}
 use Rattle.blz_model.specs.declared.cache.Cache.{Cache}
 use Rattle.blz_model.specs.declared.cache.Cache.TheVariants.{Empty, Value, Mark}
 use Rattle.blz_entry.specs.declared.span.Span.{Span}
@@ -66,6 +67,10 @@ functions_ordered u k = has_order (functions_cache u k)
 -- a function that is there
 abbrev pub kept_function : Units → ℕ → ℕ → Option Function
 kept_function u k n = function_in (functions_cache u k) n
+
+-- whether the lines of a unit were read, as their value or their mark
+abbrev pub lines_kept : Units → ℕ → Bool
+lines_kept u k = is_kept (lines_at u.caches.units.items k)
 
 -- ---- the file that they fit
 

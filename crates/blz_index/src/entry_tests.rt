@@ -1,5 +1,6 @@
 //! Functions and inlined calls of a small unit, whose places and ranges were counted by hand.
-ghost use Rattle.std.specs.Prelude.{◌≡◌, Some, None};
+ghost use Rattle.std.specs.Prelude.{◌≡◌, Some, None, IfSome};
+ghost use Rattle.blz_index.specs.Opened.{CanBeOpened};
 
 use crate::call_lists::CallLists;
 use crate::function_lists::FunctionLists;
@@ -41,6 +42,10 @@ const ABBREV: &[u8] =
 // at 69; d at 88 has no range, and the entry at 91 refers to f
 const INFO: &[u8] =
     b"\x5d\0\0\0\x04\0\0\0\0\0\x08\x01\x02f\0\0\x10\0\0\0\0\0\0\x20\x04\x03g\0\x04\x10\0\0\0\0\0\0\x08\x01\x05\x03\x03h\0\x06\x10\0\0\0\0\0\0\x02\x00\x07\x00\0\0\x02n\0\x10\x10\0\0\0\0\0\0\x04\x03i\0\x11\x10\0\0\0\0\0\0\x01\x01\x09\x00\0\0\0\0\x05d\0\x06\x0c\0\0\0\0";
+
+// the same up to before the zero that closes f
+const CUT: &[u8] =
+    b"\x53\0\0\0\x04\0\0\0\0\0\x08\x01\x02f\0\0\x10\0\0\0\0\0\0\x20\x04\x03g\0\x04\x10\0\0\0\0\0\0\x08\x01\x05\x03\x03h\0\x06\x10\0\0\0\0\0\0\x02\x00\x07\x00\0\0\x02n\0\x10\x10\0\0\0\0\0\0\x04\x03i\0\x11\x10\0\0\0\0\0\0\x01\x01\x09\x00\0\0\0";
 
 fn section<'s, 'b>(bytes: &'b [u8], moves: &'s RelocationMap) -> Section<'s, 'b> {
     Section {
@@ -86,6 +91,27 @@ fn root() -> UnitRoot {
     }
 }
 
+// the first unit of a section, whose entries are read
+fn opened<'s>(
+    info: &'static [u8],
+    moves: &'s RelocationMap,
+    abbreviations: &'s Abbreviations,
+) -> Option<OpenUnit<'s, 'static>>
+    ensures { IfSome result CanBeOpened }
+{
+    let sections = sections(info, moves);
+    let mut headers = UnitHeaders::new(sections.info);
+    match headers.next_header() {
+        Ok(Some(header)) => Some(OpenUnit {
+            sections,
+            header,
+            abbreviations,
+            root: root(),
+        }),
+        _ => None,
+    }
+}
+
 // a name of one byte
 fn name_at(start: usize) -> Option<StrPlace> {
     Some(StrPlace {
@@ -99,15 +125,10 @@ fn name_at(start: usize) -> Option<StrPlace> {
 fn the_functions_with_a_range_are_listed(rt: HostRuntime) -> Result<(), Fail> {
     let alloc = rt.alloc();
     let moves = RelocationMap::new(alloc);
-    let sections = sections(INFO, &moves);
-    let mut headers = UnitHeaders::new(sections.info);
-    let header = headers.next_header()?.ok_or("a unit")?;
     let abbreviations = Abbreviations::parse(alloc, ABBREV, 0)?;
-    let unit = OpenUnit {
-        sections,
-        header,
-        abbreviations: &abbreviations,
-        root: root(),
+    let Some(unit) = opened(INFO, &moves, &abbreviations) else {
+        assert!(rt; false);
+        return Ok(());
     };
     let functions = FunctionLists::read(alloc, &unit, &mut Nowhere)?.indexed(
         alloc,
@@ -127,15 +148,10 @@ fn the_functions_with_a_range_are_listed(rt: HostRuntime) -> Result<(), Fail> {
 fn the_calls_below_a_function_are_its_own(rt: HostRuntime) -> Result<(), Fail> {
     let alloc = rt.alloc();
     let moves = RelocationMap::new(alloc);
-    let sections = sections(INFO, &moves);
-    let mut headers = UnitHeaders::new(sections.info);
-    let header = headers.next_header()?.ok_or("a unit")?;
     let abbreviations = Abbreviations::parse(alloc, ABBREV, 0)?;
-    let unit = OpenUnit {
-        sections,
-        header,
-        abbreviations: &abbreviations,
-        root: root(),
+    let Some(unit) = opened(INFO, &moves, &abbreviations) else {
+        assert!(rt; false);
+        return Ok(());
     };
     let calls = CallLists::read(alloc, &unit, &mut Nowhere, 12)?.indexed(alloc, &mut ByStdSort)?;
     let list = calls.calls();
@@ -143,11 +159,36 @@ fn the_calls_below_a_function_are_its_own(rt: HostRuntime) -> Result<(), Fail> {
     assert!(rt; list[0].name == name_at(26) && list[0].call_file == Some(1));
     assert!(rt; list[0].call_line == 5 && list[0].call_column == 3);
     assert!(rt; list[1].name == name_at(41) && list[1].call_file == None);
+    Ok(())
+}
+
+#[test]
+fn the_calls_of_an_address_are_the_outermost_first(rt: HostRuntime) -> Result<(), Fail> {
+    let alloc = rt.alloc();
+    let moves = RelocationMap::new(alloc);
+    let abbreviations = Abbreviations::parse(alloc, ABBREV, 0)?;
+    let Some(unit) = opened(INFO, &moves, &abbreviations) else {
+        assert!(rt; false);
+        return Ok(());
+    };
+    let calls = CallLists::read(alloc, &unit, &mut Nowhere, 12)?.indexed(alloc, &mut ByStdSort)?;
     let deep = calls.find_inlined_functions(alloc, 0x1006)?;
     assert!(rt; deep.len() == 2 && deep[0] == 0 && deep[1] == 1);
     let shallow = calls.find_inlined_functions(alloc, 0x1005)?;
     assert!(rt; shallow.len() == 1 && shallow[0] == 0);
     assert!(rt; calls.find_inlined_functions(alloc, 0x1011)?.is_empty());
+    Ok(())
+}
+
+#[test]
+fn a_function_below_another_has_calls_of_its_own(rt: HostRuntime) -> Result<(), Fail> {
+    let alloc = rt.alloc();
+    let moves = RelocationMap::new(alloc);
+    let abbreviations = Abbreviations::parse(alloc, ABBREV, 0)?;
+    let Some(unit) = opened(INFO, &moves, &abbreviations) else {
+        assert!(rt; false);
+        return Ok(());
+    };
     let inner = CallLists::read(alloc, &unit, &mut Nowhere, 57)?.indexed(alloc, &mut ByStdSort)?;
     assert!(rt; inner.calls().len() == 1 && inner.calls()[0].name == name_at(70));
     let leaf = CallLists::read(alloc, &unit, &mut Nowhere, 88)?.indexed(alloc, &mut ByStdSort)?;
@@ -159,18 +200,10 @@ fn the_calls_below_a_function_are_its_own(rt: HostRuntime) -> Result<(), Fail> {
 fn an_open_function_has_no_calls_and_is_still_listed(rt: HostRuntime) -> Result<(), Fail> {
     let alloc = rt.alloc();
     let moves = RelocationMap::new(alloc);
-    // the unit ends before the zero that closes f
-    let cut =
-        b"\x53\0\0\0\x04\0\0\0\0\0\x08\x01\x02f\0\0\x10\0\0\0\0\0\0\x20\x04\x03g\0\x04\x10\0\0\0\0\0\0\x08\x01\x05\x03\x03h\0\x06\x10\0\0\0\0\0\0\x02\x00\x07\x00\0\0\x02n\0\x10\x10\0\0\0\0\0\0\x04\x03i\0\x11\x10\0\0\0\0\0\0\x01\x01\x09\x00\0\0\0";
-    let sections = sections(cut, &moves);
-    let mut headers = UnitHeaders::new(sections.info);
-    let header = headers.next_header()?.ok_or("a unit")?;
     let abbreviations = Abbreviations::parse(alloc, ABBREV, 0)?;
-    let unit = OpenUnit {
-        sections,
-        header,
-        abbreviations: &abbreviations,
-        root: root(),
+    let Some(unit) = opened(CUT, &moves, &abbreviations) else {
+        assert!(rt; false);
+        return Ok(());
     };
     let functions = FunctionLists::read(alloc, &unit, &mut Nowhere)?.indexed(
         alloc,
@@ -190,15 +223,10 @@ fn an_open_function_has_no_calls_and_is_still_listed(rt: HostRuntime) -> Result<
 fn an_entry_tells_its_name_or_where_it_leads(rt: HostRuntime) -> Result<(), Fail> {
     let alloc = rt.alloc();
     let moves = RelocationMap::new(alloc);
-    let sections = sections(INFO, &moves);
-    let mut headers = UnitHeaders::new(sections.info);
-    let header = headers.next_header()?.ok_or("a unit")?;
     let abbreviations = Abbreviations::parse(alloc, ABBREV, 0)?;
-    let unit = OpenUnit {
-        sections,
-        header,
-        abbreviations: &abbreviations,
-        root: root(),
+    let Some(unit) = opened(INFO, &moves, &abbreviations) else {
+        assert!(rt; false);
+        return Ok(());
     };
     match visit(&unit, 88)? {
         Visited::Named(name) => assert!(rt; Some(name) == name_at(89)),

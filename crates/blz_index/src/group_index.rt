@@ -108,6 +108,7 @@ impl GroupIndex {
         })
     }
 
+    /// Whether the order was accepted.
     pub fn is_ordered(&self) -> bool
         ensures { result ≡ self.now.ordered }
     {

@@ -53,6 +53,7 @@ impl Ordered {
     }
 }
 
+/// The place of a range that was found.
 pub fn place_found(best: &Option<Ordered>) -> Option<usize>
     ensures { result ≡ place_found best.now }
 {

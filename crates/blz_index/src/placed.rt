@@ -51,6 +51,7 @@ pub fn passes(probe: u64, after: &Option<Placed>, place: usize, span: &Span) -> 
     }
 }
 
+/// The place of a range that was found.
 pub fn place_of(best: &Option<Placed>) -> Option<usize>
     ensures { result ≡ place_of best.now }
 {

@@ -1,7 +1,10 @@
 //! Ranges that overlap, in orders that are accepted and that are not, and the chain of inlined calls.
 
+ghost use Rattle.std.specs.Prelude.{◌≡◌, length, IfOk};
+
 mod announced;
 mod asked;
+mod listed;
 
 use crate::functions::{Function, Functions};
 use crate::grouped::Grouped;
@@ -11,6 +14,17 @@ use blz_entry::Span;
 use std::alloc::{AllocError, Global};
 use std::test::Fail;
 
+// the numbers below a count, each range's own
+fn numbered(alloc: Global, count: usize) -> Result<Vec<usize>, AllocError>
+    ensures { IfOk result (λ v. length v.items ≡ count) }
+{
+    let mut owners = Vec::new(alloc);
+    for number in 0..count {
+        owners.push(number)?;
+    }
+    Ok(owners)
+}
+
 // functions of one range each
 fn functions<O: Orders>(
     alloc: Global,
@@ -19,13 +33,11 @@ fn functions<O: Orders>(
 ) -> Result<Functions, AllocError> {
     let mut functions = Vec::new(alloc);
     let mut spans = Vec::new(alloc);
-    let mut owners = Vec::new(alloc);
     for (begin, end) in ranges {
         let span = Span {
             begin: *begin,
             end: *end,
         };
-        owners.push(functions.len())?;
         functions.push(Function {
             place: 0,
             name: None,
@@ -33,6 +45,7 @@ fn functions<O: Orders>(
         })?;
         spans.push(span)?;
     }
+    let owners = numbered(alloc, spans.len())?;
     Functions::build(alloc, orders, functions, spans, owners)
 }
 
@@ -47,6 +60,17 @@ fn the_nearest_begin_covers(rt: HostRuntime) -> Result<(), Fail> {
     let equal = functions(alloc, &mut ByStdSort, &[(0x10, 0x20), (0x10, 0x30)])?;
     assert!(rt; equal.find_function(0x15) == Some(0));
     assert!(rt; equal.find_function(0x25) == Some(1));
+    Ok(())
+}
+
+#[test]
+fn a_list_in_order_is_accepted_as_it_stands(rt: HostRuntime) -> Result<(), Fail> {
+    let alloc = rt.alloc();
+    let rising = [(0, 8), (16, 24), (32, 40), (48, 56), (64, 72)];
+    let found = functions(alloc, &mut AsTheyStand, &rising)?;
+    assert!(rt; found.is_ordered());
+    assert!(rt; found.find_function(0x22) == Some(2));
+    assert!(rt; found.find_function(0x2a) == None);
     Ok(())
 }
 
@@ -70,8 +94,7 @@ fn a_chain_goes_down_by_depth(rt: HostRuntime) -> Result<(), Fail> {
     let alloc = rt.alloc();
     let mut calls = Vec::new(alloc);
     let mut ranges = Vec::new(alloc);
-    let mut owners = Vec::new(alloc);
-    for (number, group, begin, end) in [(0, 0, 0, 10), (1, 1, 0, 2), (2, 1, 6, 8)] {
+    for (group, begin, end) in [(0, 0, 10), (1, 0, 2), (1, 6, 8)] {
         calls.push(InlinedFunction {
             name: None,
             call_file: None,
@@ -82,8 +105,8 @@ fn a_chain_goes_down_by_depth(rt: HostRuntime) -> Result<(), Fail> {
             group,
             span: Span { begin, end },
         })?;
-        owners.push(number)?;
     }
+    let owners = numbered(alloc, ranges.len())?;
     let calls = InlinedFunctions::build(alloc, &mut ByStdSort, calls, ranges, owners)?;
     let deep = calls.find_inlined_functions(alloc, 7)?;
     assert!(rt; deep.len() == 2 && deep[0] == 0 && deep[1] == 2);

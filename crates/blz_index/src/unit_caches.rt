@@ -86,6 +86,7 @@ pub fn lacks_calls(units: &[UnitCaches], number: usize, function: usize) -> bool
     }
 }
 
+/// Keeps the root of a unit.
 pub fn put_root(units: &mut Vec<UnitCaches>, number: usize, root: Cache<UnitRoot>)
     ensures { (c : UnitCaches) → slice_get units.old.items number ≡ Some c → units.new.items ≡ slice_set units.old.items number (record c { root = root }) }
 {
@@ -95,6 +96,7 @@ pub fn put_root(units: &mut Vec<UnitCaches>, number: usize, root: Cache<UnitRoot
     }
 }
 
+/// Keeps the functions of a unit.
 pub fn put_functions(units: &mut Vec<UnitCaches>, number: usize, functions: Cache<Functions>)
     ensures { (c : UnitCaches) → slice_get units.old.items number ≡ Some c → units.new.items ≡ slice_set units.old.items number (record c { functions = functions }) }
 {
@@ -104,6 +106,7 @@ pub fn put_functions(units: &mut Vec<UnitCaches>, number: usize, functions: Cach
     }
 }
 
+/// Keeps the lines of a unit.
 pub fn put_lines(units: &mut Vec<UnitCaches>, number: usize, lines: Cache<Option<Lines>>)
     ensures { (c : UnitCaches) → slice_get units.old.items number ≡ Some c → units.new.items ≡ slice_set units.old.items number (record c { lines = lines }) }
 {

@@ -50,6 +50,7 @@ fn find_in(headers: &[UnitHeader], offset: u64) -> Option<(usize, usize)>
 }
 
 impl UnitList {
+    /// No headers; takes no memory.
     pub fn new(alloc: Global) -> UnitList
         ensures { result ≡ [] }
     {
@@ -58,6 +59,7 @@ impl UnitList {
         }
     }
 
+    /// How many they are.
     pub fn len(&self) -> usize
         ensures { result ≡ length self.now }
     {

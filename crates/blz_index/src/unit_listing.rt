@@ -146,7 +146,7 @@ impl<'r, 's, 'b> Reader<'r, 's, 'b> {
         self.fill_functions(orders, caches, number)?;
         match functions_of(caches.units.as_slice(), number) {
             Ok(functions) => Ok(show_functions(visit, number, functions.functions())),
-            Err(mark) => Err(mark),
+            Err(fault) => Err(fault),
         }
     }
 

@@ -45,9 +45,9 @@ fn units_in(alloc: Global, info: Section<'_, '_>) -> Result<UnitList>
     Ok(units)
 }
 
-/// The units of a supplementary file, and none without one.
+/// The units of a supplementary file, and none without one. InvalidDwarf exactly where their headers have no value.
 #[tactic(auto, unfolding(crate::specs::UnitTables::sup_units))]
-fn sup_units(alloc: Global, sup: &Option<Sections<'_, '_>>) -> Result<UnitList>
+pub fn sup_units(alloc: Global, sup: &Option<Sections<'_, '_>>) -> Result<UnitList>
     ensures { Gives (λ l. l) result (or_invalid (sup_units (option_map sections_view sup.now))) }
 {
     match sup {

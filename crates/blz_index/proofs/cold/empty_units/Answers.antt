@@ -1,4 +1,4 @@
-use Rattle.std.proofs.Common.{◌∙◌, length, arith, refl}
+use Rattle.std.proofs.Common.{◌∙◌, arith}
 use Rattle.std.proofs.lemmas.List.{length_push}
 use Rattle.blz_model.specs.declared.cache.Cache.TheVariants.{Empty}
 use Rattle.blz_index.proofs.ColdSteps.{push_empty}

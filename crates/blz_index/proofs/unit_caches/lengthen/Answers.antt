@@ -1,4 +1,4 @@
-use Rattle.std.proofs.Common.{◌∙◌, arith}
+use Rattle.std.proofs.Common.{◌∙◌}
 use Rattle.blz_index.proofs.ColdSteps.{push_empty}
 use Rattle.blz_index.proofs.unit_caches.lengthen.Goals as goal
 

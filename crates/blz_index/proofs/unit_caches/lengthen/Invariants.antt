@@ -1,4 +1,4 @@
-use Rattle.std.proofs.Common.{◌≡◌, ◌-◌, ◌+◌, ◌≤◌, ℕ, length}
+use Rattle.std.proofs.Common.{◌≡◌, ◌-◌, ◌+◌, ℕ, length}
 use Rattle.std.specs.List.{slice_get}
 use Rattle.blz_index.specs.KeptParts.{or_empty}
 use Rattle.blz_index.proofs.unit_caches.lengthen.Given as goal

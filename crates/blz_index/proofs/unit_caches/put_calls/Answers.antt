@@ -1,5 +1,5 @@
 use Rattle.std.proofs.Common.{arith}
-use Rattle.std.proofs.lemmas.Option.{slice_get_within, get_or_from_slice_get}
+use Rattle.std.proofs.lemmas.Option.{slice_get_within}
 use Rattle.blz_index.proofs.CallPuts.{puts_in, same_item}
 use Rattle.blz_index.proofs.unit_caches.put_calls.Goals as goal
 

@@ -1,6 +1,5 @@
 use Rattle.std.proofs.Common.{refl, sym, ap}
 use Rattle.blz_entry.specs.Marks.{or_invalid}
-use Rattle.blz_index.specs.UnitAnswers.{chosen}
 use Rattle.blz_index.proofs.Choosing.{more, none, over}
 use Rattle.blz_index.proofs.unit_looks.chosen.Goals as goal
 

@@ -1,14 +1,13 @@
-use Rattle.std.proofs.Common.{sym, ap, subst, ◌∙◌, ℕ, ◌≤◌, arith}
+use Rattle.std.proofs.Common.{sym, ap, subst, ◌∙◌, ℕ}
 use Rattle.std.proofs.lemmas.Result.{err_from_is_err_and}
 use Rattle.blz_entry.specs.Contents.{section_view}
 use Rattle.blz_entry.specs.Folds.{fold_maybe}
 use Rattle.blz_entry.specs.Marks.{or_invalid}
-use Rattle.blz_entry.proofs.Marked.{marks, marks_on, good_some}
+use Rattle.blz_entry.proofs.Marked.{marks_on, good_some}
 use Rattle.blz_index.specs.BuiltUnits.{files_view}
 use Rattle.blz_index.specs.UnitLists.{EndBefore}
 use Rattle.blz_index.specs.UnitTables.{with_unit}
-use Rattle.blz_index.proofs.HeaderSteps.{headers_more, headers_fail, headers_none, headers_over, place_behind, section_behind, step_on, step_fails, bad_header, good_header, no_header_left}
-use Rattle.blz_index.proofs.UnitsInPlace.{end_later}
+use Rattle.blz_index.proofs.HeaderSteps.{headers_more, headers_fail, headers_over, place_behind, section_behind, step_on, step_fails, bad_header, good_header, no_header_left}
 use Rattle.blz_index.proofs.kept_units.KeptUnits.read.Goals as goal
 
 pub returns-in_err-header : goal.returns-in_err-header

@@ -1,4 +1,4 @@
-use Rattle.std.proofs.Common.{◌≡◌, ℕ, ◌<◌, false}
+use Rattle.std.proofs.Common.{◌≡◌, ℕ, ◌<◌}
 use Rattle.std.specs.List.{slice_get}
 use Rattle.blz_index.specs.Growing.{UnitsGrowTo}
 use Rattle.blz_index.specs.KeptParts.{AreFull, AllFit}

@@ -1,6 +1,6 @@
 use Rattle.std.proofs.Common.{sym, ◌∙◌, arith, ltb, inl, inr, ◌≡◌}
 use Rattle.std.proofs.lemmas.Bool.{cases_Bool, ltb-true, ltb-false}
-use Rattle.blz_index.proofs.CacheSteps.{units_same, units_again}
+use Rattle.blz_index.proofs.CacheSteps.{units_again}
 use Rattle.blz_index.proofs.UnitsFits.{calls_stay}
 use Rattle.blz_index.proofs.reader.Reader.fill_first_calls.Goals as goal
 

@@ -1,4 +1,4 @@
-use Rattle.std.proofs.Common.{sym, ◌∙◌, arith, subst, ◌<◌, ℕ}
+use Rattle.std.proofs.Common.{sym, ◌∙◌, subst, ◌<◌, ℕ}
 use Rattle.blz_index.proofs.CacheSteps.{units_again}
 use Rattle.blz_index.proofs.UnitsFits.{root_stays, functions_stay, lines_stay, count_stays}
 use Rattle.blz_index.proofs.reader.Reader.fill_parts.Goals as goal

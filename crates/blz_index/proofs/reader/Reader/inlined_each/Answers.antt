@@ -1,4 +1,4 @@
-use Rattle.std.proofs.Common.{map, sym, ◌∙◌}
+use Rattle.std.proofs.Common.{map, ◌∙◌}
 use Rattle.std.proofs.lemmas.List.{map-append}
 use Rattle.blz_model.proofs.PartLemmas.{all_on, all_break, all_end}
 use Rattle.blz_index.specs.Readers.{reader_files, reader_table}

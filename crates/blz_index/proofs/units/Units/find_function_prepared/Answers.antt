@@ -1,4 +1,3 @@
-use Rattle.blz_entry.specs.Marks.{or_invalid}
 use Rattle.blz_index.specs.UnitAnswers.{function_at}
 use Rattle.blz_index.specs.UnitTables.{announcing}
 use Rattle.blz_index.specs.UnitsWarm.{units_table}

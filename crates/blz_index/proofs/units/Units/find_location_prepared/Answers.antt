@@ -1,5 +1,3 @@
-use Rattle.std.specs.Option.{option_map}
-use Rattle.blz_line.specs.Lookups.{location_view}
 use Rattle.blz_index.specs.UnitSites.{location_at}
 use Rattle.blz_index.specs.UnitTables.{announcing}
 use Rattle.blz_index.specs.UnitsWarm.{units_table}

@@ -1,4 +1,4 @@
-use Rattle.std.proofs.Common.{refl, Some}
+use Rattle.std.proofs.Common.{refl}
 use Rattle.blz_entry.proofs.Marked.{good_some}
 use Rattle.blz_index.specs.BuiltUnits.{files_view}
 use Rattle.blz_index.specs.TableViews.{table_view}
