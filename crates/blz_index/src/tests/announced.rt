@@ -98,6 +98,18 @@ fn a_unit_that_a_set_names_is_not_built(rt: HostRuntime) -> Result<(), Fail> {
     assert!(rt; table.announced.find(0x10) == Some(0));
     assert!(rt; table.announced.find(0x28) == Some(1));
     assert!(rt; table.announced.find(0x30) == None);
+    Ok(())
+}
+
+#[test]
+fn a_unit_without_its_abbreviations_cannot_be_built(rt: HostRuntime) -> Result<(), Fail> {
+    let alloc = rt.alloc();
+    let none = RelocationMap::new(alloc);
+    let dwarf = file(ARANGES, &none);
+    let Ok(table) = UnitTable::read(alloc, &mut AsTheyStand, &dwarf) else {
+        assert!(rt; false);
+        return Ok(());
+    };
     match table.kept.get(0) {
         Some(header) => assert!(rt; BuiltUnit::reading(alloc, &dwarf, &header).is_ok()),
         None => assert!(rt; false),
