@@ -23,8 +23,6 @@ use Rattle.blz_elf.specs.RelocationTables.{entry_kind, with_entries, with_sectio
 use Rattle.blz_elf.specs.SymbolTables.{Symbol, SymbolTable, table_named, symtab_of, dynsym_of, table_of}
 use Rattle.blz_elf.specs.SymbolRule as rule
 use Rattle.blz_resolver.specs.FormatKinds.{IsFormatKind, IsMemoryOrFormat}
-use Rattle.blz_resolver.specs.Images.{ImageSet}
-use Rattle.blz_resolver.specs.Scan.{each, unread, head_of, frame_of, answer_of, scan_of}
 
 abbrev pub OnMark : {A : Type 0} → Part A → Type 0
 OnMark (Good x) = ⊤
@@ -60,17 +58,13 @@ pub marks_all : {X A : Type 0} (f : X → Part A) (xs : List X) → ((x : X) →
 marks_all f [] each_one = record { kind = tt }
 marks_all f (x ∷ xs) each_one = marks_bind (f x) _ (each_one x) (λ y. marks_bind (all_good (map f xs)) _ (marks_all f xs each_one) (λ ys. marks_good (y ∷ ys)))
 
-pub marks_each : {X A : Type 0} (f : X → Part A) (xs : List X) → ((x : X) → Marks (f x)) → Marks (each f xs)
-marks_each f [] each_one = record { kind = tt }
-marks_each f (x ∷ xs) each_one = marks_bind (f x) _ (each_one x) (λ y. marks_each f xs each_one)
-
 -- what is read where a first reading found nothing
 pub marks_choice : {A B : Type 0} (p : Part (Option A)) (f : Option A → Part B) → Marks p → Marks (f None) → ((x : A) → Marks (f (Some x))) → Marks (p >>= f)
 marks_choice (Good None) f first nothing some = nothing
 marks_choice (Good (Some x)) f first nothing some = some x
 marks_choice (Broken k) f first nothing some = record { kind = first.kind }
 
-ruleset parts = (marks_good, marks_check, marks_or, marks_bind, marks_if, marks_all, marks_each, marks_broken)
+ruleset parts = (marks_good, marks_check, marks_or, marks_bind, marks_if, marks_all, marks_broken)
 
 -- ---- the parts of an image
 
@@ -78,7 +72,7 @@ marks_name_at : (table : List ℕ) (at : ℕ) → Marks (name_at table at)
 unfolding name_at
 marks_name_at table at = search parts depth 20
 
-marks_header : (bytes : List ℕ) → Marks (header_of bytes)
+pub marks_header : (bytes : List ℕ) → Marks (header_of bytes)
 unfolding header_of
 marks_header bytes = search parts depth 20
 
@@ -90,7 +84,7 @@ marks_count : (bytes : List ℕ) (h : Header) → Marks (section_count bytes h)
 unfolding section_count
 marks_count bytes h = search (parts, marks_first) depth 20
 
-marks_sections : (bytes : List ℕ) (h : Header) → Marks (sections_of bytes h)
+pub marks_sections : (bytes : List ℕ) (h : Header) → Marks (sections_of bytes h)
 unfolding sections_of
 marks_sections bytes h = search (parts, marks_count) depth 20
 
@@ -110,11 +104,11 @@ marks_name_table : (bytes : List ℕ) (h : Header) (sections : List Section) →
 unfolding image.name_table
 marks_name_table bytes h sections = search (parts, marks_raw) depth 20
 
-marks_names : (texts : List ℕ) (sections : List Section) → Marks (image.names_of texts sections)
+pub marks_names : (texts : List ℕ) (sections : List Section) → Marks (image.names_of texts sections)
 unfolding image.names_of
 marks_names texts sections = marks_all _ _ (λ s. marks_name_at texts s.name_offset)
 
-marks_elf : (bytes : List ℕ) → Marks (image.elf_of bytes)
+pub marks_elf : (bytes : List ℕ) → Marks (image.elf_of bytes)
 unfolding image.elf_of
 marks_elf bytes = search (parts, marks_header, marks_sections, marks_name_table, marks_names) depth 20
 
@@ -123,7 +117,7 @@ unfolding image.data_named
 marks_data_named elf name None e = rw e (marks_good [])
 marks_data_named elf name (Some s) e = rw e (marks_data elf.header.format elf.image s)
 
-marks_image_data : (bytes name : List ℕ) → Marks (image.image_data_named bytes name)
+pub marks_image_data : (bytes name : List ℕ) → Marks (image.image_data_named bytes name)
 unfolding image.image_data_named
 marks_image_data bytes name = marks_bind _ _ (marks_elf bytes) (λ elf. marks_data_named elf name (image.section_called elf name) refl)
 
@@ -179,11 +173,7 @@ pub marks_image_symbol : (bytes : List ℕ) (module_name : Option (List ℕ)) (a
 unfolding rule.image_symbol
 marks_image_symbol bytes module_name addr = search (parts, marks_elf, marks_symbol_for) depth 20
 
--- ---- the scan
-
-marks_unread : (bytes name : List ℕ) → Marks (unread bytes name)
-unfolding unread image.image_holds_bytes
-marks_unread bytes name = search (parts, marks_elf) depth 20
+-- ---- the relocations
 
 marks_entries : (f : Format) (bytes : List ℕ) (sections : List Section) (s : Section) (kind : EntryKind) (m : SectionMap) → Marks (with_entries f bytes sections s kind m)
 unfolding with_entries
@@ -199,24 +189,9 @@ unfolding with_sections
 marks_some_sections f bytes sections [] m = marks_good m
 marks_some_sections f bytes sections (s ∷ rest) m = marks_bind _ _ (marks_section f bytes sections m s (entry_kind s) refl) (marks_some_sections f bytes sections rest)
 
-marks_relocations : (bytes : List ℕ) → Marks (image_relocations bytes)
+pub marks_relocations : (bytes : List ℕ) → Marks (image_relocations bytes)
 unfolding image_relocations relocations_of
 marks_relocations bytes = marks_bind _ _ (marks_header bytes) (λ h. marks_bind _ _ (marks_sections bytes h) (λ sections. marks_if _ _ _ (marks_some_sections _ bytes sections sections maps.empty) (marks_good maps.empty)))
-
-marks_head : (bytes : List ℕ) → Marks (head_of bytes)
-unfolding head_of
-marks_head bytes = search (parts, marks_elf, marks_relocations) depth 20
-
-pub marks_frame : (images : ImageSet) → Marks (frame_of images)
-unfolding frame_of
-marks_frame images = search (parts, marks_head, marks_unread, marks_image_data) depth 20
-
-marks_answer : (images : ImageSet) (addr : ℕ) → Marks (answer_of images addr)
-marks_answer images addr = marks_image_symbol _ _ addr
-
-pub marks_scan : (images : ImageSet) (addrs : List ℕ) → Marks (scan_of images addrs)
-unfolding scan_of
-marks_scan images addrs = marks_bind _ _ (marks_frame images) (λ framed. marks_all _ addrs (marks_answer images))
 
 -- ---- the error of a call that gives a part
 

@@ -1,63 +1,93 @@
--- What a resolver keeps, and what it answers from.
-use Rattle.std.specs.Prelude.{◌≡◌, ℕ, Bool, true, false, List}
-use Rattle.blz_error.specs.Texts.{Bytes}
-use Rattle.blz_error.specs.declared.kind.ErrorKind.TheVariants.{Unsupported}
-use Rattle.blz_model.specs.Part.{Part, Good, Broken}
-use Rattle.blz_model.specs.Answers.{Answer}
-use Rattle.blz_elf.specs.declared.find_addr_opts.FindAddrOpts.{FindAddrOpts}
-use Rattle.blz_elf.specs.Infos.{Info}
-use Rattle.blz_elf.specs.Listings.{Listing, broken_by, image_symbols}
-use Rattle.blz_elf.specs.NameRule.{image_addresses}
-use Rattle.blz_elf.specs.SymbolRule.{image_symbol}
+-- What a resolver stands for, what it keeps, and what stays of it over a call.
+use Rattle.std.specs.Prelude.{◌≡◌, ℕ, Bool, true, Option, Some, None, is_some, option_map, ⊤}
+use Rattle.std.specs.FinMap as finite
+use Rattle.blz_model.specs.Part.{Good}
 use Rattle.blz_elf.specs.Sources.{Source}
-use Rattle.blz_resolver.specs.Images.{NamedImage, ImageSet, debug_file}
-use Rattle.blz_resolver.specs.Scan.{frame_of}
-use Rattle.blz_resolver.specs.declared.resolver.Reach.{Reach}
-use Rattle.blz_resolver.specs.declared.resolver.Reach.TheVariants.{Debug, Symbols}
+use Rattle.blz_index.specs.UnitsWarm.{units_prepared, lines_kept, UnitsFit, UnitsGrow}
+use Rattle.blz_index.specs.Growing.{Told}
+use Rattle.blz_index.specs.declared.units.Units.{Units}
+use Rattle.blz_resolver.specs.Books.{debug_images, files_in}
+use Rattle.blz_resolver.specs.FileViews.{images_view}
+use Rattle.blz_resolver.specs.Images.{ImageSet}
+use Rattle.blz_resolver.specs.Reading.{UnitsStay}
+use Rattle.blz_resolver.specs.Sources.{IsOf, asked_file}
+use Rattle.blz_resolver.specs.declared.debug_info.DebugInfo.{DebugInfo}
 
--- the images, and whether their debug information is asked, or the symbols of the image alone
-pub record Resolving : Type 0 where
+-- A resolver: its bundle; its units, where it has debug information; and whether all of it was read. The units tell
+-- which orders were accepted, and which functions are kept.
+pub record Resolver : Type 0 where
   pub images : ImageSet
-  pub has_debug : Bool
+  pub units : Option Units
+  pub prepared : Bool
 
-abbrev pub with_debug : ImageSet → Resolving
-with_debug images = record { images = images; has_debug = true }
+abbrev pub has_debug : Resolver → Bool
+has_debug r = is_some r.units
 
-abbrev pub symbols_alone : ImageSet → Resolving
-symbols_alone images = record { images = images; has_debug = false }
+abbrev pub units_in : Option DebugInfo → Option Units
+units_in debug = option_map (λ (d : DebugInfo). d.units) debug
 
-abbrev pub has_debug_of : Reach → Bool
-has_debug_of Debug = true
-has_debug_of Symbols = false
+-- ---- what it keeps
 
--- the file whose symbols are asked
-abbrev pub file_for : Bool → ImageSet → NamedImage
-file_for true images = debug_file images
-file_for false images = images.main
+-- The debug information is that of the bundle, and the units are those of its files.
+pub record HasBook (images : ImageSet) (d : DebugInfo) : Type 0 where
+  pub none : d.files.none ≡ finite.empty
+  pub files : debug_images images ≡ Good (images_view d.files)
+  pub units : UnitsFit (files_in (images_view d.files)) d.units
 
-abbrev pub symbol_file : Resolving → NamedImage
-symbol_file r = file_for r.has_debug r.images
+abbrev pub HasBookIf : ImageSet → Option DebugInfo → Type 0
+HasBookIf images None = ⊤
+HasBookIf images (Some d) = HasBook images d
 
--- The parser is the one of the file whose symbols are asked; for debug information the frame was read.
-pub record Answers (r : Resolving) (parser : Source) : Type 0 where
-  pub image : parser.image ≡ (symbol_file r).image
-  pub module_name : parser.module_name ≡ (symbol_file r).module_name
-  pub frame : r.has_debug ≡ true → frame_of r.images ≡ Good tt
+-- the lines of a unit were read
+abbrev pub HasLinesIf : Option DebugInfo → ℕ → Type 0
+HasLinesIf None unit = ⊤
+HasLinesIf (Some d) unit = lines_kept d.units unit ≡ true
 
--- the answer of an address
-abbrev pub resolved : Resolving → ℕ → Part Answer
-resolved r addr = image_symbol (symbol_file r).image (symbol_file r).module_name addr
+abbrev pub ArePrepared : Option DebugInfo → Type 0
+ArePrepared None = ⊤
+ArePrepared (Some d) = units_prepared d.units ≡ true
 
--- ---- names, which are looked up in symbols alone: no debug information is read for them yet
+pub record AllPrepared (parser : Source) (debug : Option DebugInfo) : Type 0 where
+  pub symbols : parser.prepared ≡ true
+  pub units : ArePrepared debug
 
-abbrev pub if_symbols : {A : Type 0} → Bool → A → A → A
-if_symbols true refused a = refused
-if_symbols false refused a = a
+-- The parser is the one of the file that is asked. A prepared resolver has read all.
+pub record Fits (images : ImageSet) (parser : Source) (debug : Option DebugInfo) (prepared : Bool) : Type 0 where
+  pub file : IsOf (asked_file images (is_some debug)) parser
+  pub book : HasBookIf images debug
+  pub full : prepared ≡ true → AllPrepared parser debug
 
--- the symbols of a name
-abbrev pub addresses_of : Resolving → Bytes → FindAddrOpts → Part (List Info)
-addresses_of r name opts = if_symbols r.has_debug (Broken Unsupported) (image_addresses r.images.main.image r.images.main.module_name name opts.file_offset)
+-- ---- what stays over a call
 
--- the listing of all symbols of a type
-abbrev pub listing_of : Resolving → FindAddrOpts → Listing
-listing_of r opts = if_symbols r.has_debug (broken_by Unsupported) (image_symbols r.images.main.image opts.sym_type opts.file_offset)
+abbrev pub UnitsStayIf : Option Units → Option Units → Type 0
+UnitsStayIf None None = ⊤
+UnitsStayIf None (Some new) = ⊥
+UnitsStayIf (Some old) None = ⊥
+UnitsStayIf (Some old) (Some new) = UnitsStay old new
+
+-- the bundle and all facts stay; only what was not kept yet may have been read
+pub record Stays (old new : Resolver) : Type 0 where
+  pub images : new.images ≡ old.images
+  pub has_debug : has_debug new ≡ has_debug old
+  pub units : UnitsStayIf old.units new.units
+  pub is_prepared : new.prepared ≡ old.prepared
+
+-- the bundle stays, and the fact whether there is debug information
+pub record SameBundle (old new : Resolver) : Type 0 where
+  pub images : new.images ≡ old.images
+  pub has_debug : has_debug new ≡ has_debug old
+
+-- ---- what `prepare` adds
+
+abbrev pub UnitsGrowIf : Told → Option Units → Option Units → Type 0
+UnitsGrowIf told None None = ⊤
+UnitsGrowIf told None (Some new) = ⊥
+UnitsGrowIf told (Some old) None = ⊥
+UnitsGrowIf told (Some old) (Some new) = UnitsGrow told old new
+
+-- The bundle stays, and so does what was kept. Where places are told, the orders of new lists are accepted exactly where
+-- those pass the check.
+pub record Grows (told : Told) (old new : Resolver) : Type 0 where
+  pub images : new.images ≡ old.images
+  pub has_debug : has_debug new ≡ has_debug old
+  pub units : UnitsGrowIf told old.units new.units

@@ -1,17 +1,41 @@
-//! Answers for addresses of an ELF image and its companions, from its path to the symbol.
+//! Answers for addresses of an ELF image and its companions, from its path to functions, source lines and inlined calls.
 #![tactic(auto)]
 
+mod answering;
+mod book_reader;
 mod bundle;
+mod call_list;
+mod call_places;
+mod code_info;
+mod debug_data;
+mod debug_files;
+mod debug_image;
+mod debug_info;
+mod debug_section;
+mod debug_text;
+mod fault;
 pub mod files;
-mod frame;
+mod function;
+mod functions_named;
+mod functions_shown;
+pub mod laws;
+mod names;
+mod opening;
 pub mod outside;
 mod owned_bundle;
+mod prepared;
+mod preparing;
 mod resolver;
+mod rows;
 mod scan;
 #[cfg(test)]
 mod tests;
+mod warm;
 
 pub use bundle::{Bundle, Companion};
+pub use call_list::{Command, Reply, replies};
 pub use owned_bundle::OwnedBundle;
 pub use resolver::ElfResolver;
+pub use rows::UnitRows;
 pub use scan::symbolize;
+pub use warm::Warm;

@@ -5,7 +5,7 @@ ghost use Rattle.std.specs.Option.{option_map};
 use crate::{Bundle, Companion};
 use std::marker::Model;
 
-// an image with its own bytes, and the name of its module
+// An image with its own bytes, and the name of its module.
 #[derive(Drop)]
 pub(crate) struct OwnedCompanion {
     pub image: Vec<u8>,
@@ -65,7 +65,7 @@ impl OwnedBundle {
         }
     }
 
-    /// The same, borrowed.
+    /// The same images, borrowed.
     pub fn bundle(&self) -> Bundle<'_>
         ensures { bundle_view result ≡ self.now }
     {

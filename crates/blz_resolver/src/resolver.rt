@@ -1,108 +1,117 @@
 //! One bundle, as it is asked.
-ghost use Rattle.std.specs.Prelude.{◌≡◌, ◌⊎◌, ◌≤◌, Some, IfOk, IfErr};
-ghost use Rattle.blz_model.specs.Part.{Exactly, Gives, Good, Broken};
+ghost use Rattle.std.specs.Prelude.{◌≡◌, true, false, is_some, map, None, Option, IfOk, IfErr, IfSome};
+ghost use Rattle.blz_model.specs.Part.{Gives};
 ghost use Rattle.blz_elf.specs.AnswerView.{answer_view};
-ghost use Rattle.blz_elf.specs.Segments.{image_address_of};
+ghost use Rattle.blz_index.specs.Keyed.{IsAccepted, begin_key};
+ghost use Rattle.blz_index.specs.Owned.{items_of};
+ghost use Rattle.blz_index.specs.UnitsWarm.{units_table, announced_ordered, AreCold};
+ghost use Rattle.blz_resolver.specs.AddressAnswers.{answer_of};
+ghost use Rattle.blz_resolver.specs.Books.{framed};
 ghost use Rattle.blz_resolver.specs.BundleViews.{bundle_view};
-ghost use Rattle.blz_resolver.specs.Counts.{Rose};
 ghost use Rattle.blz_resolver.specs.FormatKinds.{IsMemoryOrFormat};
-ghost use Rattle.blz_resolver.specs.Opening.{Opens, HasKindCause, has_section, has_link, opened_from};
-ghost use Rattle.blz_resolver.specs.Resolver.{resolved, symbols_alone, with_debug};
-ghost use Rattle.blz_resolver.specs.Scan.{frame_of};
+ghost use Rattle.blz_resolver.specs.Resolver.{Stays, HasBookIf, has_debug, UnitsStayIf, units_in};
+ghost use Rattle.blz_resolver.specs.Sources.{IsOf, asked_file};
 
-use crate::files::Files;
-use crate::frame::read_frame;
-use crate::owned_bundle::OwnedCompanion;
-use crate::{Bundle, OwnedBundle};
+use crate::Bundle;
+use crate::debug_info::DebugInfo;
 use blz_bytes::Orders;
 use blz_elf::{Answer, ElfParser, FindSymOpts};
-use blz_error::{Error, ErrorKind, Result, Str};
+use blz_error::Result;
 use std::alloc::Global;
 use std::marker::Model;
 
-mod names;
-
-/// What a resolver answers from.
-#[derive(Clone, Copy)]
-enum Reach {
-    /// The debug file with its debug information.
-    Debug,
-    /// The symbols of the image alone.
-    Symbols,
-}
-
-/// Answers for the addresses of one bundle. What was read is kept.
+/// Answers for the addresses and names of one bundle. What was read is kept.
 #[derive(Drop)]
 pub struct ElfResolver<'b> {
-    bundle: Bundle<'b>,
-    reach: Reach,
-    // the parser of the file whose symbols are asked
-    parser: ElfParser<'b>,
-    alloc: Global,
+    pub(crate) alloc: Global,
+    pub(crate) bundle: Bundle<'b>,
+    // the parser of the debug file, and without debug information that of the image
+    pub(crate) parser: ElfParser<'b>,
+    pub(crate) debug: Option<DebugInfo<'b>>,
+    pub(crate) prepared: bool,
 }
 
 impl<'b> Model for ElfResolver<'b> {
     ghost use Rattle.blz_resolver.specs.BundleViews.{bundle_view};
-    ghost use Rattle.blz_resolver.specs.Resolver.{Answers, Resolving, has_debug_of};
+    ghost use Rattle.blz_resolver.specs.Resolver.{Resolver, Fits, units_in};
 
-    ghost Value = { Resolving };
+    ghost Value = { Resolver };
 
-    ghost view = { λ r. record { images = bundle_view r.bundle; has_debug = has_debug_of r.reach } };
+    ghost view = { λ r. record { images = bundle_view r.bundle; units = units_in r.debug; prepared = r.prepared } };
 
-    ghost invariant = { λ r. Answers (record { images = bundle_view r.bundle; has_debug = has_debug_of r.reach }) r.parser };
+    ghost invariant = { λ r. Fits (bundle_view r.bundle) r.parser r.debug r.prepared };
+}
+
+// The symbol of an address, by the debug information where there is some.
+fn find_sym<'b, O: Orders>(
+    alloc: Global,
+    orders: &mut O,
+    bundle: &Bundle<'b>,
+    parser: &mut ElfParser<'b>,
+    debug: &mut Option<DebugInfo<'b>>,
+    addr: u64,
+    opts: &FindSymOpts,
+) -> Result<Answer<'b>>
+    requires parser { IsOf (asked_file (bundle_view bundle.now) (is_some debug.old)) parser.old }
+    requires debug { HasBookIf (bundle_view bundle.now) debug.old }
+    ensures value { Gives answer_view result (answer_of (bundle_view bundle.now) (is_some debug.old) addr opts.now) }
+    ensures debug { HasBookIf (bundle_view bundle.now) debug.new }
+    ensures stay { UnitsStayIf (units_in debug.old) (units_in debug.new) }
+    ensures same { parser.new ≡ parser.old }
+{
+    match debug {
+        Some(info) => info.find_sym(alloc, orders, bundle, parser, addr, opts),
+        None => parser.find_sym(alloc, orders, addr, opts),
+    }
 }
 
 impl<'b> ElfResolver<'b> {
-    /// Reads a file and names its module by its path. NotFound, PermissionDenied and Other come from the files;
-    /// Unsupported where the image has a link to another file, since links are not followed yet.
-    pub fn open<F: Files>(alloc: Global, files: &mut F, path: &str) -> Result<OwnedBundle>
-        ensures good { IfOk result (λ b. Opens (F.contents files.old) path.now (Good b)) }
-        ensures mark { IfErr result (λ e. (e.kind ≡ ErrorKind.OutOfMemory) ⊎ HasKindCause e.kind
-            (Rose (F.faults files.old) (F.faults files.new)) (Opens (F.contents files.old) path.now (Broken e.kind))) }
-        ensures contents { F.contents files.new ≡ F.contents files.old }
-        ensures stamps { F.stamps files.new ≡ F.stamps files.old }
-        ensures count { F.faults files.old ≤ F.faults files.new }
-    {
-        let image = files.read(alloc, path)?;
-        unlinked(alloc, image, path)
-    }
-
-    /// A resolver of the bundle, whose frame is read. Refused by the first mark of the frame.
+    /// A resolver of the bundle with its debug information. The frame is read: the debug sections of the debug file and of
+    /// the supplementary file, the sections of the package, and the headers of all units (DWARF 5 section 7.5.1). Refused
+    /// by the first mark of the frame: InvalidData, InvalidInput, InvalidDwarf or Unsupported.
     pub fn from_bundle<O: Orders>(
         alloc: Global,
         orders: &mut O,
         bundle: &Bundle<'b>,
     ) -> Result<ElfResolver<'b>>
-        ensures frame { Gives (λ _. tt) result (frame_of (bundle_view bundle.now)) }
-        ensures same { IfOk result (λ r. r ≡ with_debug (bundle_view bundle.now)) }
+        ensures frame { Gives (λ _. tt) result (framed (bundle_view bundle.now)) }
+        ensures images { IfOk result (λ r. r.images ≡ bundle_view bundle.now) }
+        ensures has_debug { IfOk result (λ r. has_debug r ≡ true) }
+        ensures accepted { IfOk result (λ r. IfSome r.units (λ u. IsAccepted (O.pair_places orders.old) (map begin_key (items_of (units_table u).announced)) (announced_ordered u))) }
+        ensures cold { IfOk result (λ r. IfSome r.units AreCold) }
+        ensures is_prepared { IfOk result (λ r. r.prepared ≡ false) }
         ensures kinds { IfErr result (λ e. IsMemoryOrFormat e.kind) }
     {
         let file = bundle.debug_file();
         let mut parser = ElfParser::from_mem(alloc, file.image, file.module);
-        read_frame(alloc, &mut parser, bundle)?;
+        let debug = DebugInfo::read(alloc, orders, &mut parser, bundle)?;
         Ok(ElfResolver {
-            bundle: *bundle,
-            reach: Reach::Debug,
-            parser,
             alloc,
+            bundle: *bundle,
+            parser,
+            debug: Some(debug),
+            prepared: false,
         })
     }
 
     /// A resolver of the image's symbols alone; reads nothing.
     pub fn from_bundle_elf(alloc: Global, bundle: &Bundle<'b>) -> ElfResolver<'b>
-        ensures { result ≡ symbols_alone (bundle_view bundle.now) }
+        ensures images { result.images ≡ bundle_view bundle.now }
+        ensures units { result.units ≡ None }
+        ensures is_prepared { result.prepared ≡ false }
     {
         ElfResolver {
-            bundle: *bundle,
-            reach: Reach::Symbols,
-            parser: ElfParser::from_mem(alloc, bundle.image, bundle.module),
             alloc,
+            bundle: *bundle,
+            parser: ElfParser::from_mem(alloc, bundle.image, bundle.module),
+            debug: None,
+            prepared: false,
         }
     }
 
-    /// The symbol of an address: of the symbols that cover it, the one with the greatest value (ELF gABI, Symbol Table). The
-    /// symbols are those of the debug file, or of the image where its symbols alone are asked. Refused by the first mark
-    /// that the search meets.
+    /// The symbol of an address. With debug information: the function that covers it, else the symbol of the debug file
+    /// that does, with the place in the sources and the inlined calls as `opts` asks. Without: the symbol of the image.
+    /// Refused by the first mark that the search meets.
     pub fn find_sym<O: Orders>(
         &mut self,
         alloc: Global,
@@ -110,61 +119,18 @@ impl<'b> ElfResolver<'b> {
         addr: u64,
         opts: &FindSymOpts,
     ) -> Result<Answer<'b>>
-        ensures value { Gives answer_view result (resolved self.old addr) }
-        ensures same { self.new ≡ self.old }
+        ensures value { Gives answer_view result (answer_of self.old.images (has_debug self.old) addr opts.now) }
+        ensures stays { Stays self.old self.new }
         ensures kinds { IfErr result (λ e. IsMemoryOrFormat e.kind) }
     {
-        self.parser.find_sym(alloc, orders, addr, opts)
-    }
-
-    /// The address of a place in the image's file, by the first loaded segment that holds it (ELF gABI, Program Header);
-    /// none where no segment does. Refused by the first mark of the image's header and segments: InvalidData or
-    /// Unsupported.
-    pub fn file_offset_to_virt_offset(&mut self, file_offset: u64) -> Result<Option<u64>>
-        ensures value { Exactly (λ a. a) result (image_address_of self.old.images.main.image file_offset) }
-        ensures same { self.new ≡ self.old }
-    {
-        let bundle = self.bundle;
-        let mut image = ElfParser::from_mem(self.alloc, bundle.image, bundle.module);
-        image.file_offset_to_virt_offset(file_offset)
-    }
-}
-
-// The bundle of an image that has no link to another file.
-#[tactic(auto, unfolding(crate::specs::Opening::opened_from))]
-fn unlinked(alloc: Global, image: Vec<u8>, path: &str) -> Result<OwnedBundle>
-    ensures good { IfOk result (λ b. opened_from (Some image.items) path.now ≡ Good b) }
-    ensures mark { IfErr result (λ e. (e.kind ≡ ErrorKind.OutOfMemory)
-        ⊎ ((e.kind ≡ ErrorKind.Unsupported) × (opened_from (Some image.items) path.now ≡ Broken ErrorKind.Unsupported))) }
-{
-    let module = Some(String::from_str(alloc, path)?);
-    if has_link(alloc, &image) {
-        return Err(Error::new(ErrorKind::Unsupported, Str::fixed("link to another file")));
-    }
-    Ok(OwnedBundle::alone(OwnedCompanion { image, module }))
-}
-
-fn has_link(alloc: Global, image: &[u8]) -> bool
-    ensures { result ≡ has_link image.now }
-{
-    let mut parser = ElfParser::from_mem(alloc, image, None);
-    links_away(&mut parser)
-}
-
-fn links_away(parser: &mut ElfParser<'_>) -> bool
-    ensures { result ≡ has_link parser.old.image }
-{
-    has_section(parser, ".gnu_debuglink")
-        || has_section(parser, ".gnu_debugaltlink")
-        || has_section(parser, ".debug_sup")
-}
-
-fn has_section(parser: &mut ElfParser<'_>, name: &str) -> bool
-    ensures value { result ≡ has_section parser.old.image name.now }
-    ensures same { parser.new ≡ parser.old }
-{
-    match parser.find_section(name) {
-        Ok(Some(_)) => true,
-        Ok(None) | Err(_) => false,
+        find_sym(
+            alloc,
+            orders,
+            &self.bundle,
+            &mut self.parser,
+            &mut self.debug,
+            addr,
+            opts,
+        )
     }
 }

@@ -1,11 +1,11 @@
 //! The answers of a list of addresses.
-ghost use Rattle.std.specs.Prelude.{◌≡◌, IfOk, IfErr, length, map};
+ghost use Rattle.std.specs.Prelude.{◌≡◌, true, IfOk, IfErr, length, map};
 ghost use Rattle.blz_model.specs.Part.{Gives, all_good};
 ghost use Rattle.blz_elf.specs.AnswerView.{answer_view};
 ghost use Rattle.blz_resolver.specs.BundleViews.{bundle_view};
 ghost use Rattle.blz_resolver.specs.FormatKinds.{IsMemoryOrFormat};
-ghost use Rattle.blz_resolver.specs.Resolver.{resolved};
-ghost use Rattle.blz_resolver.specs.Scan.{scan_of};
+ghost use Rattle.blz_resolver.specs.Resolver.{has_debug};
+ghost use Rattle.blz_resolver.specs.Scan.{answers_of, scan_of};
 
 use crate::{Bundle, ElfResolver};
 use blz_bytes::Orders;
@@ -22,7 +22,7 @@ pub fn symbolize<'b, O: Orders>(
     addrs: &[u64],
     opts: &FindSymOpts,
 ) -> Result<Vec<Answer<'b>>>
-    ensures value { Gives (λ v. map answer_view v.items) result (scan_of (bundle_view bundle.now) addrs.now) }
+    ensures value { Gives (λ v. map answer_view v.items) result (scan_of (bundle_view bundle.now) addrs.now opts.now) }
     ensures one_each { IfOk result (λ v. length v.items ≡ length addrs.now) }
     ensures kinds { IfErr result (λ e. IsMemoryOrFormat e.kind) }
 {
@@ -37,7 +37,7 @@ fn scanned<'b, O: Orders>(
     addrs: &[u64],
     opts: &FindSymOpts,
 ) -> Result<Vec<Answer<'b>>>
-    ensures value { Gives (λ v. map answer_view v.items) result (scan_of (bundle_view bundle.now) addrs.now) }
+    ensures value { Gives (λ v. map answer_view v.items) result (scan_of (bundle_view bundle.now) addrs.now opts.now) }
     ensures one_each { IfOk result (λ v. length v.items ≡ length addrs.now) }
 {
     let mut resolver = ElfResolver::from_bundle(alloc, orders, bundle)?;
@@ -51,7 +51,7 @@ fn answers<'b, O: Orders>(
     addrs: &[u64],
     opts: &FindSymOpts,
 ) -> Result<Vec<Answer<'b>>>
-    ensures value { Gives (λ v. map answer_view v.items) result (all_good (map (resolved resolver.old) addrs.now)) }
+    ensures value { Gives (λ v. map answer_view v.items) result (all_good (map (answers_of resolver.old.images (has_debug resolver.old) opts.now) addrs.now)) }
     ensures one_each { IfOk result (λ v. length v.items ≡ length addrs.now) }
 {
     let mut answers = Vec::with_capacity(alloc, addrs.len())?;

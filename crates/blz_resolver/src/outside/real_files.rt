@@ -8,8 +8,10 @@ use std::io::Read;
 use std::time::UNIX_EPOCH;
 use std::{fs, io, rt};
 
+// A longer file is not read.
 const MOST_BYTES: usize = 4_294_967_295;
 
+// How much is read at once.
 const CHUNK_BYTES: usize = 65_536;
 
 /// The files that a runtime has. It does not tell what they hold, and follows no links.
@@ -41,6 +43,11 @@ impl<'r, R: rt::Files> RealFiles<'r, R> {
 fn read_whole<R: rt::Files>(rt: &R, alloc: Global, path: &str) -> io::Result<Vec<u8>> {
     let mut file = fs::open(rt, path)?;
     let mut bytes = Vec::new(alloc);
+    // room for the whole file at once, so that what is read does not move; a file that tells no size grows
+    let told = fs::metadata(rt, path)?.len();
+    if told <= MOST_BYTES as u64 {
+        bytes.reserve_exact(told as usize)?;
+    }
     let mut chunk = [0u8; CHUNK_BYTES];
     for _ in 0..u64::MAX {
         match file.read(&mut chunk) {

@@ -1,0 +1,32 @@
+-- The book that is read of a bundle by its units, and what stays of them over a call.
+use Rattle.std.specs.Prelude.{◌≡◌, ℕ, true}
+use Rattle.blz_index.specs.BuiltUnits.{files_view, IsReadable}
+use Rattle.blz_index.specs.UnitsWarm.{units_table, announced_ordered, units_prepared, functions_kept, functions_ordered, UnitsFit}
+use Rattle.blz_index.specs.declared.units.Units.{Units}
+use Rattle.blz_resolver.specs.Books.{Book}
+use Rattle.blz_resolver.specs.BundleViews.{bundle_view}
+use Rattle.blz_resolver.specs.declared.book_reader.BookReader.{BookReader}
+
+abbrev pub book_of : BookReader → Units → Book
+book_of r u = record { images = bundle_view r.bundle; files = files_view r.dwarf; table = units_table u }
+
+-- The units are those of the files.
+pub record Reads (r : BookReader) (u : Units) : Type 0 where
+  pub readable : IsReadable r.dwarf
+  pub fits : UnitsFit (files_view r.dwarf) u
+
+-- a unit's functions that are kept stay, with the fact whether their order was accepted
+pub record FunctionsStay (k : ℕ) (old new : Units) : Type 0 where
+  pub kept : functions_kept new k ≡ true
+  pub ordered : functions_ordered new k ≡ functions_ordered old k
+
+-- The table stays, and so do the accepted orders; only what was not kept yet may have been read.
+pub record UnitsStay (old new : Units) : Type 0 where
+  pub table : units_table new ≡ units_table old
+  pub announced : announced_ordered new ≡ announced_ordered old
+  pub is_prepared : units_prepared new ≡ units_prepared old
+  pub functions : (k : ℕ) → functions_kept old k ≡ true → FunctionsStay k old new
+
+pub record Keeps (r : BookReader) (old new : Units) : Type 0 where
+  pub reads : Reads r new
+  pub stay : UnitsStay old new

@@ -1,0 +1,80 @@
+//! Reading all of a bundle before it is asked.
+ghost use Rattle.std.specs.Prelude.{◌≡◌, ◌-◌, true, false, is_some, IfOk, IfErr};
+ghost use Rattle.blz_model.specs.Part.{Exactly};
+ghost use Rattle.blz_elf.specs.AnswerView.{answer_view};
+ghost use Rattle.blz_elf.specs.Asked.{asks_code_info, asks_inlined_fns};
+ghost use Rattle.blz_error.specs.declared.kind.ErrorKind.TheVariants.{OutOfMemory};
+ghost use Rattle.blz_resolver.specs.AddressAnswers.{answer_of};
+ghost use Rattle.blz_resolver.specs.BundleViews.{bundle_view};
+ghost use Rattle.blz_resolver.specs.Looks.{LooksFewIf};
+ghost use Rattle.blz_resolver.specs.Resolver.{ArePrepared, HasBookIf, Grows, UnitsGrowIf, has_debug, units_in};
+ghost use Rattle.blz_resolver.specs.Sources.{IsOf, asked_file};
+
+use crate::debug_info::DebugInfo;
+use crate::{Bundle, ElfResolver};
+use blz_bytes::{Orders, Steps};
+use blz_elf::{Answer, FindSymOpts};
+use blz_error::Result;
+use std::alloc::{AllocError, Global};
+use std::sync::ledger::Ledger;
+
+fn prepare_units<'b, O: Orders>(
+    alloc: Global,
+    orders: &mut O,
+    bundle: &Bundle<'b>,
+    debug: &mut Option<DebugInfo<'b>>,
+) -> std::result::Result<(), AllocError>
+    requires { HasBookIf (bundle_view bundle.now) debug.old }
+    ensures has { HasBookIf (bundle_view bundle.now) debug.new }
+    ensures grows { UnitsGrowIf (O.pair_places orders.old) (units_in debug.old) (units_in debug.new) }
+    ensures is_prepared { IfOk result (λ _. ArePrepared debug.new) }
+    ensures stays { ArePrepared debug.old → ArePrepared debug.new }
+{
+    match debug {
+        Some(info) => info.prepare(alloc, orders, bundle),
+        None => Ok(()),
+    }
+}
+
+impl<'b> ElfResolver<'b> {
+    /// Reads all of the bundle, each part as far as it can be read, for `find_sym_prepared`. Only OutOfMemory is refused.
+    pub fn prepare<O: Orders>(&mut self, alloc: Global, orders: &mut O) -> Result<()>
+        ensures is_prepared { IfOk result (λ _. self.new.prepared ≡ true) }
+        ensures refused { IfErr result (λ e. (e.kind ≡ OutOfMemory) × (self.new.prepared ≡ self.old.prepared)) }
+        ensures grows { Grows (O.pair_places orders.old) self.old self.new }
+    {
+        prepare_units(alloc, orders, &self.bundle, &mut self.debug)?;
+        self.parser.prepare(alloc, orders)?;
+        self.prepared = true;
+        Ok(())
+    }
+
+    /// Whether `prepare` has read all.
+    pub fn is_prepared(&self) -> bool
+        ensures { result ≡ self.now.prepared }
+    {
+        self.prepared
+    }
+
+    /// The symbol of an address without its inlined calls, as `find_sym` has it, from what was prepared: it takes no
+    /// memory. Without the place in the sources it looks at no more entries than two halvings need, where a function
+    /// answers, no two ranges share an address and both orders were accepted.
+    pub fn find_sym_prepared<L: Ledger>(
+        &self,
+        addr: u64,
+        opts: &FindSymOpts,
+        steps: &mut Steps<L>,
+    ) -> Result<Answer<'b>>
+        requires is_prepared { self.now.prepared ≡ true }
+        requires opts { asks_inlined_fns opts.now ≡ false }
+        ensures value { Exactly answer_view result (answer_of self.now.images (has_debug self.now) addr opts.now) }
+        ensures cost { asks_code_info opts.now ≡ false → LooksFewIf self.now.images self.now.units addr (steps.new - steps.old) }
+    {
+        match &self.debug {
+            Some(info) => {
+                info.find_sym_prepared(self.alloc, &self.bundle, &self.parser, addr, opts, steps)
+            }
+            None => self.parser.find_sym_prepared(addr),
+        }
+    }
+}

@@ -1,0 +1,106 @@
+//! The lines of the units of a bundle.
+ghost use Rattle.std.specs.Prelude.{◌≡◌, ◌<◌, IfOk, is_some, slice_get};
+ghost use Rattle.std.specs.Option.{option_map};
+ghost use Rattle.blz_model.specs.Part.{Gives};
+ghost use Rattle.blz_resolver.specs.BundleViews.{bundle_view};
+ghost use Rattle.blz_resolver.specs.Resolver.{has_debug, units_in, HasBookIf, HasLinesIf, UnitsStayIf};
+ghost use Rattle.blz_resolver.specs.RowsViews.{rows_view};
+ghost use Rattle.blz_resolver.specs.UnitRowsRead.{rows_of, rows_with, unit_count_of};
+
+use crate::debug_info::DebugInfo;
+use crate::{Bundle, ElfResolver};
+use blz_bytes::{DirPath, Orders};
+use blz_entry::Texts;
+use blz_error::Result;
+use blz_line::{LineSequence, Lines};
+use std::alloc::{AllocError, Global};
+
+/// The lines of a unit: its sequences and its files.
+#[derive(Clone, Copy)]
+pub struct UnitRows<'r, 'b> {
+    lines: &'r Lines,
+    texts: Texts<'b>,
+}
+
+impl<'r, 'b> UnitRows<'r, 'b> {
+    // Some lines with the texts that they name.
+    pub(crate) fn with_texts(lines: Option<&'r Lines>, texts: Texts<'b>) -> Option<UnitRows<'r, 'b>>
+        ensures { option_map rows_view result ≡ option_map (λ l. rows_with texts.entry l.now.table) lines.entry }
+    {
+        match lines {
+            Some(lines) => Some(UnitRows { lines, texts }),
+            None => None,
+        }
+    }
+
+    /// The sequences, in the order of the program (DWARF 5 section 6.2).
+    pub fn sequences(&self) -> &'r [LineSequence]
+        ensures { result.now ≡ (rows_view self.now).sequences }
+    {
+        self.lines.sequences()
+    }
+
+    /// The directory and the name of the file of a number, counted from 0; None exactly where there is no such file.
+    pub fn file(&self, index: u64) -> Option<(DirPath<'b>, &'b [u8])>
+        ensures { option_map (λ file. (file.0, file.1.now)) result ≡ slice_get (rows_view self.now).files index }
+    {
+        self.lines.file(&self.texts, index)
+    }
+}
+
+fn count_units<'b>(bundle: &Bundle<'b>, debug: &Option<DebugInfo<'b>>) -> usize
+    requires { HasBookIf (bundle_view bundle.now) debug.now }
+    ensures { result ≡ unit_count_of (bundle_view bundle.now) (is_some debug.now) }
+{
+    match debug {
+        Some(info) => info.unit_count(bundle),
+        None => 0,
+    }
+}
+
+// Reads the lines of a unit, where there is debug information.
+fn fill_rows<'b, O: Orders>(
+    alloc: Global,
+    orders: &mut O,
+    bundle: &Bundle<'b>,
+    debug: &mut Option<DebugInfo<'b>>,
+    unit: usize,
+) -> std::result::Result<(), AllocError>
+    requires book { HasBookIf (bundle_view bundle.now) debug.old }
+    requires there { unit < unit_count_of (bundle_view bundle.now) (is_some debug.old) }
+    ensures book { HasBookIf (bundle_view bundle.now) debug.new }
+    ensures stay { UnitsStayIf (units_in debug.old) (units_in debug.new) }
+    ensures filled { IfOk result (λ _. HasLinesIf debug.new unit) }
+{
+    match debug {
+        Some(info) => info.fill_rows(alloc, orders, bundle, unit),
+        None => Ok(()),
+    }
+}
+
+impl<'b> ElfResolver<'b> {
+    /// How many units are kept; 0 without debug information.
+    pub fn unit_count(&self) -> usize
+        ensures { result ≡ unit_count_of self.now.images (has_debug self.now) }
+    {
+        count_units(&self.bundle, &self.debug)
+    }
+
+    /// The lines of a unit; None exactly where it has no line program. InvalidDwarf exactly where they have no value.
+    pub fn unit_rows<O: Orders>(
+        &mut self,
+        alloc: Global,
+        orders: &mut O,
+        unit: usize,
+    ) -> Result<Option<UnitRows<'_, 'b>>>
+        requires { unit < unit_count_of self.old.images (has_debug self.old) }
+        ensures { Gives (λ o. option_map rows_view o) result (rows_of self.old.images (has_debug self.old) unit) }
+    {
+        let bundle = self.bundle;
+        fill_rows(alloc, orders, &bundle, &mut self.debug, unit)?;
+        match &self.debug {
+            Some(info) => info.rows(&bundle, unit),
+            None => Ok(None),
+        }
+    }
+}
