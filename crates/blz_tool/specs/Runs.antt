@@ -4,6 +4,7 @@ use Rattle.std.specs.Io.KnownBytes.{Appends, Keeps}
 use Rattle.blz_error.specs.Texts.{Bytes}
 use Rattle.blz_error.specs.declared.kind.ErrorKind.{ErrorKind}
 use Rattle.blz_model.specs.Part.{Part, Good, Broken, ◌>>=◌}
+use Rattle.blz_elf.specs.declared.opts.FindSymOpts.TheVariants.{CodeInfoAndInlined}
 use Rattle.blz_resolver.specs.Contents.{Contents}
 use Rattle.blz_resolver.specs.Images.{ImageSet}
 use Rattle.blz_resolver.specs.Opening.{opened, Opens, HasKindCause}
@@ -14,10 +15,10 @@ use Rattle.blz_tool.specs.Lines.{status_of}
 use Rattle.blz_tool.specs.declared.outcome.Outcome.{Outcome}
 use Rattle.blz_tool.specs.declared.outcome.Outcome.TheVariants.{Done, Refused, Usage, WriteFailed, OutOfMemory}
 
--- the text of the answers, or the first mark
+-- the text of the answers with their places and inlined calls, or the first mark
 unfoldable pub text_for : List ℕ → ImageSet → Part Bytes
 text_for addrs images = do
-  answers ← scan_of images addrs
+  answers ← scan_of images addrs CodeInfoAndInlined
   Good (text_of addrs answers)
 
 -- the text for the bundle that the files spell at a path

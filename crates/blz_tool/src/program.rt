@@ -110,6 +110,12 @@ fn answers_text<O: Orders>(
     ensures kinds { IfErr result (λ e. IsMemoryOrFormat e.kind) }
 {
     let bundle = bundle.bundle();
-    let answers = symbolize(alloc, orders, &bundle, addrs, &FindSymOpts::CodeInfo)?;
+    let answers = symbolize(
+        alloc,
+        orders,
+        &bundle,
+        addrs,
+        &FindSymOpts::CodeInfoAndInlined,
+    )?;
     Ok(text(alloc, addrs, &answers)?)
 }

@@ -1,4 +1,7 @@
 //! Whole runs over files and sinks in memory.
+
+mod walk;
+
 use crate::program::run;
 use blz_bytes::ByStdSort;
 use blz_images::{Image, nested_functions, prefix, with_nested_functions};
