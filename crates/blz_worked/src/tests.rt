@@ -1,0 +1,15 @@
+//! Bundles with debug information, and what is answered for them.
+
+mod calls;
+mod functions;
+mod linkee;
+mod listings;
+mod orders;
+mod package;
+mod prepared;
+mod references;
+mod refusals;
+mod rows;
+mod shown;
+mod supplementary;
+mod units;

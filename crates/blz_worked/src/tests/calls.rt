@@ -1,0 +1,132 @@
+//! Inlined calls, and the places of a function and of its calls.
+use super::shown::{Frame, frames, lone, refusal};
+use blz_error::ErrorKind;
+use blz_images::codes::*;
+use blz_images::{Attribute, ByteOrder, DebugInfo, DebugLine};
+use std::alloc::{AllocError, Global};
+use std::test::Fail;
+
+/// A file number outside the table.
+const NO_SUCH_FILE: u8 = 9;
+
+/// A place from which a call is made: the number of a file, 0 for none, and a line.
+type CallPlace = (u8, u8);
+
+// one file, and a row of line 3 at 0x10
+fn lines(alloc: Global, order: ByteOrder, row_file: u8) -> Result<Vec<u8>, AllocError> {
+    let mut lines = DebugLine::new(alloc, order, 4);
+    lines.file("a.c", 0)?;
+    lines.set_address(0x10)?;
+    lines.set_file(u64::from(row_file))?;
+    lines.advance_line(2)?;
+    lines.row()?;
+    lines.advance(0x10)?;
+    lines.end_sequence()?;
+    lines.bytes()
+}
+
+// a call over [0x10, 0x20)
+fn open_call(entries: &mut DebugInfo, name: &str, from: CallPlace) -> Result<(), AllocError> {
+    entries.open(
+        DW_TAG_INLINED_SUBROUTINE,
+        &[
+            Attribute::text(DW_AT_NAME, name),
+            Attribute::address(DW_AT_LOW_PC, 0x10),
+            Attribute::data1(DW_AT_HIGH_PC, 0x10),
+            Attribute::data1(DW_AT_CALL_FILE, from.0),
+            Attribute::data1(DW_AT_CALL_LINE, from.1),
+        ],
+    )
+}
+
+// `function` at [0x10, 0x20), with a call of `outer` and in it one of `inner`
+fn two_calls(
+    alloc: Global,
+    order: ByteOrder,
+    row_file: u8,
+    outer: CallPlace,
+    inner: CallPlace,
+) -> Result<Vec<u8>, AllocError> {
+    let mut entries = DebugInfo::new(alloc, order, 4);
+    entries.open(
+        DW_TAG_COMPILE_UNIT,
+        &[
+            Attribute::address(DW_AT_LOW_PC, 0x10),
+            Attribute::data4(DW_AT_HIGH_PC, 0x10),
+            Attribute::section_offset(DW_AT_STMT_LIST, 0),
+        ],
+    )?;
+    entries.open(
+        DW_TAG_SUBPROGRAM,
+        &[
+            Attribute::text(DW_AT_NAME, "function"),
+            Attribute::address(DW_AT_LOW_PC, 0x10),
+            Attribute::data4(DW_AT_HIGH_PC, 0x10),
+        ],
+    )?;
+    open_call(&mut entries, "outer", outer)?;
+    open_call(&mut entries, "inner", inner)?;
+    entries.close()?;
+    entries.close()?;
+    entries.close()?;
+    entries.close_unit()?;
+    let lines = lines(alloc, order, row_file)?;
+    entries.image(alloc, &[(".debug_line", &lines)])
+}
+
+#[test]
+fn each_call_stands_where_the_next_was_made(rt: HostRuntime) -> Result<(), Fail> {
+    let alloc = rt.alloc();
+    for order in [ByteOrder::Little, ByteOrder::Big] {
+        let image = two_calls(alloc, order, 1, (1, 11), (1, 12))?;
+        let found = frames(alloc, &lone(&image), 0x14)?;
+        let expected = [
+            Frame::at("function", 11),
+            Frame::at("outer", 12),
+            Frame::at("inner", 3),
+        ];
+        assert!(rt; found.as_slice() == expected.as_slice());
+    }
+    Ok(())
+}
+
+#[test]
+fn a_function_keeps_the_row_where_its_call_has_no_file(rt: HostRuntime) -> Result<(), Fail> {
+    let alloc = rt.alloc();
+    for order in [ByteOrder::Little, ByteOrder::Big] {
+        let image = two_calls(alloc, order, 1, (0, 11), (1, 12))?;
+        let found = frames(alloc, &lone(&image), 0x14)?;
+        let expected = [
+            Frame::at("function", 3),
+            Frame::at("outer", 12),
+            Frame::nowhere("inner"),
+        ];
+        assert!(rt; found.as_slice() == expected.as_slice());
+    }
+    Ok(())
+}
+
+#[test]
+fn a_call_from_a_file_outside_the_table_has_no_place(rt: HostRuntime) -> Result<(), Fail> {
+    let alloc = rt.alloc();
+    let image = two_calls(alloc, ByteOrder::Little, 1, (1, 11), (NO_SUCH_FILE, 12))?;
+    let found = frames(alloc, &lone(&image), 0x14)?;
+    let expected = [
+        Frame::at("function", 11),
+        Frame::nowhere("outer"),
+        Frame::at("inner", 3),
+    ];
+    assert!(rt; found.as_slice() == expected.as_slice());
+    Ok(())
+}
+
+#[test]
+fn a_row_of_a_file_outside_the_table_is_refused(rt: HostRuntime) -> Result<(), Fail> {
+    let alloc = rt.alloc();
+    let image = two_calls(alloc, ByteOrder::Little, NO_SUCH_FILE, (1, 11), (1, 12))?;
+    assert_eq!(rt;
+        refusal(frames(alloc, &lone(&image), 0x14)),
+        Some(ErrorKind::InvalidDwarf)
+    );
+    Ok(())
+}

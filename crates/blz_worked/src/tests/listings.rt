@@ -1,0 +1,62 @@
+//! Functions by their names.
+use super::functions::nested;
+use super::shown::{lone, refusal};
+use blz_bytes::ByStdSort;
+use blz_elf::{Collect, FindAddrOpts, SymType};
+use blz_error::ErrorKind;
+use blz_images::ByteOrder;
+use blz_resolver::ElfResolver;
+use std::test::Fail;
+
+const VARIABLES: FindAddrOpts = FindAddrOpts {
+    file_offset: false,
+    sym_type: SymType::Variable,
+};
+
+#[test]
+fn variables_are_unsupported_beside_debug_information(rt: HostRuntime) -> Result<(), Fail> {
+    let alloc = rt.alloc();
+    let image = nested(alloc, ByteOrder::Little, 4)?;
+    let mut resolver = ElfResolver::from_bundle(alloc, &mut ByStdSort, &lone(&image))?;
+    assert_eq!(rt;
+        refusal(resolver.find_addr(alloc, &mut ByStdSort, "first", &VARIABLES)),
+        Some(ErrorKind::Unsupported)
+    );
+    let mut nothing = Collect::new(alloc, None);
+    assert_eq!(rt;
+        refusal(resolver.for_each(alloc, &mut ByStdSort, &VARIABLES, &mut nothing)),
+        Some(ErrorKind::Unsupported)
+    );
+    assert!(rt; nothing.infos().is_empty());
+    Ok(())
+}
+
+#[test]
+fn a_function_is_found_by_its_name(rt: HostRuntime) -> Result<(), Fail> {
+    let alloc = rt.alloc();
+    let image = nested(alloc, ByteOrder::Little, 4)?;
+    let mut resolver = ElfResolver::from_bundle(alloc, &mut ByStdSort, &lone(&image))?;
+    let opts = FindAddrOpts::default();
+    let infos = resolver.find_addr(alloc, &mut ByStdSort, "second", &opts)?;
+    let expected = match infos.as_slice() {
+        [info] => info.addr == 0x20 && info.size == Some(8),
+        _ => false,
+    };
+    assert!(rt; expected);
+    Ok(())
+}
+
+#[test]
+fn a_listing_ends_where_it_is_told(rt: HostRuntime) -> Result<(), Fail> {
+    let alloc = rt.alloc();
+    let image = nested(alloc, ByteOrder::Little, 4)?;
+    let mut resolver = ElfResolver::from_bundle(alloc, &mut ByStdSort, &lone(&image))?;
+    let mut shown = Collect::new(alloc, Some(1));
+    resolver.for_each(alloc, &mut ByStdSort, &FindAddrOpts::default(), &mut shown)?;
+    let expected = match shown.infos() {
+        [info] => info.name.as_str() == "first",
+        _ => false,
+    };
+    assert!(rt; expected);
+    Ok(())
+}
