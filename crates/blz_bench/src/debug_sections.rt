@@ -1,8 +1,9 @@
 //! The debug sections of an image, and its units.
-ghost use Rattle.std.specs.Prelude.{◌≡◌, ◌+◌, ◌<◌, ◌^◌, length, IfOk};
+ghost use Rattle.std.specs.Prelude.{◌≡◌, ◌+◌, ◌<◌, ◌^◌, false, length, IfOk, None};
+ghost use Rattle.blz_index.specs.BuiltUnits.{AreSupTexts, AreTextsOf, AreWhole, ArePacked};
 
 use blz_elf::{ElfParser, RelocationMap};
-use blz_entry::{Abbreviations, Section, Sections, UnitHeader, UnitHeaders, UnitRoot};
+use blz_entry::{Abbreviations, Section, Sections, Texts, UnitHeader, UnitHeaders, UnitRoot};
 use blz_error::Result;
 use std::alloc::Global;
 
@@ -31,6 +32,21 @@ pub fn sections_of<'s, 'b>(
         split: false,
         sup: false,
     })
+}
+
+/// The same sections, as those of a whole file without a supplementary one.
+pub fn alone<'s, 'b>(sections: Sections<'s, 'b>) -> Sections<'s, 'b>
+    ensures whole { AreWhole result }
+    ensures not_sup { result.sup ≡ false }
+    ensures alone { result.sup_strings ≡ None }
+{
+    Sections {
+        sup_strings: None,
+        shift: 0,
+        split: false,
+        sup: false,
+        ..sections
+    }
 }
 
 fn section<'s, 'b>(
@@ -64,4 +80,24 @@ pub fn root_of(alloc: Global, sections: &Sections<'_, '_>, header: &UnitHeader) 
 {
     let abbreviations = Abbreviations::parse(alloc, sections.abbrev.bytes, header.abbrev)?;
     UnitRoot::parse(sections, header, &abbreviations)
+}
+
+/// The sections that have texts.
+pub fn texts_of<'b>(sections: &Sections<'_, 'b>) -> Texts<'b>
+    requires { sections.now.sup_strings ≡ None }
+    ensures main { AreTextsOf sections.now result }
+    ensures packed { ArePacked None result }
+    ensures sup { AreSupTexts None result }
+{
+    Texts {
+        info: sections.info.bytes,
+        line: sections.line.bytes,
+        strings: sections.strings.bytes,
+        line_str: sections.line_str.bytes,
+        sup_strings: b"",
+        pack_info: b"",
+        pack_strings: b"",
+        sup_info: b"",
+        sup_line_str: b"",
+    }
 }

@@ -16,7 +16,7 @@ pub struct LineCounts {
 }
 
 impl LineCounts {
-    // these and those of one unit more
+    // These, and those of one unit more.
     fn with(self, lines: &Lines) -> LineCounts {
         let sequences = lines.sequences();
         let mut rows = self.rows;

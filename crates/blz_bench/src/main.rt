@@ -4,7 +4,9 @@
 mod clocked;
 mod debug_sections;
 mod entries;
+mod functions;
 mod lines;
+mod ranges;
 mod rows;
 mod symbols;
 mod words;
@@ -13,13 +15,18 @@ use blz_bytes::{AsTheyStand, ByStdSort};
 use blz_error::Result;
 use blz_resolver::files::Files;
 use blz_resolver::outside::RealFiles;
+use functions::FunctionCounts;
 use lines::LineCounts;
 use std::alloc::Global;
 use std::process::ExitCode;
 use std::time::CpuClock;
 use std::{env, io};
 use symbols::Searched;
-use words::Layer;
+use words::{Asked, Layer, List};
+
+const USAGE: &str =
+    "usage: blz_bench entries|names|lines|rows|symbols|symbols-by-scan|find|find-by-scan|functions FILE [WORD..]
+       blz_bench ranges|ranges-by-scan|sort COUNT ASKED";
 
 fn main(rt: HostRuntime) -> io::Result<ExitCode> {
     let alloc = rt.alloc();
@@ -29,14 +36,16 @@ fn main(rt: HostRuntime) -> io::Result<ExitCode> {
             words.push(word)?;
         }
     }
-    let Some((layer, path, rest)) = words::asked(&words) else {
-        println!(rt;
-            "usage: blz_bench entries|names|lines|rows|symbols|symbols-by-scan|find|find-by-scan FILE [WORD..]"
-        )?;
+    let Some(asked) = Asked::from_words(&words) else {
+        println!(rt; "{USAGE}")?;
         return Ok(ExitCode::SUCCESS);
     };
     let mut files = RealFiles::new(&rt);
-    match report(alloc, &rt, &mut files, layer, path, rest) {
+    let text = match asked {
+        Asked::File(layer, path, rest) => report(alloc, &rt, &mut files, layer, path, rest),
+        Asked::Memory(list, count, asked) => ranged(alloc, &rt, list, count, asked),
+    };
+    match text {
         Ok(text) => {
             print!(rt; "{text}")?;
             Ok(ExitCode::SUCCESS)
@@ -79,7 +88,38 @@ fn report<F: Files, C: CpuClock>(
             alloc,
             symbols::count_named(alloc, clock, &image, &mut AsTheyStand, rest)?,
         ),
+        Layer::Functions => {
+            function_counts(alloc, functions::count_functions(alloc, clock, &image)?)
+        }
     }
+}
+
+// What is found among ranges in memory.
+fn ranged<C: CpuClock>(
+    alloc: Global,
+    clock: &C,
+    list: List,
+    count: u64,
+    asked: u64,
+) -> Result<String> {
+    let outcome = match list {
+        List::Ranges => ranges::count_covered(alloc, clock, &mut ByStdSort, count, asked)?,
+        List::RangesByScan => {
+            ranges::count_covered(alloc, clock, &mut AsTheyStand, count, asked)?
+        }
+        List::Sort => ranges::sort(alloc, clock, count)?,
+    };
+    searched(alloc, outcome)
+}
+
+fn function_counts(alloc: Global, counts: FunctionCounts) -> Result<String> {
+    let FunctionCounts {
+        units,
+        functions,
+        parsing,
+        reading,
+    } = counts;
+    Ok(format!(in alloc; "{units} {functions} {parsing} {reading}\n")?)
 }
 
 fn count_text(alloc: Global, count: u64) -> Result<String> {

@@ -1,5 +1,5 @@
 //! The rows of all line programs of a file, as text.
-use crate::debug_sections::{root_of, sections_of, units_of};
+use crate::debug_sections::{alone, root_of, sections_of, texts_of, units_of};
 use blz_bytes::{ByStdSort, bytes_to_path};
 use blz_elf::RelocationMap;
 use blz_entry::{Sections, Texts};
@@ -12,7 +12,7 @@ use std::fmt::Write;
 /// and the path, and its rows as `row ADDRESS FILE LINE COLUMN`, with `end ADDRESS` behind those of a sequence.
 pub fn list_rows(alloc: Global, image: &[u8]) -> Result<String> {
     let none = RelocationMap::new(alloc);
-    let sections = sections_of(alloc, image, &none)?;
+    let sections = alone(sections_of(alloc, image, &none)?);
     let texts = texts_of(&sections);
     let units = units_of(alloc, sections.info)?;
     let mut text = String::new(alloc);
@@ -29,20 +29,6 @@ pub fn list_rows(alloc: Global, image: &[u8]) -> Result<String> {
         }
     }
     Ok(text)
-}
-
-fn texts_of<'b>(sections: &Sections<'_, 'b>) -> Texts<'b> {
-    Texts {
-        info: sections.info.bytes,
-        line: sections.line.bytes,
-        strings: sections.strings.bytes,
-        line_str: sections.line_str.bytes,
-        sup_strings: b"",
-        pack_info: b"",
-        pack_strings: b"",
-        sup_info: b"",
-        sup_line_str: b"",
-    }
 }
 
 fn list_files(alloc: Global, text: &mut String, texts: &Texts<'_>, lines: &Lines) -> Result<()> {
