@@ -6,6 +6,8 @@ import re
 import subprocess
 import sys
 import tempfile
+import time
+import typing
 
 TOP = os.path.dirname(os.path.dirname(os.path.abspath(__file__)))
 BENCH = os.path.join(TOP, "crates", "blz_bench", "out", "blz_bench")
@@ -35,22 +37,30 @@ def debug_program(folder, version, count):
     return program
 
 
+class Run(typing.NamedTuple):
+    """The least processor and wall seconds of some runs, their peak memory in bytes, and what was written."""
+    seconds: float
+    wall: float
+    peak: int
+    written: bytes
+
+
 def measured(words, runs=3):
-    """Processor seconds, the least of some runs, the peak memory in bytes, and what was written. Each runs below a fresh
-    python, whose children's numbers are its own."""
-    code = ("import resource, subprocess, sys; run = subprocess.run(sys.argv[2:], stdout=open(sys.argv[1], 'wb')); "
-            "used = resource.getrusage(resource.RUSAGE_CHILDREN); "
-            "print(used.ru_utime + used.ru_stime, used.ru_maxrss * 1024, run.returncode)")
-    seconds = []
+    """A program of these words. `time` starts it, since one that python starts has python's own peak."""
+    walls, seconds = [], []
     for _ in range(runs):
-        with tempfile.NamedTemporaryFile() as out:
-            run = subprocess.run([sys.executable, "-c", code, out.name] + words, check=True, capture_output=True, text=True)
-            used, peak, status = run.stdout.split()
-            if int(status) != 0:
-                sys.exit(f"{words[0]}: status {status}: {run.stderr}")
-            seconds.append(float(used))
-            written = out.read()
-    return min(seconds), int(peak), written
+        with tempfile.NamedTemporaryFile("w+") as told, tempfile.NamedTemporaryFile() as out:
+            begun = time.perf_counter()
+            run = subprocess.Popen(["/usr/bin/time", "-f", "%M", "-o", told.name] + words, stdout=out, stderr=subprocess.PIPE)
+            errors = run.stderr.read()
+            _, status, used = os.wait4(run.pid, 0)
+            walls.append(time.perf_counter() - begun)
+            run.returncode = os.waitstatus_to_exitcode(status)
+            if run.returncode != 0:
+                sys.exit(f"{words[0]}: status {run.returncode}: {errors.decode(errors='replace')}")
+            seconds.append(used.ru_utime + used.ru_stime)
+            peak, written = int(told.read()) * 1024, open(out.name, "rb").read()
+    return Run(min(seconds), min(walls), peak, written)
 
 
 def debug_size(program):
