@@ -1,6 +1,6 @@
 -- Ranges of addresses: the attributes that tell them, and their lists (DWARF 5 sections 2.17 and 7.25, DWARF 4
 -- section 2.17.3).
-use Rattle.std.specs.Prelude.{◌≡◌, ℕ, zero, suc, ◌+◌, ◌-◌, ◌*◌, ◌^◌, Bool, true, false, ◌&&◌, ◌||◌, not, List, [], ◌++◌, length, Option, Some, None, Result, Ok, Err, nat_lt, nat_le, ◌==◌, if◌then◌else◌}
+use Rattle.std.specs.Prelude.{◌≡◌, ℕ, zero, suc, ◌+◌, ◌-◌, ◌*◌, ◌^◌, Bool, true, false, ◌&&◌, ◌||◌, not, List, [], ◌++◌, length, Option, Some, None, Result, Ok, Err, nat_lt, nat_le, ◌==◌, if◌then◌else◌, option_map}
 use Rattle.std.specs.Option.{option_to_list}
 use Rattle.blz_error.specs.Fault.{Fault}
 use Rattle.blz_model.specs.Part.{Fails}
@@ -22,13 +22,23 @@ use Rattle.blz_entry.specs.declared.value.AttrValue.{AttrValue}
 use Rattle.blz_entry.specs.declared.value.AttrValue.TheVariants.{SecOffset, RangeIndex}
 
 -- Where the list of a value begins, if it is one: an offset, or an index into the unit's offsets, which count from
--- their own base. A sum past 2 ^ 64 - 1 lies in no section.
+-- their own base. It is a whole number, and there is none where the index lies outside.
 unfoldable pub range_offset : Sections → UnitHeader → UnitRoot → AttrValue → Option (Option ℕ)
 range_offset s h root (SecOffset offset) = Some (Some offset)
 range_offset s h root (RangeIndex index) = do
   offset ← offset_at h.wide (section_view s.rnglists) (root.rnglists_base + index * offset_len h.wide)
-  if nat_lt (offset.0 + root.rnglists_base) (2 ^ 64) then Some (Some (offset.0 + root.rnglists_base)) else None
+  Some (Some (offset.0 + root.rnglists_base))
 range_offset s h root _ = Some None
+
+-- An offset as a number of 64 bits. No list has a value at an offset past the greatest one, and none has a value at the
+-- greatest one, which stands for it: no section reaches so far.
+abbrev pub held_offset : ℕ → ℕ
+held_offset offset = if nat_lt offset (2 ^ 64) then offset else 2 ^ 64 - 1
+
+-- the offset that is answered; a list past the greatest offset has no value
+abbrev pub answered_offset : Option ℕ → Option (Option ℕ)
+answered_offset None = Some None
+answered_offset (Some offset) = if nat_lt offset (2 ^ 64) then Some (Some offset) else None
 
 -- an attribute DW_AT_low_pc or DW_AT_high_pc with its address, or else its number
 abbrev pub with_low : RangeAttributes → Option ℕ → RangeAttributes
@@ -48,7 +58,7 @@ unfoldable pub range_step : Sections → UnitHeader → UnitRoot → RangeAttrib
 range_step s h root r a =
     if a.0 == 0x11 then (value_address s h root a.1 >>= λ low. Some (with_low r low)) else (
     if a.0 == 0x12 then (value_address s h root a.1 >>= λ high. Some (with_high r high (udata a.1))) else (
-    if a.0 == 0x55 then (range_offset s h root a.1 >>= λ offset. Some (record r { ranges_offset = offset })) else Some r))
+    if a.0 == 0x55 then (range_offset s h root a.1 >>= λ offset. Some (record r { ranges_offset = option_map held_offset offset })) else Some r))
 
 -- ---- lists of ranges
 

@@ -1,8 +1,8 @@
 //! The attributes that tell which addresses an entry covers.
-ghost use Rattle.std.specs.Prelude.{◌≡◌, MatchResult, Some, take, vec_len};
+ghost use Rattle.std.specs.Prelude.{◌≡◌, MatchResult, Some, option_and_then, option_map, take, vec_len};
 ghost use Rattle.blz_model.specs.Part.{Exactly, Fails};
 ghost use Rattle.blz_entry.specs.Marks.{or_invalid};
-ghost use Rattle.blz_entry.specs.RangeLists.{range_offset, with_low, with_high, range_step, sized, bounds_of, not_empty, ranges_of, joined, Appends};
+ghost use Rattle.blz_entry.specs.RangeLists.{range_offset, held_offset, answered_offset, with_low, with_high, range_step, sized, bounds_of, not_empty, ranges_of, joined, Appends};
 
 use crate::addresses::value_address;
 use crate::fault::invalid;
@@ -24,7 +24,8 @@ pub struct RangeAttributes {
     pub high_pc: Option<u64>,
     /// `DW_AT_high_pc` as a constant: how many addresses there are.
     pub size: Option<u64>,
-    /// `DW_AT_ranges`: where the list of ranges begins.
+    /// `DW_AT_ranges`: where the list of ranges begins. `u64::MAX`, at which no section has a list, stands for an
+    /// offset past it.
     pub ranges_offset: Option<u64>,
 }
 
@@ -40,11 +41,11 @@ fn range_offset(
     header: &UnitHeader,
     root: &UnitRoot,
     value: AttrValue,
-) -> Option<Option<u64>>
+) -> Option<Option<u128>>
     ensures { result ≡ range_offset sections.now header.now root.now value }
 {
     match value {
-        AttrValue::SecOffset(offset) => Some(Some(offset)),
+        AttrValue::SecOffset(offset) => Some(Some(u128::from(offset))),
         AttrValue::RangeIndex(index) => {
             let offset = indexed_offset(
                 header.wide,
@@ -52,27 +53,51 @@ fn range_offset(
                 root.rnglists_base,
                 index,
             )?;
-            let offset = offset.checked_add(root.rnglists_base)?;
-            Some(Some(offset))
+            Some(Some(u128::from(offset) + u128::from(root.rnglists_base)))
         }
         _ => Some(None),
     }
 }
 
+fn answered_offset(offset: Option<u128>) -> Option<Option<u64>>
+    ensures { result ≡ answered_offset offset }
+{
+    let Some(offset) = offset else {
+        return Some(None);
+    };
+    if offset > u128::from(u64::MAX) {
+        return None;
+    }
+    Some(Some(offset as u64))
+}
+
 /// Where the list of ranges of a value begins (DWARF 5 sections 7.5.5 and 7.28), and None where it is none. InvalidDwarf
-/// exactly where the index lies outside `.debug_rnglists` or leads past the greatest offset.
+/// exactly where the index lies outside `.debug_rnglists` or leads past the greatest offset, where no list has a value.
 pub fn attr_ranges_offset(
     sections: &Sections<'_, '_>,
     header: &UnitHeader,
     root: &UnitRoot,
     value: AttrValue,
 ) -> Result<Option<u64>>
-    ensures { Exactly (λ o. o) result (or_invalid (range_offset sections.now header.now root.now value)) }
+    ensures { Exactly (λ o. o) result (or_invalid (option_and_then answered_offset (range_offset sections.now header.now root.now value))) }
 {
-    match range_offset(sections, header, root, value) {
+    let Some(offset) = range_offset(sections, header, root, value) else {
+        return Err(invalid("the index of a list of ranges lies outside"));
+    };
+    match answered_offset(offset) {
         Some(offset) => Ok(offset),
-        None => Err(invalid("the index of a list of ranges lies outside")),
+        None => Err(invalid("a list of ranges lies past the greatest offset")),
     }
+}
+
+fn held_offset(offset: Option<u128>) -> Option<u64>
+    ensures { result ≡ option_map held_offset offset }
+{
+    let offset = offset?;
+    if offset > u128::from(u64::MAX) {
+        return Some(u64::MAX);
+    }
+    Some(offset as u64)
 }
 
 fn with_low(attributes: RangeAttributes, low_pc: Option<u64>) -> RangeAttributes
@@ -128,9 +153,9 @@ pub(crate) fn range_step(
             Some(with_high(attributes, high, value.udata()))
         }
         RANGES => {
-            let ranges_offset = range_offset(sections, header, root, value)?;
+            let offset = range_offset(sections, header, root, value)?;
             Some(RangeAttributes {
-                ranges_offset,
+                ranges_offset: held_offset(offset),
                 ..attributes
             })
         }

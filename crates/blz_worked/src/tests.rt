@@ -7,6 +7,7 @@ mod listings;
 mod orders;
 mod package;
 mod prepared;
+mod range_lists;
 mod references;
 mod refusals;
 mod rows;
