@@ -13,8 +13,6 @@ mod path_text;
 mod places;
 mod ranked;
 mod read_raw;
-#[cfg(test)]
-mod tests;
 
 pub use align_up::{align_up_u32, align_up_usize};
 pub use blz_records::{ByteOrder, Pod};

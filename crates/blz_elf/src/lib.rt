@@ -28,8 +28,6 @@ mod span;
 mod sym_info;
 mod symbols;
 mod table;
-#[cfg(test)]
-mod tests;
 mod text;
 mod visit;
 mod warm;

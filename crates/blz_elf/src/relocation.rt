@@ -139,35 +139,3 @@ impl SectionRelocations {
         Ok(())
     }
 }
-
-#[cfg(test)]
-mod tests {
-    use super::*;
-    use std::test::Fail;
-
-    #[test]
-    fn relocates_by_the_last_insert(rt: HostRuntime) -> Result<(), Fail> {
-        let alloc = rt.alloc();
-        let mut map = RelocationMap::new(alloc);
-        map.insert(0x100, 7, true)?;
-        map.insert(0x100, 0xabcd, false)?;
-        map.insert(0, 1, true)?;
-        assert_eq!(rt; map.relocate(0x100, 999), 0xabcd);
-        assert_eq!(rt; map.relocate(0x200, 999), 999);
-        assert_eq!(rt; map.relocate(0, u64::MAX), 0);
-
-        let mut maps = BTreeMap::new(alloc);
-        maps.insert(3, map)?;
-        let mut sections = SectionRelocations::new(alloc, maps);
-        sections.insert(alloc, 4, 8, 5, false)?;
-        sections.insert(alloc, 3, 8, 6, false)?;
-        assert_eq!(rt; sections.get(3).relocate(0x100, 999), 0xabcd);
-        assert_eq!(rt; sections.get(3).relocate(8, 999), 6);
-        assert_eq!(rt; sections.get(4).relocate(8, 999), 5);
-        assert_eq!(rt;
-            SectionRelocations::empty(alloc).get(3).relocate(0x100, 999),
-            999
-        );
-        Ok(())
-    }
-}

@@ -129,37 +129,3 @@ impl Visit for Collect {
         }
     }
 }
-
-#[cfg(test)]
-mod tests {
-    use super::*;
-    use crate::sym_info::SymInfos;
-    use blz_records::SymType;
-    use std::test::Fail;
-
-    #[test]
-    fn collects_until_a_number(rt: HostRuntime) -> Result<(), Fail> {
-        let alloc = rt.alloc();
-        let info = SymInfo {
-            name: "A",
-            addr: 16,
-            size: Some(4),
-            sym_type: SymType::Function,
-            file_offset: None,
-            module: Some("a.elf"),
-        };
-        let mut collect = Collect::new(alloc, Some(2));
-        assert_eq!(rt; collect.visit(&info), Flow::Continue);
-        assert!(rt; !collect.stopped());
-        assert_eq!(rt; collect.visit(&info), Flow::Break);
-        assert!(rt; collect.stopped() && !collect.full());
-        assert_eq!(rt; collect.infos().len(), 2);
-        assert!(rt; collect.infos()[1].as_info() == info);
-
-        let infos = SymInfos::from_vec([info].to_vec(alloc)?);
-        assert_eq!(rt; infos.len(), 1);
-        assert!(rt; infos.get(0) == Some(&info) && infos.get(1).is_none());
-        assert_eq!(rt; SymInfos::empty(alloc).as_slice().len(), 0);
-        Ok(())
-    }
-}

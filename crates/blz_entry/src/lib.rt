@@ -21,8 +21,6 @@ mod root;
 mod section;
 mod span;
 mod strings;
-#[cfg(test)]
-mod tests;
 mod text;
 mod units;
 mod value;

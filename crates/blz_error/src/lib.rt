@@ -8,8 +8,6 @@ mod into_error;
 mod kind;
 mod mismatch;
 mod report;
-#[cfg(test)]
-mod tests;
 mod text;
 
 pub use cause::Cause;

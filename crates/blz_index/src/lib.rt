@@ -10,8 +10,6 @@ mod call_sites;
 mod cold;
 mod description;
 mod dwarf;
-#[cfg(test)]
-mod entry_tests;
 mod fault;
 mod function_lists;
 mod functions;
@@ -33,8 +31,6 @@ mod range_index;
 mod reader;
 mod references;
 mod sites;
-#[cfg(test)]
-mod tests;
 mod unit_asking;
 mod unit_caches;
 mod unit_filling;

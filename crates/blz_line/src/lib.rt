@@ -22,6 +22,3 @@ mod table;
 pub use header::LineHeader;
 pub use lines::{Lines, Location};
 pub use row::{LineRow, LineSequence};
-
-#[cfg(test)]
-mod tests;

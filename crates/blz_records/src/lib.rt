@@ -13,8 +13,6 @@ mod relocation;
 mod section_header;
 mod sym_type;
 mod symbol;
-#[cfg(test)]
-mod tests;
 
 pub use blz_model::ByteOrder;
 pub use class::{ElfN, Has32BitTy};

@@ -5,8 +5,6 @@ mod dwo_section;
 mod package;
 mod split_unit;
 mod tables;
-#[cfg(test)]
-mod tests;
 
 pub use package::Package;
 pub use split_unit::{Piece, SplitUnit};

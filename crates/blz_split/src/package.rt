@@ -97,22 +97,6 @@ fn read<'b>(parser: &mut ElfParser<'b>, image: &'b [u8]) -> Result<Package<'b>>
     })
 }
 
-#[cfg(test)]
-impl<'b> Package<'b> {
-    /// A package that has an index and units alone.
-    pub fn of_parts(index: &'b [u8], info: &'b [u8], order: ByteOrder) -> Package<'b> {
-        Package {
-            abbrev: &[],
-            index,
-            info,
-            rnglists: &[],
-            strings: &[],
-            str_offsets: &[],
-            order,
-        }
-    }
-}
-
 impl<'b> Package<'b> {
     /// The package of an image. Refused by the first mark of header, section table, section names and the data of its
     /// sections in the order of their names; InvalidDwarf where its index has no value.

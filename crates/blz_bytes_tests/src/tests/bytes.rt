@@ -1,6 +1,8 @@
+//! Readers of bytes, checked orders, a map that keeps what was first put, and paths.
+
 ghost use Rattle.std.specs.Prelude.{◌≡◌, ◌<◌};
 
-use crate::{
+use blz_bytes::{
     AsTheyStand, ByStdSort, ByteOrder, Counted, Cursor, DirPath, InsertMap, Key, NameSpan, Orders,
     Pod, ReadRaw, Steps, align_up_u32, align_up_usize, bytes_to_path, check_names, check_pairs,
 };

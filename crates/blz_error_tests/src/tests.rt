@@ -1,4 +1,4 @@
-use crate::{Cause, Error, ErrorExt, ErrorKind, IntoCowStr, IntoError, Mismatch, Result, Str};
+use blz_error::{Cause, Error, ErrorExt, ErrorKind, IntoCowStr, IntoError, Mismatch, Result, Str};
 use std::alloc::{AllocError, Global};
 use std::test::Fail;
 

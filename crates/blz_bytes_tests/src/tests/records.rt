@@ -1,6 +1,8 @@
+//! Records of both classes, read in both byte orders.
+
 ghost use Rattle.std.specs.Prelude.{◌≡◌, pos};
 
-use crate::{
+use blz_records::{
     ByteOrder, Elf32_Ehdr, Elf32_Rel, Elf32_Rela, Elf32_Shdr, Elf32_Sym, Elf64_Ehdr, Elf64_Rel,
     Elf64_Rela, Elf64_Shdr, Elf64_Sym, ElfN, Pod, SymType,
 };

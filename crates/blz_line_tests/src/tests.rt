@@ -1,12 +1,13 @@
 //! Small line tables, with the rows that the standard or another reader gives for them.
-use crate::{LineHeader, LineRow, Lines};
 use blz_bytes::{AsTheyStand, ByteOrder};
 use blz_elf::RelocationMap;
 use blz_entry::{
     RangeAttributes, Section, Sections, StrPart, StrPlace, Texts, UnitHeader, UnitKind, UnitRoot,
 };
 use blz_error::{ErrorKind, Result};
+use blz_line::{LineHeader, LineRow, Lines};
 use std::alloc::Global;
+use std::test::Fail;
 
 /// A header of version 4 before a program of 19 bytes: minimum length 1, one operation, lines from -5 in a range of 14,
 /// special opcodes from 13, no directory, and the file `a.c`.
@@ -126,7 +127,7 @@ fn root() -> UnitRoot {
     }
 }
 
-fn lines(alloc: Global, line: &[u8], order: ByteOrder) -> Result<Option<Lines>> {
+fn parsed(alloc: Global, line: &[u8], order: ByteOrder) -> Result<Option<Lines>> {
     let moves = RelocationMap::new(alloc);
     Lines::parse(
         alloc,
@@ -137,9 +138,14 @@ fn lines(alloc: Global, line: &[u8], order: ByteOrder) -> Result<Option<Lines>> 
     )
 }
 
+fn lines(alloc: Global, line: &[u8], order: ByteOrder) -> std::result::Result<Lines, Fail> {
+    let lines = parsed(alloc, line, order)?;
+    Ok(lines.ok_or("no lines")?)
+}
+
 /// The line and the column of an address.
-fn place(lines: &Lines, line: &[u8], probe: u64) -> Result<Option<(Option<u32>, Option<u32>)>> {
-    match lines.find_location(&texts(line), probe)? {
+fn place(lines: &Lines, line: &[u8], addr: u64) -> Result<Option<(Option<u32>, Option<u32>)>> {
+    match lines.find_location(&texts(line), addr)? {
         Some(location) => Ok(Some((location.line, location.column))),
         None => Ok(None),
     }
@@ -153,28 +159,23 @@ fn joined(alloc: Global, header: &[u8], program: &[u8]) -> Result<Vec<u8>> {
 }
 
 #[test]
-fn opcodes_make_rows_in_both_byte_orders(rt: HostRuntime) -> Result<()> {
+fn opcodes_make_rows_in_both_byte_orders(rt: HostRuntime) -> std::result::Result<(), Fail> {
     let alloc = rt.alloc();
     for (header, program, order) in [
         (HEADER, PROGRAM, ByteOrder::Little),
         (BIG_HEADER, BIG_PROGRAM, ByteOrder::Big),
     ] {
         let table = joined(alloc, header, program)?;
-        let Some(lines) = lines(alloc, &table, order)? else {
-            assert!(rt; false, "no lines");
-            return Ok(());
-        };
-        for sequence in lines.sequences() {
-            assert_eq!(rt; sequence.start, 0x1004);
-            assert_eq!(rt; sequence.end, 0x1018);
-            for (row, address) in sequence.rows().iter().zip(&[0x1004u64, 0x1015]) {
-                assert_eq!(rt; row.address, *address);
-                assert_eq!(rt; row.line, 2);
-                assert_eq!(rt; row.column, 0);
-            }
-            assert_eq!(rt; sequence.rows().len(), 2);
-        }
+        let lines = lines(alloc, &table, order)?;
         assert_eq!(rt; lines.sequences().len(), 1);
+        let sequence = lines.sequences().first().ok_or("no sequence")?;
+        assert_eq!(rt; (sequence.start, sequence.end), (0x1004, 0x1018));
+        let rows = sequence.rows();
+        assert_eq!(rt; rows.len(), 2);
+        for (row, address) in rows.iter().zip(&[0x1004u64, 0x1015]) {
+            assert_eq!(rt; row.address, *address);
+            assert_eq!(rt; (row.line, row.column), (2, 0));
+        }
         assert!(rt; place(&lines, &table, 0x1010)? == Some((Some(2), Some(0))));
         assert!(rt; place(&lines, &table, 0x1018)? == None);
     }
@@ -182,43 +183,50 @@ fn opcodes_make_rows_in_both_byte_orders(rt: HostRuntime) -> Result<()> {
 }
 
 #[test]
-fn a_row_of_a_file_outside_the_table_is_refused(rt: HostRuntime) -> Result<()> {
+fn a_row_of_a_file_outside_the_table_is_refused(rt: HostRuntime) -> std::result::Result<(), Fail> {
     let alloc = rt.alloc();
     let table = joined(alloc, HEADER, OTHER_FILE)?;
-    if let Some(lines) = lines(alloc, &table, ByteOrder::Little)? {
-        match place(&lines, &table, 0x1000) {
-            Ok(_) => assert!(rt; false, "a file"),
-            Err(e) => assert!(rt; e.kind() == ErrorKind::InvalidDwarf),
+    let lines = lines(alloc, &table, ByteOrder::Little)?;
+    match place(&lines, &table, 0x1000) {
+        Ok(_) => assert!(rt; false, "a file"),
+        Err(e) => assert!(rt; e.kind() == ErrorKind::InvalidDwarf),
+    }
+    assert!(rt; place(&lines, &table, 0x1008)? == None);
+    Ok(())
+}
+
+#[test]
+fn the_rows_of_a_compiler(rt: HostRuntime) -> std::result::Result<(), Fail> {
+    let alloc = rt.alloc();
+    for table in [VERSION_2, VERSION_5] {
+        let lines = lines(alloc, table, ByteOrder::Little)?;
+        for (addr, line, column) in [
+            (0x1000u64, 3u32, 15u32),
+            (0x1008, 4, 11),
+            (0x1009, 4, 9),
+            (0x100b, 7, 5),
+        ] {
+            assert!(rt;
+                place(&lines, table, addr)? == Some((Some(line), Some(column))),
+                "at {addr}"
+            );
         }
-        assert!(rt; place(&lines, &table, 0x1008)? == None);
+        assert!(rt; place(&lines, table, 0x100c)? == None);
     }
     Ok(())
 }
 
 #[test]
-fn the_rows_of_a_compiler(rt: HostRuntime) -> Result<()> {
+fn the_file_of_a_compiler(rt: HostRuntime) -> std::result::Result<(), Fail> {
     let alloc = rt.alloc();
     for table in [VERSION_2, VERSION_5] {
-        if let Some(lines) = lines(alloc, table, ByteOrder::Little)? {
-            for (probe, line, column) in [
-                (0x1000u64, 3u32, 15u32),
-                (0x1008, 4, 11),
-                (0x1009, 4, 9),
-                (0x100b, 7, 5),
-            ] {
-                assert!(rt;
-                    place(&lines, table, probe)? == Some((Some(line), Some(column))),
-                    "at {probe}"
-                );
-            }
-            assert!(rt; place(&lines, table, 0x100c)? == None);
-            if let Some(location) = lines.find_location(&texts(table), 0x1000)? {
-                let mut dir = Vec::new(alloc);
-                location.dir.write_to(&mut dir)?;
-                assert!(rt; dir.as_slice() == b"/src".as_slice());
-                assert!(rt; location.file == b"a.c".as_slice());
-            }
-        }
+        let lines = lines(alloc, table, ByteOrder::Little)?;
+        let texts = texts(table);
+        let location = lines.find_location(&texts, 0x1000)?.ok_or("no location")?;
+        let mut dir = Vec::new(alloc);
+        location.dir.write_to(&mut dir)?;
+        assert!(rt; dir.as_slice() == b"/src".as_slice());
+        assert!(rt; location.file == b"a.c".as_slice());
     }
     Ok(())
 }
@@ -230,7 +238,7 @@ fn a_count_that_no_byte_backs(rt: HostRuntime) -> Result<()> {
     let sections = sections(ENDLESS, &moves, ByteOrder::Little);
     let header = LineHeader::parse(alloc, &sections, 0, 8)?;
     assert_eq!(rt; header.version, 5);
-    match lines(alloc, ENDLESS, ByteOrder::Little) {
+    match parsed(alloc, ENDLESS, ByteOrder::Little) {
         Ok(_) => assert!(rt; false, "a file"),
         Err(e) => assert!(rt; e.kind() == ErrorKind::InvalidDwarf),
     }

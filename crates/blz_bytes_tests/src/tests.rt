@@ -1,0 +1,4 @@
+//! Small values, read and compared by hand.
+
+mod bytes;
+mod records;
