@@ -18,8 +18,6 @@ mod segment;
 mod strings;
 mod symbol;
 mod tables;
-#[cfg(test)]
-mod tests;
 mod units;
 mod walk;
 mod worked;
