@@ -1,0 +1,89 @@
+//! Symbols by their names, and all of them.
+ghost use Rattle.std.specs.Prelude.{◌≡◌};
+
+use blz_bytes::{AsTheyStand, ByStdSort};
+use blz_elf::{Collect, ElfParser, FindAddrOpts, Flow, SymInfo, SymInfos, SymType, Visit};
+use blz_error::Result;
+use blz_images::Image;
+use std::test::Fail;
+
+#[test]
+fn lists_the_symbols_of_a_name(rt: HostRuntime) -> Result<()> {
+    let alloc = rt.alloc();
+    let image = Image::elf64(alloc)
+        .symbol("A", 0, 100)?
+        .symbol("B", 10, 10)?
+        .dynamic_symbol("D", 0x40, 8)?
+        .bytes()?;
+    let mut parser = ElfParser::from_mem(alloc, &image, Some("a.elf"));
+    parser.cache(alloc, &mut AsTheyStand)?;
+    for (name, addr, size) in [("A", 0u64, 100u64), ("B", 10, 10)] {
+        let infos = parser.find_addr(alloc, &mut AsTheyStand, name, &FindAddrOpts::default())?;
+        let there = match infos.as_slice() {
+            [info] => info.addr == addr && info.size == Some(size),
+            _ => false,
+        };
+        assert!(rt; there, "{name}");
+    }
+    let none = parser.find_addr(alloc, &mut AsTheyStand, "C", &FindAddrOpts::default())?;
+    assert_eq!(rt; none.len(), 0);
+    Ok(())
+}
+
+#[test]
+fn shows_symbols_until_the_visitor_breaks(rt: HostRuntime) -> Result<()> {
+    let alloc = rt.alloc();
+    let image = Image::elf64(alloc)
+        .symbol("A", 0, 100)?
+        .symbol("B", 10, 10)?
+        .dynamic_symbol("D", 0x140, 8)?
+        .bytes()?;
+    let mut parser = ElfParser::from_mem(alloc, &image, None);
+    for (stop_after, count) in [(None, 3usize), (Some(1usize), 1)] {
+        let mut collect = Collect::new(alloc, stop_after);
+        parser.for_each(
+            alloc,
+            &mut ByStdSort,
+            &FindAddrOpts::default(),
+            &mut collect,
+        )?;
+        assert_eq!(rt; collect.infos().len(), count);
+    }
+    Ok(())
+}
+
+// four bytes at 16
+fn info() -> SymInfo<'static> {
+    SymInfo {
+        name: "A",
+        addr: 16,
+        size: Some(4),
+        sym_type: SymType::Function,
+        file_offset: None,
+        module: Some("a.elf"),
+    }
+}
+
+#[test]
+fn collects_until_a_number(rt: HostRuntime) -> std::result::Result<(), Fail> {
+    let info = info();
+    let mut collect = Collect::new(rt.alloc(), Some(2));
+    assert_eq!(rt; collect.visit(&info), Flow::Continue);
+    assert!(rt; !collect.stopped());
+    assert_eq!(rt; collect.visit(&info), Flow::Break);
+    assert!(rt; collect.stopped() && !collect.full());
+    assert_eq!(rt; collect.infos().len(), 2);
+    assert!(rt; collect.infos()[1].as_info() == info);
+    Ok(())
+}
+
+#[test]
+fn a_list_of_infos_is_what_it_was_made_of(rt: HostRuntime) -> std::result::Result<(), Fail> {
+    let alloc = rt.alloc();
+    let info = info();
+    let infos = SymInfos::from_vec([info].to_vec(alloc)?);
+    assert_eq!(rt; infos.len(), 1);
+    assert!(rt; infos.get(0) == Some(&info) && infos.get(1).is_none());
+    assert_eq!(rt; SymInfos::empty(alloc).as_slice().len(), 0);
+    Ok(())
+}

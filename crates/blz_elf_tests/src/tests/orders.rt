@@ -1,0 +1,140 @@
+//! Orders that are handed in, true ones and false ones.
+ghost use Rattle.std.specs.Prelude.{None};
+
+use blz_bytes::{AsTheyStand, ByStdSort, Key, NameSpan, Orders, check_pairs};
+use blz_elf::{Answer, ElfParser, FindAddrOpts, FindSymOpts};
+use blz_error::Result;
+use blz_images::{ByteOrder, Class, Image, Writer};
+use std::alloc::Global;
+
+/// Gives two places, and keeps what it was asked and whether they pass the check.
+#[derive(Drop)]
+struct TwoPlaces {
+    places: [usize; 2],
+    keys: [Key; 2],
+    accepted: bool,
+}
+
+impl Orders for TwoPlaces {
+    ghost pair_places = { λ _. None };
+
+    ghost name_places = { λ _. None };
+
+    fn by_pair(&mut self, keys: &[Key], places: &mut [usize]) {
+        if keys.len() == 2 && places.len() == 2 {
+            self.keys = [keys[0], keys[1]];
+            places[0] = self.places[0];
+            places[1] = self.places[1];
+        }
+        self.accepted = check_pairs(keys, places);
+    }
+
+    fn by_name(&mut self, _strs: &[u8], _names: &[NameSpan], _places: &mut [usize]) {}
+}
+
+// a function that is defined in the first section, in 64 bits
+fn write_function(out: &mut Writer, name: u32, value: u64, size: u64) -> Result<()> {
+    out.u32(name)?;
+    out.u8(2)?;
+    out.u8(0)?;
+    out.u16(1)?;
+    out.u64(value)?;
+    Ok(out.u64(size)?)
+}
+
+#[test]
+fn symbols_are_asked_for_by_value_then_from_the_largest_down(rt: HostRuntime) -> Result<()> {
+    let alloc = rt.alloc();
+    let mut table = Writer::new(alloc, Class::Elf64, ByteOrder::Little);
+    write_function(&mut table, 1, 0, 100)?;
+    write_function(&mut table, 3, 0, 10)?;
+    let image = Image::elf64(alloc)
+        .section(".symtab", 2, table.bytes())?
+        .section(".strtab", 3, b"\0A\0B\0")?
+        .bytes()?;
+    let none = Key {
+        first: 1,
+        second: 1,
+    };
+    for (places, accepted) in [([0usize, 1usize], true), ([1, 0], false)] {
+        let mut orders = TwoPlaces {
+            places,
+            keys: [none, none],
+            accepted: !accepted,
+        };
+        let mut parser = ElfParser::from_mem(alloc, &image, None);
+        let answer = parser.find_sym(alloc, &mut orders, 50, &FindSymOpts::Basic)?;
+        let name = match answer {
+            Answer::Sym(symbol) => symbol.name,
+            Answer::NoSym(_) => "none",
+        };
+        assert!(rt; name == "A");
+        assert_eq!(rt; orders.accepted, accepted);
+        assert_eq!(rt; orders.keys[0].first, 0);
+        assert_eq!(rt; orders.keys[0].second, u64::MAX - 100);
+        assert_eq!(rt; orders.keys[1].first, 0);
+        assert_eq!(rt; orders.keys[1].second, u64::MAX - 10);
+    }
+    Ok(())
+}
+
+/// Puts one place everywhere.
+#[derive(Drop)]
+struct Everywhere {
+    place: usize,
+}
+
+impl Orders for Everywhere {
+    ghost pair_places = { λ _. None };
+
+    ghost name_places = { λ _. None };
+
+    fn by_pair(&mut self, _keys: &[Key], places: &mut [usize]) {
+        places.fill(self.place);
+    }
+
+    fn by_name(&mut self, _strs: &[u8], _names: &[NameSpan], places: &mut [usize]) {
+        places.fill(self.place);
+    }
+}
+
+// the addresses of the symbols of a name, in their order, in decimal
+fn addresses<O: Orders>(
+    alloc: Global,
+    orders: &mut O,
+    image: &[u8],
+    name: &str,
+) -> Result<Vec<u64>> {
+    let mut parser = ElfParser::from_mem(alloc, image, None);
+    let infos = parser.find_addr(alloc, orders, name, &FindAddrOpts::default())?;
+    let mut addresses = Vec::new(alloc);
+    for info in infos.as_slice() {
+        addresses.push(info.addr)?;
+    }
+    Ok(addresses)
+}
+
+#[test]
+fn lists_the_symbols_of_a_name_whatever_order_comes(rt: HostRuntime) -> Result<()> {
+    let alloc = rt.alloc();
+    let image = Image::elf64(alloc)
+        .symbol("B", 30, 4)?
+        .symbol("A", 20, 4)?
+        .undefined_symbol("A", 25, 0)?
+        .symbol("AB", 40, 4)?
+        .symbol("A", 10, 4)?
+        .bytes()?;
+    let listed: [u64; 2] = [20, 10];
+    let by_name = addresses(alloc, &mut ByStdSort, &image, "A")?;
+    assert!(rt; by_name.as_slice() == listed.as_slice());
+    let by_scan = addresses(alloc, &mut AsTheyStand, &image, "A")?;
+    assert!(rt; by_scan.as_slice() == listed.as_slice());
+    for place in [0usize, 7, usize::MAX] {
+        let by_lie = addresses(alloc, &mut Everywhere { place }, &image, "A")?;
+        assert!(rt; by_lie.as_slice() == listed.as_slice());
+    }
+    for name in ["", "AA", "C"] {
+        assert!(rt; addresses(alloc, &mut ByStdSort, &image, name)?.is_empty());
+    }
+    Ok(())
+}
