@@ -1,0 +1,79 @@
+//! Units that a compiler wrote.
+ghost use Rattle.std.specs.Prelude.{◌≡◌};
+
+use super::samples::{LINE_STR, SAMPLES, Sample};
+use super::small::{no_sections, section};
+use blz_elf::RelocationMap;
+use blz_entry::{
+    Abbreviations, AttrValue, Sections, Span, StrPart, StrPlace, UnitHeaders, UnitRoot, list_unit,
+};
+use std::alloc::Global;
+use std::test::Fail;
+
+// the sections of a compiled unit
+fn sections<'s>(sample: &Sample, moves: &'s RelocationMap) -> Sections<'s, 'static>
+    ensures { result.shift ≡ 0 }
+{
+    Sections {
+        info: section(sample.info, moves),
+        line_str: section(LINE_STR, moves),
+        ..no_sections(moves)
+    }
+}
+
+#[test]
+fn compiled_units_of_each_version_tell_their_ranges(rt: HostRuntime) -> Result<(), Fail> {
+    let moves = RelocationMap::new(rt.alloc());
+    for sample in SAMPLES {
+        let sections = sections(&sample, &moves);
+        let mut headers = UnitHeaders::new(sections.info);
+        let header = headers.next_header()?.ok_or("a unit")?;
+        assert_eq!(rt; header.version, sample.version);
+        assert!(rt; headers.next_header()?.is_none());
+        let abbreviations = Abbreviations::parse(rt.alloc(), sample.abbrev, header.abbrev)?;
+        let root = UnitRoot::parse(&sections, &header, &abbreviations)?;
+        assert_eq!(rt; root.low_pc, 0x401000);
+        let mut spans = Vec::new(rt.alloc());
+        assert!(rt;
+            root.ranges
+                .for_each_range(&sections, &header, &root, &mut spans)?
+        );
+        let code = Span {
+            begin: 0x401000,
+            end: 0x40100f,
+        };
+        assert_eq!(rt; spans.as_slice(), [code].as_slice());
+    }
+    Ok(())
+}
+
+// how many functions below the root have the name at a place of one byte
+fn functions_named(alloc: Global, sample: &Sample) -> Result<usize, Fail> {
+    let moves = RelocationMap::new(alloc);
+    let sections = sections(sample, &moves);
+    let header = UnitHeaders::new(sections.info)
+        .next_header()?
+        .ok_or("a unit")?;
+    let abbreviations = Abbreviations::parse(alloc, sample.abbrev, header.abbrev)?;
+    let name = AttrValue::Text(StrPlace {
+        part: StrPart::Info,
+        start: sample.name,
+        len: 1,
+    });
+    let mut found = 0usize;
+    for listed in list_unit(alloc, sections, header, &abbreviations)? {
+        let named = listed.attributes.iter().any(|a| a.0 == 0x03 && a.1 == name);
+        if listed.entry.tag == 0x2e && listed.entry.depth == 1 && named {
+            found = found.saturating_add(1);
+        }
+    }
+    Ok(found)
+}
+
+#[test]
+fn compiled_units_of_each_version_tell_their_function(rt: HostRuntime) -> Result<(), Fail> {
+    for sample in SAMPLES {
+        assert_eq!(rt; functions_named(rt.alloc(), &sample)?, 1);
+    }
+    Ok(())
+}

@@ -1,0 +1,81 @@
+//! Entries one after the other.
+use super::small::{header, no_sections, section};
+use blz_elf::RelocationMap;
+use blz_entry::{Abbreviations, AttrValue, Entries, Sections, UnitHeader};
+use std::test::Fail;
+
+#[test]
+fn attributes_are_read_one_by_one_or_passed_over(rt: HostRuntime) -> Result<(), Fail> {
+    let moves = RelocationMap::new(rt.alloc());
+    let sections = Sections {
+        info: section(b"\x07\x2a\x07\x2b\0", &moves),
+        ..no_sections(&moves)
+    };
+    let abbreviations = Abbreviations::parse(rt.alloc(), b"\x07\x2e\x01\x03\x0b\0\0\0", 0)?;
+    let unit = UnitHeader {
+        end: 5,
+        ..header(5)
+    };
+    let mut entries = Entries::new(sections, unit, &abbreviations, 0)?;
+    let first = entries.next_entry()?.ok_or("an entry")?;
+    assert_eq!(rt; (first.depth, first.code, first.tag), (0, 7, 0x2e));
+    let spec = *entries.pending().first().ok_or("an attribute")?;
+    assert_eq!(rt; entries.read_attribute(spec)?, AttrValue::Const(0x2a));
+    let second = entries.next_entry()?.ok_or("an entry")?;
+    assert_eq!(rt; (second.place, second.depth), (2, 1));
+    entries.skip_attributes()?;
+    let zero = entries.next_entry()?.ok_or("a zero")?;
+    assert_eq!(rt; (zero.depth, zero.code), (2, 0));
+    assert!(rt; entries.next_entry()?.is_none());
+    assert!(rt; Entries::new(sections, unit, &abbreviations, 6).is_err());
+    Ok(())
+}
+
+fn second_place(
+    info: &[u8],
+    abbreviations: &Abbreviations,
+    moves: &RelocationMap,
+    unit: UnitHeader,
+) -> Option<usize> {
+    let sections = Sections {
+        info: section(info, moves),
+        ..no_sections(moves)
+    };
+    let Ok(mut entries) = Entries::new(sections, unit, abbreviations, 0) else {
+        return None;
+    };
+    let Ok(Some(_)) = entries.next_entry() else {
+        return None;
+    };
+    let Ok(Some(second)) = entries.next_entry() else {
+        return None;
+    };
+    Some(second.place)
+}
+
+// DW_FORM_addr, ref_addr, strp, data16, flag_present and implicit_const
+const FIXED: &[u8] = b"\x01\x34\0\x11\x01\x49\x10\x03\x0e\x1c\x1e\x3f\x19\x3a\x21\x05\0\0\0";
+
+#[test]
+fn an_entry_of_fixed_size_ends_where_its_unit_tells(rt: HostRuntime) -> Result<(), Fail> {
+    let moves = RelocationMap::new(rt.alloc());
+    let abbreviations = Abbreviations::parse(rt.alloc(), FIXED, 0)?;
+    let bytes = [1u8; 45];
+    let now = UnitHeader {
+        end: 45,
+        ..header(5)
+    };
+    let old = UnitHeader { version: 2, ..now };
+    let wide = UnitHeader { wide: true, ..now };
+    let strange = UnitHeader {
+        address_size: 2,
+        ..now
+    };
+    assert!(rt; second_place(&bytes, &abbreviations, &moves, now) == Some(33));
+    assert!(rt; second_place(&bytes, &abbreviations, &moves, old) == Some(37));
+    assert!(rt; second_place(&bytes, &abbreviations, &moves, wide) == Some(41));
+    assert!(rt; second_place(&bytes, &abbreviations, &moves, strange).is_none());
+    let short = UnitHeader { end: 32, ..now };
+    assert!(rt; second_place(&bytes, &abbreviations, &moves, short).is_none());
+    Ok(())
+}

@@ -1,0 +1,204 @@
+//! The values of forms (DWARF 5 section 7.5.6).
+use super::small::{header, no_sections, section};
+use blz_elf::RelocationMap;
+use blz_entry::{
+    Abbreviations, AttrValue, Entries, Section, Sections, StrPart, StrPlace, UnitHeader, form_value,
+};
+use blz_model::ByteOrder;
+use std::test::Fail;
+
+const NUMBERS: &[u8] = b"\x83\x01\0\0\0\0\0\0\0\0\0\0\0\0\0\0";
+
+const BLOCKS: &[u8] = b"\x03\0\0\0\xaa\xbb\xcc";
+
+// the number 7 as DW_FORM_data1, DW_FORM_indirect in itself, and the number -128
+const INDIRECT: &[u8] = b"\x0b\x07\x16\x0b\x80\x7f";
+
+// the value of a form at the start of a section, and the place behind it, in a unit of version 5
+fn read(bytes: &Section<'_, '_>, form: u64) -> Option<(AttrValue, usize)> {
+    form_value(bytes, StrPart::Line, 5, false, 8, form, 0)
+}
+
+#[test]
+fn each_form_of_a_number_has_its_value_and_next_place(rt: HostRuntime) {
+    let moves = RelocationMap::new(rt.alloc());
+    let bytes = section(NUMBERS, &moves);
+    for (form, value, next) in [
+        (0x01, AttrValue::Addr(0x183), 8),
+        (0x05, AttrValue::Const(0x183), 2),
+        (0x06, AttrValue::Const(0x183), 4),
+        (0x07, AttrValue::Const(0x183), 8),
+        (0x0b, AttrValue::Const(0x83), 1),
+        (0x0c, AttrValue::Other, 1),
+        (0x0d, AttrValue::Signed(131), 2),
+        (0x0f, AttrValue::Const(131), 2),
+        (0x19, AttrValue::Other, 0),
+        (0x1e, AttrValue::Other, 16),
+        (0x20, AttrValue::Other, 8),
+        (0x22, AttrValue::Other, 2),
+    ] {
+        assert_eq!(rt; read(&bytes, form), Some((value, next)), "form {form}");
+    }
+}
+
+#[test]
+fn each_form_of_a_place_has_its_value_and_next_place(rt: HostRuntime) {
+    let moves = RelocationMap::new(rt.alloc());
+    let bytes = section(NUMBERS, &moves);
+    for (form, value, next) in [
+        (0x0e, AttrValue::StrRef(0x183), 4),
+        (0x10, AttrValue::InfoRef(0x183), 4),
+        (0x11, AttrValue::UnitRef(0x83), 1),
+        (0x12, AttrValue::UnitRef(0x183), 2),
+        (0x13, AttrValue::UnitRef(0x183), 4),
+        (0x14, AttrValue::UnitRef(0x183), 8),
+        (0x15, AttrValue::UnitRef(131), 2),
+        (0x17, AttrValue::SecOffset(0x183), 4),
+        (0x1c, AttrValue::SupRef(0x183), 4),
+        (0x1d, AttrValue::SupStr(0x183), 4),
+        (0x1f, AttrValue::LineStrRef(0x183), 4),
+        (0x24, AttrValue::SupRef(0x183), 8),
+        (0x1f20, AttrValue::SupRef(0x183), 4),
+        (0x1f21, AttrValue::SupStr(0x183), 4),
+    ] {
+        assert_eq!(rt; read(&bytes, form), Some((value, next)), "form {form}");
+    }
+}
+
+#[test]
+fn each_form_of_an_index_has_its_value_and_next_place(rt: HostRuntime) {
+    let moves = RelocationMap::new(rt.alloc());
+    let bytes = section(NUMBERS, &moves);
+    for (form, value, next) in [
+        (0x1a, AttrValue::StrIndex(131), 2),
+        (0x1b, AttrValue::AddrIndex(131), 2),
+        (0x23, AttrValue::RangeIndex(131), 2),
+        (0x25, AttrValue::StrIndex(0x83), 1),
+        (0x26, AttrValue::StrIndex(0x183), 2),
+        (0x27, AttrValue::StrIndex(0x183), 3),
+        (0x28, AttrValue::StrIndex(0x183), 4),
+        (0x29, AttrValue::AddrIndex(0x83), 1),
+        (0x2a, AttrValue::AddrIndex(0x183), 2),
+        (0x2b, AttrValue::AddrIndex(0x183), 3),
+        (0x2c, AttrValue::AddrIndex(0x183), 4),
+    ] {
+        assert_eq!(rt; read(&bytes, form), Some((value, next)), "form {form}");
+    }
+}
+
+#[test]
+fn each_form_of_a_block_or_a_text_has_its_next_place(rt: HostRuntime) {
+    let moves = RelocationMap::new(rt.alloc());
+    let bytes = section(BLOCKS, &moves);
+    let text = StrPlace {
+        part: StrPart::Line,
+        start: 0,
+        len: 1,
+    };
+    for (form, value, next) in [
+        (0x03, AttrValue::Other, 5),
+        (0x04, AttrValue::Other, 7),
+        (0x08, AttrValue::Text(text), 2),
+        (0x09, AttrValue::Other, 4),
+        (0x0a, AttrValue::Other, 4),
+        (0x18, AttrValue::Other, 4),
+    ] {
+        assert_eq!(rt; read(&bytes, form), Some((value, next)), "form {form}");
+    }
+}
+
+#[test]
+fn an_indirect_form_has_the_value_of_the_form_that_stands_there(rt: HostRuntime) {
+    let moves = RelocationMap::new(rt.alloc());
+    let bytes = section(INDIRECT, &moves);
+    assert_eq!(rt; read(&bytes, 0x16), Some((AttrValue::Const(7), 2)));
+    // an indirect form there, and an implicit constant
+    assert_eq!(rt;
+        form_value(&bytes, StrPart::Line, 5, false, 8, 0x16, 2),
+        None
+    );
+    let implicit = section(b"\x21\x05", &moves);
+    assert_eq!(rt; read(&implicit, 0x16), None);
+}
+
+#[test]
+fn an_implicit_constant_is_the_number_of_the_abbreviation(rt: HostRuntime) -> Result<(), Fail> {
+    let moves = RelocationMap::new(rt.alloc());
+    let sections = Sections {
+        info: section(b"\x01\x01", &moves),
+        ..no_sections(&moves)
+    };
+    // two attributes, the first with an implicit constant of -2, and the second with one of 5
+    let table = b"\x01\x34\0\x3a\x21\x7e\x3b\x21\x05\0\0\0";
+    let abbreviations = Abbreviations::parse(rt.alloc(), table, 0)?;
+    let unit = UnitHeader {
+        end: 2,
+        ..header(5)
+    };
+    let mut entries = Entries::new(sections, unit, &abbreviations, 0)?;
+    entries.next_entry()?.ok_or("an entry")?;
+    let first = *entries.pending().first().ok_or("an attribute")?;
+    assert_eq!(rt; entries.read_attribute(first)?, AttrValue::Signed(-2));
+    let second = *entries.pending().first().ok_or("another attribute")?;
+    assert_eq!(rt; entries.read_attribute(second)?, AttrValue::Signed(5));
+    // they took no bytes
+    let next = entries.next_entry()?.ok_or("a second entry")?;
+    assert_eq!(rt; next.place, 1);
+    Ok(())
+}
+
+#[test]
+fn orders_and_sizes_change_what_a_form_reads(rt: HostRuntime) {
+    let moves = RelocationMap::new(rt.alloc());
+    let little = section(NUMBERS, &moves);
+    let big = Section {
+        order: ByteOrder::Big,
+        ..little
+    };
+    let line = StrPart::Line;
+    assert_eq!(rt; read(&big, 0x05), Some((AttrValue::Const(0x8301), 2)));
+    assert_eq!(rt; read(&big, 0x27), Some((AttrValue::StrIndex(0x83_0100), 3)));
+    assert_eq!(rt;
+        form_value(&little, line, 5, true, 8, 0x0e, 0),
+        Some((AttrValue::StrRef(0x183), 8))
+    );
+    assert_eq!(rt;
+        form_value(&little, line, 2, false, 8, 0x10, 0),
+        Some((AttrValue::InfoRef(0x183), 8))
+    );
+    assert_eq!(rt;
+        form_value(&little, line, 5, false, 4, 0x01, 0),
+        Some((AttrValue::Addr(0x183), 4))
+    );
+    for (form, address_size) in [(0x01, 2), (0x02, 8), (0x16, 8), (0x21, 8), (0x1f01, 8)] {
+        let read = form_value(&little, line, 5, false, address_size, form, 0);
+        assert_eq!(rt; read, None, "form {form}");
+    }
+}
+
+#[test]
+fn a_number_below_zero_is_no_constant(rt: HostRuntime) {
+    let moves = RelocationMap::new(rt.alloc());
+    let bytes = section(INDIRECT, &moves);
+    let negative = form_value(&bytes, StrPart::Line, 5, false, 8, 0x0d, 4);
+    assert_eq!(rt; negative, Some((AttrValue::Signed(-128), 6)));
+    assert_eq!(rt; AttrValue::Signed(-128).udata(), None);
+    assert_eq!(rt; AttrValue::Signed(5).udata(), Some(5));
+}
+
+#[test]
+fn addresses_are_moved_and_constants_are_not(rt: HostRuntime) -> Result<(), Fail> {
+    let mut moves = RelocationMap::new(rt.alloc());
+    moves.insert(8, 0xABCD, false)?;
+    let moved = section(NUMBERS, &moves);
+    let line = StrPart::Line;
+    assert_eq!(rt;
+        form_value(&moved, line, 5, false, 4, 0x01, 8),
+        Some((AttrValue::Addr(0xABCD), 12))
+    );
+    assert_eq!(rt;
+        form_value(&moved, line, 5, false, 4, 0x06, 8),
+        Some((AttrValue::Const(0), 12))
+    );
+    Ok(())
+}

@@ -1,0 +1,120 @@
+//! Strings, addresses and lists of ranges that are found by their index.
+use super::small::{header, no_sections, root, section};
+use blz_elf::RelocationMap;
+use blz_entry::{
+    AttrValue, RangeAttributes, Sections, StrPart, StrPlace, Texts, UnitHeader, address,
+    attr_ranges_offset, attr_string, supplementary_string,
+};
+use blz_error::ErrorKind;
+use std::test::Fail;
+
+const STRINGS: &[u8] = b"\0ab\0cde\0";
+
+#[test]
+fn a_string_is_found_by_its_index(rt: HostRuntime) {
+    let moves = RelocationMap::new(rt.alloc());
+    let sections = Sections {
+        strings: section(STRINGS, &moves),
+        str_offsets: section(b"\x01\0\0\0\x04\0\0\0", &moves),
+        ..no_sections(&moves)
+    };
+    let second = StrPlace {
+        part: StrPart::Strings,
+        start: 4,
+        len: 3,
+    };
+    for (index, place) in [(1, Some(second)), (2, None)] {
+        let value = AttrValue::StrIndex(index);
+        assert_eq!(rt; attr_string(&sections, &header(5), &root(0), value), place);
+    }
+    let texts = Texts {
+        info: b"",
+        line: b"",
+        strings: STRINGS,
+        line_str: b"",
+        sup_strings: b"",
+        pack_info: b"",
+        pack_strings: b"",
+        sup_info: b"",
+        sup_line_str: b"",
+    };
+    assert_eq!(rt; texts.get(second), b"cde".as_slice());
+}
+
+#[test]
+fn a_string_of_the_supplementary_file_is_found_there(rt: HostRuntime) {
+    let moves = RelocationMap::new(rt.alloc());
+    let strings = section(STRINGS, &moves);
+    let sections = Sections {
+        sup_strings: Some(strings),
+        ..no_sections(&moves)
+    };
+    let elsewhere = Some(StrPlace {
+        part: StrPart::SupStrings,
+        start: 1,
+        len: 2,
+    });
+    let value = AttrValue::SupStr(1);
+    assert_eq!(rt;
+        attr_string(&sections, &header(5), &root(0), value),
+        elsewhere
+    );
+    assert_eq!(rt; supplementary_string(&strings, 1), elsewhere);
+}
+
+#[test]
+fn an_address_is_found_by_its_index(rt: HostRuntime) -> Result<(), Fail> {
+    let moves = RelocationMap::new(rt.alloc());
+    let sections = Sections {
+        addr: section(
+            b"\0\0\0\0\0\0\0\0\x05\0\0\0\0\0\0\0\x07\0\0\0\0\0\0\0",
+            &moves,
+        ),
+        ..no_sections(&moves)
+    };
+    assert_eq!(rt; address(&sections, &header(5), &root(0), 1)?, 7);
+    assert!(rt; address(&sections, &header(5), &root(0), 2).is_err());
+    Ok(())
+}
+
+#[test]
+fn a_list_of_ranges_is_found_by_its_index(rt: HostRuntime) -> Result<(), Fail> {
+    let moves = RelocationMap::new(rt.alloc());
+    let sections = Sections {
+        rnglists: section(b"\0\0\0\0\x08\0\0\0", &moves),
+        ..no_sections(&moves)
+    };
+    let found = attr_ranges_offset(&sections, &header(5), &root(0), AttrValue::RangeIndex(0))?;
+    assert_eq!(rt; found, Some(12));
+    Ok(())
+}
+
+#[test]
+fn a_list_past_the_greatest_offset_is_named_and_has_no_value(rt: HostRuntime) -> Result<(), Fail> {
+    let moves = RelocationMap::new(rt.alloc());
+    let sections = Sections {
+        rnglists: section(b"\0\0\0\0\xff\xff\xff\xff\xff\xff\xff\xff", &moves),
+        ..no_sections(&moves)
+    };
+    let wide = UnitHeader {
+        wide: true,
+        ..header(5)
+    };
+    let root = root(0);
+    let list = AttrValue::RangeIndex(0);
+    match attr_ranges_offset(&sections, &wide, &root, list) {
+        Ok(_) => assert!(rt; false, "an offset"),
+        Err(e) => assert!(rt; e.kind() == ErrorKind::InvalidDwarf),
+    }
+    // DW_AT_ranges
+    let named = RangeAttributes::default().with(&sections, &wide, &root, 0x55, list)?;
+    let mut spans = Vec::new(rt.alloc());
+    match named.for_each_range(&sections, &wide, &root, &mut spans) {
+        Ok(_) => assert!(rt; false, "a list"),
+        Err(e) => assert!(rt; e.kind() == ErrorKind::InvalidDwarf),
+    }
+    // the last of several counts
+    let later = named.with(&sections, &wide, &root, 0x55, AttrValue::SecOffset(12))?;
+    assert!(rt; !later.for_each_range(&sections, &wide, &root, &mut spans)?);
+    Ok(())
+}
