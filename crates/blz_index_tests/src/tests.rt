@@ -1,0 +1,9 @@
+//! Small units that are asked by public calls.
+
+mod announced;
+mod asked;
+mod entries;
+mod listed;
+mod packages;
+mod ranges;
+mod small;

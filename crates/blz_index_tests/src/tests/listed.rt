@@ -1,0 +1,111 @@
+//! Functions of several units by a name, and all of them one after the other.
+ghost use Rattle.std.specs.Prelude.{None};
+
+use super::small::file_of;
+use blz_bytes::AsTheyStand;
+use blz_elf::{Flow, RelocationMap};
+use blz_error::ErrorKind;
+use blz_index::{Function, Units, VisitFunction};
+use std::alloc::Global;
+use std::test::Fail;
+
+// a unit with children; a function with a name and addresses
+const ABBREV: &[u8] = b"\x01\x11\x01\0\0\x02.\0\x03\x08\x11\x01\x12\x06\0\0\0";
+
+// the first unit has m, n and n, the second m, and the third n
+const THREE: &[u8] = b"\x36\0\0\0\x04\0\0\0\0\0\x08\x01\
+      \x02m\0\x10\0\0\0\0\0\0\0\x10\0\0\0\x02n\0\x20\0\0\0\0\0\0\0\x10\0\0\0\x02n\0\x30\0\0\0\0\0\0\0\x10\0\0\0\0\
+      \x18\0\0\0\x04\0\0\0\0\0\x08\x01\x02m\0\x40\0\0\0\0\0\0\0\x10\0\0\0\0\
+      \x18\0\0\0\x04\0\0\0\0\0\x08\x01\x02n\0\x50\0\0\0\0\0\0\0\x10\0\0\0\0";
+
+// the first unit has m, and the second an entry whose code no abbreviation has
+const BROKEN: &[u8] = b"\x18\0\0\0\x04\0\0\0\0\0\x08\x01\x02m\0\x40\0\0\0\0\0\0\0\x10\0\0\0\0\
+      \x0a\0\0\0\x04\0\0\0\0\0\x08\x01\x09\0";
+
+#[test]
+fn each_unit_gives_its_first_function_of_a_name(rt: HostRuntime) -> Result<(), Fail> {
+    let alloc = rt.alloc();
+    let none = RelocationMap::new(alloc);
+    let dwarf = file_of(THREE, ABBREV, &[], &none);
+    let orders = &mut AsTheyStand;
+    let Ok(mut units) = Units::parse(alloc, orders, &dwarf) else {
+        assert!(rt; false);
+        return Ok(());
+    };
+    let Ok(found) = units.find_name(alloc, orders, &dwarf, "n") else {
+        assert!(rt; false);
+        return Ok(());
+    };
+    assert!(rt; found.len() == 2 && found[0] == (0, 1) && found[1] == (2, 0));
+    let Ok(found) = units.find_name(alloc, orders, &dwarf, "") else {
+        assert!(rt; false);
+        return Ok(());
+    };
+    assert!(rt; found.is_empty());
+    Ok(())
+}
+
+/// Counts what it is shown, and breaks at a number.
+#[derive(Clone, Copy)]
+struct Count {
+    end: usize,
+    shown: usize,
+    unit: usize,
+    stopped: bool,
+}
+
+impl VisitFunction for Count {
+    ghost shown = { λ _. None };
+
+    ghost stopped = { λ c. c.stopped };
+
+    fn visit(&mut self, unit: usize, _function: &Function) -> Flow {
+        self.shown = self.shown.saturating_add(1);
+        self.unit = unit;
+        self.stopped = self.shown == self.end;
+        if self.stopped {
+            return Flow::Break;
+        }
+        Flow::Continue
+    }
+}
+
+fn counted(alloc: Global, info: &'static [u8], end: usize) -> Option<(Count, Option<ErrorKind>)> {
+    let none = RelocationMap::new(alloc);
+    let dwarf = file_of(info, ABBREV, &[], &none);
+    let orders = &mut AsTheyStand;
+    let Ok(mut units) = Units::parse(alloc, orders, &dwarf) else {
+        return None;
+    };
+    let mut count = Count {
+        end,
+        shown: 0,
+        unit: 0,
+        stopped: false,
+    };
+    match units.for_each_function(alloc, orders, &dwarf, &mut count) {
+        Ok(()) => Some((count, None)),
+        Err(fault) => Some((count, Some(fault.kind()))),
+    }
+}
+
+#[test]
+fn all_functions_are_shown_until_a_break_or_a_mark(rt: HostRuntime) -> Result<(), Fail> {
+    let alloc = rt.alloc();
+    let Some((all, fault)) = counted(alloc, THREE, 9) else {
+        assert!(rt; false);
+        return Ok(());
+    };
+    assert!(rt; fault.is_none() && all.shown == 5 && all.unit == 2);
+    let Some((some, fault)) = counted(alloc, THREE, 4) else {
+        assert!(rt; false);
+        return Ok(());
+    };
+    assert!(rt; fault.is_none() && some.shown == 4 && some.unit == 1);
+    let Some((whole, fault)) = counted(alloc, BROKEN, 9) else {
+        assert!(rt; false);
+        return Ok(());
+    };
+    assert!(rt; fault == Some(ErrorKind::InvalidDwarf) && whole.shown == 1);
+    Ok(())
+}

@@ -1,0 +1,71 @@
+//! Files of units, in the little-endian order.
+ghost use Rattle.std.specs.Prelude.{◌≡◌};
+ghost use Rattle.std.specs.FinMap as map;
+ghost use Rattle.blz_index.specs.BuiltUnits.{IsReadable};
+
+use blz_elf::RelocationMap;
+use blz_entry::{Section, Sections, Texts};
+use blz_error::{ErrorKind, Result};
+use blz_index::Dwarf;
+use blz_model::ByteOrder;
+
+fn section<'s, 'b>(bytes: &'b [u8], none: &'s RelocationMap) -> Section<'s, 'b> {
+    Section {
+        bytes,
+        moves: none,
+        order: ByteOrder::Little,
+    }
+}
+
+/// A file of units with their abbreviations and sets of address ranges.
+pub fn file_of<'s, 'b>(
+    info: &'b [u8],
+    abbrev: &'b [u8],
+    aranges: &'b [u8],
+    none: &'s RelocationMap,
+) -> Dwarf<'s, 'b>
+    requires { none.now ≡ map.empty }
+    ensures { IsReadable result }
+{
+    let main = Sections {
+        abbrev: section(abbrev, none),
+        addr: section(&[], none),
+        aranges: section(aranges, none),
+        info: section(info, none),
+        line: section(&[], none),
+        line_str: section(&[], none),
+        ranges: section(&[], none),
+        rnglists: section(&[], none),
+        strings: section(&[], none),
+        str_offsets: section(&[], none),
+        sup_strings: None,
+        shift: 0,
+        split: false,
+        sup: false,
+    };
+    Dwarf {
+        main,
+        texts: Texts {
+            info: main.info.bytes,
+            line: main.line.bytes,
+            strings: main.strings.bytes,
+            line_str: main.line_str.bytes,
+            sup_strings: &[],
+            pack_info: &[],
+            pack_strings: &[],
+            sup_info: &[],
+            sup_line_str: &[],
+        },
+        package: None,
+        none,
+        sup: None,
+    }
+}
+
+/// The kind of a refusal.
+pub fn refusal<T: Drop>(outcome: Result<T>) -> Option<ErrorKind> {
+    match outcome {
+        Ok(_) => None,
+        Err(error) => Some(error.kind()),
+    }
+}
