@@ -126,17 +126,22 @@ impl<'a> Image<'a> {
 
     /// Adds a segment that is loaded.
     pub fn segment(
-        mut self,
+        self,
         address: u64,
         offset: u64,
         file_size: u64,
     ) -> Result<Image<'a>, AllocError> {
-        self.segments.push(Segment {
+        self.add_segment(Segment {
             kind: 1,
             offset,
             address,
             file_size,
-        })?;
+        })
+    }
+
+    /// Adds a segment.
+    pub fn add_segment(mut self, segment: Segment) -> Result<Image<'a>, AllocError> {
+        self.segments.push(segment)?;
         Ok(self)
     }
 

@@ -5,7 +5,7 @@ use std::alloc::AllocError;
 /// A segment: which bytes of the file lie at which addresses (ELF gABI, Program Header).
 #[derive(Clone, Copy)]
 pub struct Segment {
-    /// The type: 1 for a segment that is loaded.
+    /// The type: 1 for a segment that is loaded, 4 for notes.
     pub kind: u32,
     pub offset: u64,
     pub address: u64,

@@ -1,0 +1,10 @@
+pub mod Lookups
+pub mod ChecksumLemmas
+pub mod NoteLemmas
+pub mod PathLemmas
+pub mod ParentLemmas
+pub mod LinkLemmas
+pub mod BuildIdLemmas
+pub mod SameLemmas
+pub mod StageLemmas
+pub mod SearchLemmas

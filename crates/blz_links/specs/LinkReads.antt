@@ -1,0 +1,48 @@
+-- The links of an image.
+use Rattle.std.specs.Prelude.{ℕ, List, Option, Some, None}
+use Rattle.blz_model.specs.declared.byte_order.ByteOrder.{ByteOrder}
+use Rattle.blz_model.specs.Part.{Part, Good, Broken, ◌>>=◌}
+use Rattle.blz_elf.specs.Images.{image_order, image_section, image_section_data}
+use Rattle.blz_links.specs.LinkValues.{DebugLinkValue, DebugAltlinkValue, DebugSupValue}
+use Rattle.blz_links.specs.declared.link_section.LinkSection.TheVariants.{DebugLink, DebugAltlink, DebugSup}
+use Rattle.blz_links.specs.LinkNames.{name_of}
+use Rattle.blz_links.specs.LinkChecks.{debug_link_of, debug_altlink_of, debug_sup_of}
+
+-- what is found, where it can be looked for
+abbrev pub found : {A : Type 0} → Part (Option A) → Option A
+found (Good x) = x
+found (Broken k) = None
+
+abbrev pub if_found : {A : Type 0} → (ℕ → Part A) → Option ℕ → Part (Option A)
+if_found read None = Good None
+if_found read (Some index) = read index >>= λ x. Good (Some x)
+
+-- the bytes of the section at an index, and the order of their numbers
+unfoldable pub ordered_data : List ℕ → ℕ → Part (ByteOrder × List ℕ)
+ordered_data image index = do
+  order ← image_order image
+  bytes ← image_section_data image index
+  Good (order, bytes)
+
+-- The same of the first section of a name. There is none where the name is not found, or where header, sections or names
+-- are broken; where it is found, its data has to be whole.
+unfoldable pub linked_data : List ℕ → List ℕ → Part (Option (ByteOrder × List ℕ))
+linked_data image name = if_found (ordered_data image) (found (image_section image name))
+
+-- what they say, where they are there
+abbrev pub said : {A : Type 0} → (ByteOrder → List ℕ → Part A) → Option (ByteOrder × List ℕ) → Part (Option A)
+said says None = Good None
+said says (Some section) = says section.0 section.1 >>= λ x. Good (Some x)
+
+-- the link in the section of a name
+abbrev pub link_in : {A : Type 0} → List ℕ → List ℕ → (ByteOrder → List ℕ → Part A) → Part (Option A)
+link_in image name says = linked_data image name >>= said says
+
+abbrev pub debug_link_in : List ℕ → Part (Option DebugLinkValue)
+debug_link_in image = link_in image (name_of DebugLink) debug_link_of
+
+abbrev pub debug_altlink_in : List ℕ → Part (Option DebugAltlinkValue)
+debug_altlink_in image = link_in image (name_of DebugAltlink) (λ order. debug_altlink_of)
+
+abbrev pub debug_sup_in : List ℕ → Part (Option DebugSupValue)
+debug_sup_in image = link_in image (name_of DebugSup) debug_sup_of
