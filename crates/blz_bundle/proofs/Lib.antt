@@ -1,0 +1,9 @@
+pub mod Findings
+pub mod FollowSteps
+pub mod Packages
+pub mod Marks
+pub mod LinkKinds
+pub mod OpeningKinds
+pub mod OpeningSteps
+pub mod OpeningCauses
+pub mod LinkSteps

@@ -1,0 +1,91 @@
+//! What a path opens to, with its debug file, its package and the file that the debug file shares with others.
+
+mod alternative;
+mod failing;
+mod linkee;
+mod package;
+mod supplementary;
+mod vanishing;
+
+use blz_bundle::{Bundle, Companion, OwnedBundle};
+use blz_error::{Error, ErrorKind, Result};
+use blz_images::{ByteOrder, Image, build_id_note, debug_link};
+use blz_links::MemoryFiles;
+use std::alloc::{AllocError, Global};
+
+/// The checksum of `123456789` (CRC-32).
+const DIGITS_CHECKSUM: u32 = 0xcbf43926;
+
+// an image with one more section
+fn with_section(
+    alloc: Global,
+    name: &str,
+    bytes: &[u8],
+) -> std::result::Result<Vec<u8>, AllocError> {
+    Image::elf64(alloc).section(name, 1, bytes)?.bytes()
+}
+
+// an image whose link names a file and its checksum
+fn linked(alloc: Global, file: &str, checksum: u32) -> std::result::Result<Vec<u8>, AllocError> {
+    let link = debug_link(alloc, ByteOrder::Little, file, checksum)?;
+    with_section(alloc, ".gnu_debuglink", &link)
+}
+
+// an image with a build id
+fn with_build_id(alloc: Global, build_id: &[u8]) -> std::result::Result<Vec<u8>, AllocError> {
+    let notes = build_id_note(alloc, ByteOrder::Little, build_id)?;
+    Image::elf64(alloc).section(".note", 7, &notes)?.bytes()
+}
+
+fn bytes_of(alloc: Global, text: &[u8]) -> std::result::Result<Vec<u8>, AllocError> {
+    Vec::from_slice(alloc, text)
+}
+
+// the path and the bytes of a companion
+fn is_at(companion: Option<Companion<'_>>, path: &str, image: &[u8]) -> bool {
+    match companion {
+        Some(companion) => companion.module == Some(path) && companion.image == image,
+        None => false,
+    }
+}
+
+fn stands_alone(bundle: &Bundle<'_>) -> bool {
+    bundle.linkee.is_none() && bundle.supplementary.is_none() && bundle.package.is_none()
+}
+
+// the kind of a refusal
+fn refusal(opened: Result<OwnedBundle>) -> Option<ErrorKind> {
+    match opened {
+        Ok(_) => None,
+        Err(error) => Some(error.kind()),
+    }
+}
+
+// a refusal as invalid data, with what was found and what was recorded
+fn differs(opened: Result<OwnedBundle>, actual: &[u8], recorded: &[u8]) -> bool {
+    match opened {
+        Ok(_) => false,
+        Err(error) => error.kind() == ErrorKind::InvalidData
+            && has_values(&error, actual, recorded),
+    }
+}
+
+fn has_values(error: &Error, actual: &[u8], recorded: &[u8]) -> bool {
+    match error.mismatch() {
+        Some(mismatch) => mismatch.actual() == actual && mismatch.expected() == recorded,
+        None => false,
+    }
+}
+
+// a refusal as invalid data without a check
+fn is_invalid(opened: Result<OwnedBundle>) -> bool {
+    match opened {
+        Ok(_) => false,
+        Err(error) => error.kind() == ErrorKind::InvalidData && error.mismatch().is_none(),
+    }
+}
+
+// opens `/x/a`
+fn open(alloc: Global, files: &mut MemoryFiles) -> Result<OwnedBundle> {
+    OwnedBundle::open(alloc, files, "/x/a")
+}
