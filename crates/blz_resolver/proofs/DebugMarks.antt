@@ -22,7 +22,7 @@ use Rattle.blz_index.specs.declared.inlined_functions.InlinedFunction.{InlinedFu
 use Rattle.blz_resolver.specs.AddressAnswers.{function_numbered, function_symbol, direct_site, places_of, function_answer, with_place, symbol_answer, answer_by, answer_in, answer_of}
 use Rattle.blz_resolver.specs.Books.{Book, if_there, sup_image, debug_images, frame_of, framed}
 use Rattle.blz_resolver.specs.DebugSections.{located, debug_parts, debug_image}
-use Rattle.blz_resolver.specs.Images.{NamedImage, ImageSet}
+use Rattle.blz_bundle.specs.Images.{NamedImage, ImageSet}
 use Rattle.blz_resolver.specs.Scan.{scan_of}
 use Rattle.blz_resolver.specs.declared.debug_section.DebugSection.{DebugSection}
 use Rattle.blz_resolver.proofs.FormatMarks.{Marks, marks_good, marks_bind, marks_if, marks_or, marks_check, marks_all, marks_header, marks_elf, marks_image_data, marks_relocations, marks_image_symbol}

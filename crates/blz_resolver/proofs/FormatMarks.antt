@@ -1,12 +1,12 @@
 -- What is broken in an image has a kind of its format, and no other.
 use Rattle.std.proofs.Common.{◌≡◌, ◌≢◌, ◌⊎◌, ℕ, Bool, true, false, List, [], ◌∷◌, map, Option, Some, None, Result, Ok, Err, refl, inl, inr, subst}
 use Rattle.std.specs.FinMap as maps
-use Rattle.std.specs.Result.{IfErr}
+use Rattle.std.specs.Result.{IfErr, IsErrAnd}
 use Rattle.std.specs.Prelude.{⊤, if◌then◌else◌, nat_lt, length}
 use Rattle.blz_error.specs.Fault.{Fault}
 use Rattle.blz_error.specs.declared.kind.ErrorKind.{ErrorKind}
 use Rattle.blz_error.specs.declared.kind.ErrorKind.TheVariants as kind
-use Rattle.blz_model.specs.Part.{Part, Good, Broken, ◌>>=◌, or_mark, check, all_good, Fails, Gives}
+use Rattle.blz_model.specs.Part.{Part, Good, Broken, ◌>>=◌, or_mark, check, all_good, Fails, Gives, Exactly}
 use Rattle.blz_model.specs.Texts.{name_at}
 use Rattle.blz_model.specs.Answers.{Unknown}
 use Rattle.blz_elf.specs.declared.format.Format.{Format}
@@ -220,6 +220,15 @@ memory_or_format p k marks fails = by (memory_or_not k)
     by (inl memory) = inl memory
     by (inr other) = inr (format_kind p k marks (fails other))
 
+pub exactly_kinds : {X Y : Type 0} (view : X → Y) (result : Result X Fault) (p : Part Y) → Marks p → Exactly view result p → IfErr result (λ e. IsFormatKind e.kind)
+exactly_kinds view (Ok x) p marks exactly = tt
+exactly_kinds view (Err e) p marks exactly = format_kind p e.kind marks exactly.0
+
 pub gives_kinds : {X Y : Type 0} (view : X → Y) (result : Result X Fault) (p : Part Y) → Marks p → Gives view result p → IfErr result (λ e. IsMemoryOrFormat e.kind)
 gives_kinds view (Ok x) p marks gives = tt
 gives_kinds view (Err e) p marks gives = memory_or_format p e.kind marks gives
+
+-- an error that was converted has what its source gives it
+pub if_err_from : {T E : Type 0} (r : Result T E) (P Q : E → Type 0) → IsErrAnd r Q → ((e : E) → Q e → P e) → IfErr r P
+if_err_from (Ok x) P Q is weaker = tt
+if_err_from (Err e) P Q is weaker = weaker e is

@@ -10,7 +10,7 @@ use Rattle.blz_entry.specs.declared.text.Texts.{Texts}
 use Rattle.blz_index.specs.FunctionList.{Lists}
 use Rattle.blz_index.specs.UnitNames.{listed}
 use Rattle.blz_resolver.specs.FunctionNames.{lists_listing}
-use Rattle.blz_resolver.specs.Images.{ImageSet}
+use Rattle.blz_bundle.specs.Images.{ImageSet}
 
 broken_as : (kind : ErrorKind) (o : Option Lists) → or_invalid (listed o) ≡ Broken kind → or_invalid o ≡ Broken kind
 broken_as kind None e = let same : InvalidDwarf ≡ kind = cc in ap Broken same

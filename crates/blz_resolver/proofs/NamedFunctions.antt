@@ -23,7 +23,7 @@ use Rattle.blz_resolver.specs.AnswerLaws.{AllRead, IsNamedAt, IsSomeList}
 use Rattle.blz_resolver.specs.Books.{Book}
 use Rattle.blz_resolver.specs.FileTexts.{texts_of}
 use Rattle.blz_resolver.specs.FunctionNames.{place_if, info_named, function_info, numbered_info, infos_or_symbols, addresses_in}
-use Rattle.blz_resolver.specs.Images.{ImageSet}
+use Rattle.blz_bundle.specs.Images.{ImageSet}
 use Rattle.blz_resolver.proofs.CoveringFunctions.{unit_within}
 
 -- ---- the first that passes

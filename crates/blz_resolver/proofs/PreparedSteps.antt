@@ -9,7 +9,7 @@ use Rattle.blz_index.specs.declared.units.Units.{Units}
 use Rattle.blz_resolver.specs.AddressAnswers.{function_symbol, direct_site, places_of, placed, function_answer}
 use Rattle.blz_resolver.specs.Books.{Book, frame_of}
 use Rattle.blz_resolver.specs.CallFrames.{Places, one_place_if}
-use Rattle.blz_resolver.specs.Images.{ImageSet}
+use Rattle.blz_bundle.specs.Images.{ImageSet}
 use Rattle.blz_resolver.specs.Looks.{LooksFewAt, LooksFewIn}
 use Rattle.blz_resolver.proofs.SameTexts.{good_is}
 

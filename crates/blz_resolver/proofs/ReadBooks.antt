@@ -19,14 +19,14 @@ use Rattle.blz_index.specs.UnitTables.{units_of}
 use Rattle.blz_index.specs.UnitsWarm.{units_table, UnitsFit}
 use Rattle.blz_index.specs.declared.dwarf.Dwarf.{Dwarf}
 use Rattle.blz_resolver.specs.AddressAnswers.{answer_in, answer, answer_of}
-use Rattle.blz_resolver.specs.Books.{Book, files_in, frame_of}
-use Rattle.blz_resolver.specs.BundleViews.{bundle_view}
+use Rattle.blz_resolver.specs.Books.{Book, files_in, frame_of, framed}
+use Rattle.blz_bundle.specs.BundleViews.{bundle_view}
 use Rattle.blz_line.specs.FileNames.{file_text}
 use Rattle.blz_line.specs.UnitLines.{LineTable, OrderedLines}
 use Rattle.blz_resolver.specs.FunctionNames.{addresses_of, addresses_in, is_variable, listing_in, book_listing, functions_listing}
 use Rattle.blz_resolver.specs.FileTexts.{bytes_if, texts_of}
 use Rattle.blz_resolver.specs.FileViews.{images_view}
-use Rattle.blz_resolver.specs.Images.{ImageSet}
+use Rattle.blz_bundle.specs.Images.{ImageSet}
 use Rattle.blz_resolver.specs.InfoViews.{info_book, KeepsBook}
 use Rattle.blz_resolver.specs.Reading.{book_of, Reads, Keeps}
 use Rattle.blz_resolver.specs.Resolver.{HasBook, HasBookIf}
@@ -44,6 +44,9 @@ unfolding frame_of
 frame_is images d has =
     let table : or_invalid (units_of (files_in (images_view d.files))) ≡ Good (units_table d.units) = ap or_invalid has.units.table in
     rw (has.files, table) refl
+
+pub framed_is : (images : ImageSet) (d : DebugInfo) → HasBook images d → framed images ≡ Good tt
+framed_is images d has = ap (λ (p : Part Book). p >>= λ book. Good tt) (frame_is images d has)
 
 -- ---- texts
 

@@ -2,7 +2,7 @@
 use Rattle.std.proofs.Common.{◌≡◌, ℕ, ◌+◌, ◌<◌, ◌≤◌, Bool, List, [], ◌∷◌, ◌++◌, length, take, get_or, sym, subst}
 use Rattle.std.proofs.lemmas.List.{take_all, take_more}
 use Rattle.blz_resolver.specs.Commands.{IsReply, AreReplies}
-use Rattle.blz_resolver.specs.Images.{ImageSet}
+use Rattle.blz_bundle.specs.Images.{ImageSet}
 use Rattle.blz_resolver.specs.declared.call_list.Command.{Command}
 use Rattle.blz_resolver.specs.declared.call_list.Reply.{Reply}
 

@@ -11,7 +11,7 @@ use Rattle.blz_index.specs.UnitAnswers.{unit_language, function_at}
 use Rattle.blz_resolver.specs.AddressAnswers.{function_numbered, begin_of, size_of, function_symbol, direct_site, places_of, placed, function_answer, with_place, symbol_answer, answer_by, answer_in}
 use Rattle.blz_resolver.specs.Books.{Book}
 use Rattle.blz_resolver.specs.CallFrames.{Places, one_place, one_place_if, frames}
-use Rattle.blz_resolver.specs.Images.{debug_file}
+use Rattle.blz_bundle.specs.Images.{debug_file}
 use Rattle.blz_resolver.proofs.SameTexts.{SameTexts, same_bind, same_name, same_location, same_inlined_at}
 
 module _ (t u : Texts) (s : SameTexts t u) (b : Book) where

@@ -16,7 +16,7 @@ use Rattle.blz_index.specs.declared.functions.Function.{Function}
 use Rattle.blz_resolver.specs.AddressAnswers.{function_numbered}
 use Rattle.blz_resolver.specs.Books.{Book}
 use Rattle.blz_resolver.specs.FunctionNames.{info_named, function_info, numbered_info, infos_or_symbols, addresses_in, named_only, unit_listing, units_listing}
-use Rattle.blz_resolver.specs.Images.{ImageSet}
+use Rattle.blz_bundle.specs.Images.{ImageSet}
 use Rattle.blz_resolver.proofs.SameTexts.{SameTexts, same_bind, same_map, same_text, same_name}
 
 same_then : {A B : Type 0} (o : Option A) (f g : A → Option B) → ((x : A) → f x ≡ g x) → option_and_then f o ≡ option_and_then g o

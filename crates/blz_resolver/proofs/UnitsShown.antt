@@ -12,7 +12,7 @@ use Rattle.blz_index.specs.UnitTables.{UnitTable}
 use Rattle.blz_index.specs.UnitsWarm.{units_table}
 use Rattle.blz_index.specs.declared.units.Units.{Units}
 use Rattle.blz_resolver.specs.Books.{Book}
-use Rattle.blz_resolver.specs.BundleViews.{bundle_view}
+use Rattle.blz_bundle.specs.BundleViews.{bundle_view}
 use Rattle.blz_resolver.specs.FunctionNames.{unit_listing, units_listing, functions_listing}
 use Rattle.blz_resolver.specs.Reading.{book_of}
 use Rattle.blz_resolver.specs.declared.book_reader.BookReader.{BookReader}

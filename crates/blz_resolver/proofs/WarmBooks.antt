@@ -17,7 +17,7 @@ use Rattle.blz_resolver.specs.Books.{DebugImages, as_sup, debug_images, files_in
 use Rattle.blz_resolver.specs.DebugSections.{DebugImage, DebugParts, debug_image, debug_parts}
 use Rattle.blz_resolver.specs.DebugViews.{debug_view, parts_view}
 use Rattle.blz_resolver.specs.FileViews.{images_view}
-use Rattle.blz_resolver.specs.Images.{NamedImage, ImageSet, debug_file}
+use Rattle.blz_bundle.specs.Images.{NamedImage, ImageSet, debug_file}
 use Rattle.blz_resolver.specs.Resolver.{Fits, HasBook, ArePrepared, units_in}
 use Rattle.blz_resolver.specs.Sources.{asked_file}
 use Rattle.blz_resolver.specs.WarmFits.{IsThere, IsSupWith, SupFits, WarmBook, WarmBookIf, WarmFits, ArePreparedIn, moves_in, warm_units_in}

@@ -17,7 +17,7 @@ use Rattle.blz_index.specs.declared.functions.Function.{Function}
 use Rattle.blz_resolver.specs.Books.{Book, frame_of}
 use Rattle.blz_resolver.specs.CallFrames.{Places, no_places, one_place, one_place_if, frames}
 use Rattle.blz_resolver.specs.FileTexts.{texts_of}
-use Rattle.blz_resolver.specs.Images.{ImageSet, debug_file}
+use Rattle.blz_bundle.specs.Images.{ImageSet, debug_file}
 
 -- ---- the function
 

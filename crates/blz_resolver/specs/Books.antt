@@ -10,7 +10,7 @@ use Rattle.blz_split.specs.PackageParts.{PackageParts, package_of}
 use Rattle.blz_index.specs.BuiltUnits.{Files}
 use Rattle.blz_index.specs.UnitTables.{UnitTable, sup_units, units_of}
 use Rattle.blz_resolver.specs.DebugSections.{DebugImage, debug_image, sections_of}
-use Rattle.blz_resolver.specs.Images.{NamedImage, ImageSet, debug_file}
+use Rattle.blz_bundle.specs.Images.{NamedImage, ImageSet, debug_file}
 
 -- ---- the debug information of all images of a bundle
 

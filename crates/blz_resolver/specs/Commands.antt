@@ -5,7 +5,7 @@ use Rattle.blz_elf.specs.AnswerView.{answer_view}
 use Rattle.blz_elf.specs.Segments.{image_address_of}
 use Rattle.blz_resolver.specs.AddressAnswers.{answer_of}
 use Rattle.blz_resolver.specs.FunctionNames.{addresses_of}
-use Rattle.blz_resolver.specs.Images.{ImageSet}
+use Rattle.blz_bundle.specs.Images.{ImageSet}
 use Rattle.blz_resolver.specs.UnitRowsRead.{unit_count_of}
 use Rattle.blz_resolver.specs.declared.call_list.Command.{Command}
 use Rattle.blz_resolver.specs.declared.call_list.Command.TheVariants as command

@@ -19,7 +19,7 @@ use Rattle.blz_index.specs.declared.functions.Function.{Function}
 use Rattle.blz_resolver.specs.AddressAnswers.{function_numbered, begin_of, size_of}
 use Rattle.blz_resolver.specs.Books.{Book, frame_of}
 use Rattle.blz_resolver.specs.FileTexts.{texts_of}
-use Rattle.blz_resolver.specs.Images.{ImageSet, debug_file}
+use Rattle.blz_bundle.specs.Images.{ImageSet, debug_file}
 
 -- ---- a function as it is listed
 

@@ -2,7 +2,7 @@
 use Rattle.blz_index.specs.UnitsWarm.{units_table}
 use Rattle.blz_resolver.specs.Books.{Book, files_in}
 use Rattle.blz_resolver.specs.FileViews.{images_view}
-use Rattle.blz_resolver.specs.Images.{ImageSet}
+use Rattle.blz_bundle.specs.Images.{ImageSet}
 use Rattle.blz_resolver.specs.Reading.{UnitsStay}
 use Rattle.blz_resolver.specs.Resolver.{HasBook}
 use Rattle.blz_resolver.specs.declared.debug_info.DebugInfo.{DebugInfo}

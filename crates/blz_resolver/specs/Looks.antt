@@ -5,7 +5,7 @@ use Rattle.blz_index.specs.UnitAnswers.{function_at}
 use Rattle.blz_index.specs.UnitsWarm.{LooksFew}
 use Rattle.blz_index.specs.declared.units.Units.{Units}
 use Rattle.blz_resolver.specs.Books.{Book, frame_of}
-use Rattle.blz_resolver.specs.Images.{ImageSet}
+use Rattle.blz_bundle.specs.Images.{ImageSet}
 
 -- Where a function answers, the looks are those of two halvings, if the orders of both lists were accepted and no two of
 -- their ranges share an address.

@@ -1,10 +1,10 @@
 -- The book that is read of a bundle by its units, and what stays of them over a call.
 use Rattle.std.specs.Prelude.{◌≡◌, ℕ, true}
 use Rattle.blz_index.specs.BuiltUnits.{files_view, IsReadable}
-use Rattle.blz_index.specs.UnitsWarm.{units_table, announced_ordered, units_prepared, functions_kept, functions_ordered, UnitsFit}
+use Rattle.blz_index.specs.UnitsWarm.{units_table, announced_ordered, units_prepared, functions_kept, functions_ordered, lines_kept, UnitsFit}
 use Rattle.blz_index.specs.declared.units.Units.{Units}
 use Rattle.blz_resolver.specs.Books.{Book}
-use Rattle.blz_resolver.specs.BundleViews.{bundle_view}
+use Rattle.blz_bundle.specs.BundleViews.{bundle_view}
 use Rattle.blz_resolver.specs.declared.book_reader.BookReader.{BookReader}
 
 abbrev pub book_of : BookReader → Units → Book
@@ -26,6 +26,7 @@ pub record UnitsStay (old new : Units) : Type 0 where
   pub announced : announced_ordered new ≡ announced_ordered old
   pub is_prepared : units_prepared new ≡ units_prepared old
   pub functions : (k : ℕ) → functions_kept old k ≡ true → FunctionsStay k old new
+  pub lines : (k : ℕ) → lines_kept old k ≡ true → lines_kept new k ≡ true
 
 pub record Keeps (r : BookReader) (old new : Units) : Type 0 where
   pub reads : Reads r new

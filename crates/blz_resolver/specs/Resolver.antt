@@ -1,5 +1,5 @@
 -- What a resolver stands for, what it keeps, and what stays of it over a call.
-use Rattle.std.specs.Prelude.{◌≡◌, ℕ, Bool, true, Option, Some, None, is_some, option_map, ⊤}
+use Rattle.std.specs.Prelude.{◌≡◌, ℕ, Bool, true, false, Option, Some, None, is_some, option_map, ⊤}
 use Rattle.std.specs.FinMap as finite
 use Rattle.blz_model.specs.Part.{Good}
 use Rattle.blz_elf.specs.Sources.{Source}
@@ -8,7 +8,7 @@ use Rattle.blz_index.specs.Growing.{Told}
 use Rattle.blz_index.specs.declared.units.Units.{Units}
 use Rattle.blz_resolver.specs.Books.{debug_images, files_in}
 use Rattle.blz_resolver.specs.FileViews.{images_view}
-use Rattle.blz_resolver.specs.Images.{ImageSet}
+use Rattle.blz_bundle.specs.Images.{ImageSet}
 use Rattle.blz_resolver.specs.Reading.{UnitsStay}
 use Rattle.blz_resolver.specs.Sources.{IsOf, asked_file}
 use Rattle.blz_resolver.specs.declared.debug_info.DebugInfo.{DebugInfo}
@@ -26,6 +26,14 @@ has_debug r = is_some r.units
 abbrev pub units_in : Option DebugInfo → Option Units
 units_in debug = option_map (λ (d : DebugInfo). d.units) debug
 
+abbrev pub lines_in : Option Units → ℕ → Bool
+lines_in None unit = false
+lines_in (Some units) unit = lines_kept units unit
+
+-- whether the lines of a unit were read, as their value or their mark; without debug information there are none
+abbrev pub rows_filled : Resolver → ℕ → Bool
+rows_filled r unit = lines_in r.units unit
+
 -- ---- what it keeps
 
 -- The debug information is that of the bundle, and the units are those of its files.
@@ -37,11 +45,6 @@ pub record HasBook (images : ImageSet) (d : DebugInfo) : Type 0 where
 abbrev pub HasBookIf : ImageSet → Option DebugInfo → Type 0
 HasBookIf images None = ⊤
 HasBookIf images (Some d) = HasBook images d
-
--- the lines of a unit were read
-abbrev pub HasLinesIf : Option DebugInfo → ℕ → Type 0
-HasLinesIf None unit = ⊤
-HasLinesIf (Some d) unit = lines_kept d.units unit ≡ true
 
 abbrev pub ArePrepared : Option DebugInfo → Type 0
 ArePrepared None = ⊤
@@ -65,11 +68,16 @@ UnitsStayIf None (Some new) = ⊥
 UnitsStayIf (Some old) None = ⊥
 UnitsStayIf (Some old) (Some new) = UnitsStay old new
 
+-- the rows that are filled stay so
+abbrev pub RowsStay : Resolver → Resolver → Type 0
+RowsStay old new = (unit : ℕ) → rows_filled old unit ≡ true → rows_filled new unit ≡ true
+
 -- the bundle and all facts stay; only what was not kept yet may have been read
 pub record Stays (old new : Resolver) : Type 0 where
   pub images : new.images ≡ old.images
   pub has_debug : has_debug new ≡ has_debug old
   pub units : UnitsStayIf old.units new.units
+  pub rows : RowsStay old new
   pub is_prepared : new.prepared ≡ old.prepared
 
 -- the bundle stays, and the fact whether there is debug information
@@ -91,3 +99,4 @@ pub record Grows (told : Told) (old new : Resolver) : Type 0 where
   pub images : new.images ≡ old.images
   pub has_debug : has_debug new ≡ has_debug old
   pub units : UnitsGrowIf told old.units new.units
+  pub rows : RowsStay old new

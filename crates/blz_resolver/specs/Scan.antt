@@ -5,7 +5,7 @@ use Rattle.blz_model.specs.Answers.{Answer}
 use Rattle.blz_elf.specs.declared.opts.FindSymOpts.{FindSymOpts}
 use Rattle.blz_resolver.specs.AddressAnswers.{answer_of}
 use Rattle.blz_resolver.specs.Books.{frame_of}
-use Rattle.blz_resolver.specs.Images.{ImageSet}
+use Rattle.blz_bundle.specs.Images.{ImageSet}
 
 -- the answer of an address by some options, of a bundle with debug information or without
 abbrev pub answers_of : ImageSet → Bool → FindSymOpts → ℕ → Part Answer

@@ -1,7 +1,7 @@
 -- What a sink in memory holds, and what a put on it does.
 use Rattle.std.specs.Prelude.{ℕ, ◌-◌, ◌==◌, ◌&&◌, ◌||◌, not, nat_le, Bool, false, List, ◌++◌, length, take, min, Option, Some, None, Result, Ok, Err, if◌then◌else◌}
 use Rattle.std.specs.Option.{option_map_or}
-use Rattle.blz_resolver.specs.Counts.{one_more}
+use Rattle.blz_links.specs.Counts.{one_more}
 use Rattle.blz_resolver.specs.declared.outside.sink.SinkFault.{SinkFault}
 use Rattle.blz_resolver.specs.declared.outside.sink.SinkFault.TheVariants.{Failed}
 

@@ -1,7 +1,7 @@
 -- Which file a parser stands for.
 use Rattle.std.specs.Prelude.{◌≡◌, Bool, true, false}
 use Rattle.blz_elf.specs.Sources.{Source}
-use Rattle.blz_resolver.specs.Images.{NamedImage, ImageSet, debug_file}
+use Rattle.blz_bundle.specs.Images.{NamedImage, ImageSet, debug_file}
 
 pub record IsOf (file : NamedImage) (parser : Source) : Type 0 where
   pub image : parser.image ≡ file.image

@@ -9,7 +9,7 @@ use Rattle.blz_line.specs.Sequences.{Sequence}
 use Rattle.blz_line.specs.UnitLines.{LineTable}
 use Rattle.blz_resolver.specs.Books.{Book, frame_of}
 use Rattle.blz_resolver.specs.FileTexts.{texts_of}
-use Rattle.blz_resolver.specs.Images.{ImageSet}
+use Rattle.blz_bundle.specs.Images.{ImageSet}
 
 -- the sequences of a unit, and its files, each as a directory and a name
 pub record Rows : Type 0 where

@@ -8,7 +8,7 @@ use Rattle.blz_index.specs.UnitsWarm.{units_prepared, UnitsFit}
 use Rattle.blz_index.specs.declared.units.Units.{Units}
 use Rattle.blz_resolver.specs.Books.{DebugImages, debug_images, files_in, if_there, sup_image}
 use Rattle.blz_resolver.specs.DebugSections.{DebugImage}
-use Rattle.blz_resolver.specs.Images.{NamedImage, ImageSet}
+use Rattle.blz_bundle.specs.Images.{NamedImage, ImageSet}
 use Rattle.blz_resolver.specs.Sources.{asked_file}
 use Rattle.blz_resolver.specs.declared.warm.Warm.{Warm}
 use Rattle.blz_resolver.specs.declared.warm.WarmDebug.{WarmDebug}

@@ -6,7 +6,7 @@ ghost use Rattle.blz_elf.specs.AnswerView.{answer_view, resolved_view};
 ghost use Rattle.blz_index.specs.UnitsWarm.{units_table, functions_kept};
 ghost use Rattle.blz_line.specs.Lookups.{location_view};
 ghost use Rattle.blz_resolver.specs.AddressAnswers.{direct_site, places_of, placed, function_answer, with_place, symbol_answer, answer_by, answer_in};
-ghost use Rattle.blz_resolver.specs.BundleViews.{bundle_view};
+ghost use Rattle.blz_bundle.specs.BundleViews.{bundle_view};
 ghost use Rattle.blz_resolver.specs.PlaceViews.{places_view};
 ghost use Rattle.blz_resolver.specs.Reading.{book_of, Reads, Keeps};
 ghost use Rattle.blz_resolver.specs.Sources.{IsOfDebugFile};

@@ -1,6 +1,6 @@
 //! What the answers of a bundle with debug information are read from.
 
-use crate::Bundle;
+use blz_bundle::Bundle;
 use blz_index::Dwarf;
 
 /// A bundle, and its files as units are read from them. The units stand beside it, since they keep what was read.

@@ -7,13 +7,13 @@ ghost use Rattle.blz_split.specs.FileSections.{sections_view};
 ghost use Rattle.blz_split.specs.PackageParts.{package_view, package_of};
 ghost use Rattle.blz_index.specs.BuiltUnits.{bytes_of, files_view, AreSupTexts, AreTextsOf, ArePacked, IsReadable};
 ghost use Rattle.blz_resolver.specs.Books.{as_sup, beside, debug_images, files_in, if_there, sup_image};
-ghost use Rattle.blz_resolver.specs.BundleViews.{bundle_view, companion_view};
+ghost use Rattle.blz_bundle.specs.BundleViews.{bundle_view, companion_view};
 ghost use Rattle.blz_resolver.specs.DebugViews.{debug_view, IsWholeFile};
 ghost use Rattle.blz_resolver.specs.FileViews.{images_view, package_info, package_strings, sup_info, sup_line_str, IsSup};
-ghost use Rattle.blz_resolver.specs.Images.{debug_file};
+ghost use Rattle.blz_bundle.specs.Images.{debug_file};
 
 use crate::debug_image::DebugImage;
-use crate::{Bundle, Companion};
+use blz_bundle::{Bundle, Companion};
 use blz_elf::{ElfParser, RelocationMap};
 use blz_entry::{Section, Sections, Texts};
 use blz_error::Result;

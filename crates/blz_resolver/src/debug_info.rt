@@ -12,7 +12,7 @@ ghost use Rattle.blz_index.specs.UnitTables.{units_of};
 ghost use Rattle.blz_index.specs.UnitsWarm.{units_table, units_prepared, lines_kept, announced_ordered, UnitsFit, UnitsGrow, AreCold};
 ghost use Rattle.blz_resolver.specs.AddressAnswers.{answer_of};
 ghost use Rattle.blz_resolver.specs.Books.{files_in, frame_of};
-ghost use Rattle.blz_resolver.specs.BundleViews.{bundle_view};
+ghost use Rattle.blz_bundle.specs.BundleViews.{bundle_view};
 ghost use Rattle.blz_resolver.specs.FileViews.{images_view};
 ghost use Rattle.blz_resolver.specs.FunctionNames.{addresses_of, is_variable, listing_in};
 ghost use Rattle.blz_resolver.specs.Looks.{LooksFewIn};
@@ -22,11 +22,11 @@ ghost use Rattle.blz_resolver.specs.RowsViews.{rows_view};
 ghost use Rattle.blz_resolver.specs.UnitRowsRead.{rows_of, unit_count_of};
 ghost use Rattle.blz_resolver.specs.Sources.{IsOfDebugFile};
 
-use crate::Bundle;
 use crate::book_reader::BookReader;
 use crate::debug_files::DebugFiles;
 use crate::fault::unsupported;
 use crate::rows::UnitRows;
+use blz_bundle::Bundle;
 use blz_bytes::{Orders, Steps};
 use blz_elf::{Answer, ElfParser, FindAddrOpts, FindSymOpts, SymInfos, SymType, Visit};
 use blz_error::Result;
@@ -176,6 +176,8 @@ impl<'b> DebugInfo<'b> {
         requires there { unit < length (units_table self.old.units).kept }
         ensures keeps { KeepsBook (bundle_view bundle.now) self.old self.new }
         ensures filled { IfOk result (λ _. lines_kept self.new.units unit ≡ true) }
+        ensures pairs_stay { O.pair_places orders.new ≡ O.pair_places orders.old }
+        ensures names_stay { O.name_places orders.new ≡ O.name_places orders.old }
     {
         let reader = BookReader {
             bundle: *bundle,

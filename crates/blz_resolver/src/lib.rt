@@ -3,7 +3,6 @@
 
 mod answering;
 mod book_reader;
-mod bundle;
 mod call_list;
 mod call_places;
 mod code_info;
@@ -14,7 +13,6 @@ mod debug_info;
 mod debug_section;
 mod debug_text;
 mod fault;
-pub mod files;
 mod function;
 mod functions_named;
 mod functions_shown;
@@ -22,19 +20,16 @@ pub mod laws;
 mod names;
 mod opening;
 pub mod outside;
-mod owned_bundle;
 mod prepared;
 mod preparing;
 mod resolver;
 mod rows;
 mod scan;
-#[cfg(test)]
-mod tests;
 mod warm;
 
-pub use bundle::{Bundle, Companion};
+pub use blz_bundle::{Bundle, Companion, OwnedBundle};
+pub use blz_links::files;
 pub use call_list::{Command, Reply, replies};
-pub use owned_bundle::OwnedBundle;
 pub use resolver::ElfResolver;
 pub use rows::UnitRows;
 pub use scan::symbolize;

@@ -1,67 +1,58 @@
 //! Opening a path.
-ghost use Rattle.std.specs.Prelude.{◌≡◌, ◌⊎◌, ◌≤◌, Some, IfOk, IfErr};
+ghost use Rattle.std.specs.Prelude.{◌≡◌, ◌⊎◌, ◌≤◌, IfOk, IfErr, map, string_bytes};
+ghost use Rattle.blz_bundle.specs.Opening.{IsOpeningKind, Lacks, Opens, OpensTo, default_dirs};
+ghost use Rattle.blz_bundle.specs.Outcomes.{HasKindCause, IsRefusal};
+ghost use Rattle.blz_links.specs.Counts.{Rose};
 ghost use Rattle.blz_model.specs.Part.{Good, Broken};
-ghost use Rattle.blz_resolver.specs.Counts.{Rose};
-ghost use Rattle.blz_resolver.specs.Opening.{Opens, HasKindCause, has_section, has_link, opened_from};
 
-use crate::files::Files;
-use crate::owned_bundle::OwnedCompanion;
-use crate::{ElfResolver, OwnedBundle};
-use blz_elf::ElfParser;
-use blz_error::{Error, ErrorKind, Result, Str};
+use crate::ElfResolver;
+use blz_bundle::OwnedBundle;
+use blz_error::{ErrorKind, Result};
+use blz_links::Files;
 use std::alloc::Global;
 
 impl<'b> ElfResolver<'b> {
-    /// Reads a file and names its module by its path. NotFound, PermissionDenied and Other come from the files;
-    /// Unsupported where the image has a link to another file, since links are not followed yet.
+    /// Opens a path with the debug files of `/usr/lib/debug` and `/lib/debug/`, as `open_with_debug_dirs` does.
     pub fn open<F: Files>(alloc: Global, files: &mut F, path: &str) -> Result<OwnedBundle>
-        ensures good { IfOk result (λ b. Opens (F.contents files.old) path.now (Good b)) }
+        ensures good { IfOk result (λ b. Opens (F.contents files.old) path.now default_dirs (Good b)) }
         ensures mark { IfErr result (λ e. (e.kind ≡ ErrorKind.OutOfMemory) ⊎ HasKindCause e.kind
-            (Rose (F.faults files.old) (F.faults files.new)) (Opens (F.contents files.old) path.now (Broken e.kind))) }
+            (Rose (F.faults files.old) (F.faults files.new))
+            (Opens (F.contents files.old) path.now default_dirs (Broken e.kind))) }
+        ensures mismatch { IfErr result (IsRefusal (OpensTo (F.contents files.old) path.now default_dirs)
+            (Rose (F.faults files.old) (F.faults files.new))) }
+        ensures kinds { IfErr result (λ e. IsOpeningKind e.kind) }
+        ensures missing { IfErr result (λ e. e.kind ≡ ErrorKind.NotFound → Lacks (F.contents files.old) path.now) }
         ensures contents { F.contents files.new ≡ F.contents files.old }
         ensures stamps { F.stamps files.new ≡ F.stamps files.old }
         ensures count { F.faults files.old ≤ F.faults files.new }
     {
-        let image = files.read(alloc, path)?;
-        unlinked(alloc, image, path)
+        OwnedBundle::open(alloc, files, path)
     }
-}
 
-// The bundle of an image that has no link to another file.
-#[tactic(auto, unfolding(crate::specs::Opening::opened_from))]
-fn unlinked(alloc: Global, image: Vec<u8>, path: &str) -> Result<OwnedBundle>
-    ensures good { IfOk result (λ b. opened_from (Some image.items) path.now ≡ Good b) }
-    ensures mark { IfErr result (λ e. (e.kind ≡ ErrorKind.OutOfMemory)
-        ⊎ ((e.kind ≡ ErrorKind.Unsupported) × (opened_from (Some image.items) path.now ≡ Broken ErrorKind.Unsupported))) }
-{
-    let module = Some(String::from_str(alloc, path)?);
-    if has_link(alloc, &image) {
-        return Err(Error::new(ErrorKind::Unsupported, Str::fixed("link to another file")));
-    }
-    Ok(OwnedBundle::alone(OwnedCompanion { image, module }))
-}
-
-fn has_link(alloc: Global, image: &[u8]) -> bool
-    ensures { result ≡ has_link image.now }
-{
-    let mut parser = ElfParser::from_mem(alloc, image, None);
-    links_away(&mut parser)
-}
-
-fn links_away(parser: &mut ElfParser<'_>) -> bool
-    ensures { result ≡ has_link parser.old.image }
-{
-    has_section(parser, ".gnu_debuglink")
-        || has_section(parser, ".gnu_debugaltlink")
-        || has_section(parser, ".debug_sup")
-}
-
-fn has_section(parser: &mut ElfParser<'_>, name: &str) -> bool
-    ensures value { result ≡ has_section parser.old.image name.now }
-    ensures same { parser.new ≡ parser.old }
-{
-    match parser.find_section(name) {
-        Ok(Some(_)) => true,
-        Ok(None) | Err(_) => false,
+    /// Reads the file at a path, the debug file to which its link leads, its package, and the file that the debug file
+    /// shares with others (GNU debug links; DWARF 5 sections 7.3.5 and 7.3.6). Each module is named by its path. NotFound
+    /// where the path names nothing; PermissionDenied and Other where the files fail; InvalidData and Unsupported where a
+    /// link section is broken or compressed; InvalidData where a file is not the one that its link means, with what it has
+    /// and what was recorded.
+    pub fn open_with_debug_dirs<F: Files>(
+        alloc: Global,
+        files: &mut F,
+        path: &str,
+        debug_dirs: &[String],
+    ) -> Result<OwnedBundle>
+        ensures good { IfOk result (λ b. Opens (F.contents files.old) path.now (map string_bytes debug_dirs.now) (Good b)) }
+        ensures mark { IfErr result (λ e. (e.kind ≡ ErrorKind.OutOfMemory) ⊎ HasKindCause e.kind
+            (Rose (F.faults files.old) (F.faults files.new))
+            (Opens (F.contents files.old) path.now (map string_bytes debug_dirs.now) (Broken e.kind))) }
+        ensures mismatch { IfErr result (IsRefusal
+            (OpensTo (F.contents files.old) path.now (map string_bytes debug_dirs.now))
+            (Rose (F.faults files.old) (F.faults files.new))) }
+        ensures kinds { IfErr result (λ e. IsOpeningKind e.kind) }
+        ensures missing { IfErr result (λ e. e.kind ≡ ErrorKind.NotFound → Lacks (F.contents files.old) path.now) }
+        ensures contents { F.contents files.new ≡ F.contents files.old }
+        ensures stamps { F.stamps files.new ≡ F.stamps files.old }
+        ensures count { F.faults files.old ≤ F.faults files.new }
+    {
+        OwnedBundle::open_with_debug_dirs(alloc, files, path, debug_dirs)
     }
 }

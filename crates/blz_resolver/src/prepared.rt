@@ -7,7 +7,7 @@ ghost use Rattle.blz_elf.specs.Asked.{asks_code_info, asks_inlined_fns};
 ghost use Rattle.blz_index.specs.UnitsWarm.{units_table, units_prepared, functions_kept};
 ghost use Rattle.blz_line.specs.Lookups.{location_view};
 ghost use Rattle.blz_resolver.specs.AddressAnswers.{direct_site, function_symbol, function_answer, with_place, symbol_answer, answer_by, answer_in};
-ghost use Rattle.blz_resolver.specs.BundleViews.{bundle_view};
+ghost use Rattle.blz_bundle.specs.BundleViews.{bundle_view};
 ghost use Rattle.blz_resolver.specs.Looks.{LooksFewAt};
 ghost use Rattle.blz_resolver.specs.Reading.{book_of, Reads};
 ghost use Rattle.blz_resolver.specs.Sources.{IsOfDebugFile};

@@ -7,13 +7,13 @@ ghost use Rattle.blz_index.specs.Owned.{items_of};
 ghost use Rattle.blz_index.specs.UnitsWarm.{units_table, announced_ordered, AreCold};
 ghost use Rattle.blz_resolver.specs.AddressAnswers.{answer_of};
 ghost use Rattle.blz_resolver.specs.Books.{framed};
-ghost use Rattle.blz_resolver.specs.BundleViews.{bundle_view};
+ghost use Rattle.blz_bundle.specs.BundleViews.{bundle_view};
 ghost use Rattle.blz_resolver.specs.FormatKinds.{IsMemoryOrFormat};
 ghost use Rattle.blz_resolver.specs.Resolver.{Stays, HasBookIf, has_debug, UnitsStayIf, units_in};
 ghost use Rattle.blz_resolver.specs.Sources.{IsOf, asked_file};
 
-use crate::Bundle;
 use crate::debug_info::DebugInfo;
+use blz_bundle::Bundle;
 use blz_bytes::Orders;
 use blz_elf::{Answer, ElfParser, FindSymOpts};
 use blz_error::Result;
@@ -32,7 +32,7 @@ pub struct ElfResolver<'b> {
 }
 
 impl<'b> Model for ElfResolver<'b> {
-    ghost use Rattle.blz_resolver.specs.BundleViews.{bundle_view};
+    ghost use Rattle.blz_bundle.specs.BundleViews.{bundle_view};
     ghost use Rattle.blz_resolver.specs.Resolver.{Resolver, Fits, units_in};
 
     ghost Value = { Resolver };

@@ -1,14 +1,16 @@
 //! The lines of the units of a bundle.
-ghost use Rattle.std.specs.Prelude.{◌≡◌, ◌<◌, IfOk, is_some, slice_get};
+ghost use Rattle.std.specs.Prelude.{◌≡◌, ◌<◌, true, IfOk, IfErr, is_some, slice_get};
 ghost use Rattle.std.specs.Option.{option_map};
-ghost use Rattle.blz_model.specs.Part.{Gives};
-ghost use Rattle.blz_resolver.specs.BundleViews.{bundle_view};
-ghost use Rattle.blz_resolver.specs.Resolver.{has_debug, units_in, HasBookIf, HasLinesIf, UnitsStayIf};
+ghost use Rattle.blz_error.specs.declared.kind.ErrorKind.TheVariants.{OutOfMemory};
+ghost use Rattle.blz_model.specs.Part.{Gives, Exactly};
+ghost use Rattle.blz_bundle.specs.BundleViews.{bundle_view};
+ghost use Rattle.blz_resolver.specs.Resolver.{has_debug, lines_in, rows_filled, units_in, HasBookIf, Stays, UnitsStayIf};
 ghost use Rattle.blz_resolver.specs.RowsViews.{rows_view};
 ghost use Rattle.blz_resolver.specs.UnitRowsRead.{rows_of, rows_with, unit_count_of};
 
+use crate::ElfResolver;
 use crate::debug_info::DebugInfo;
-use crate::{Bundle, ElfResolver};
+use blz_bundle::Bundle;
 use blz_bytes::{DirPath, Orders};
 use blz_entry::Texts;
 use blz_error::Result;
@@ -70,11 +72,29 @@ fn fill_rows<'b, O: Orders>(
     requires there { unit < unit_count_of (bundle_view bundle.now) (is_some debug.old) }
     ensures book { HasBookIf (bundle_view bundle.now) debug.new }
     ensures stay { UnitsStayIf (units_in debug.old) (units_in debug.new) }
-    ensures filled { IfOk result (λ _. HasLinesIf debug.new unit) }
+    ensures filled { IfOk result (λ _. lines_in (units_in debug.new) unit ≡ true) }
+    ensures pairs_stay { O.pair_places orders.new ≡ O.pair_places orders.old }
+    ensures names_stay { O.name_places orders.new ≡ O.name_places orders.old }
 {
     match debug {
         Some(info) => info.fill_rows(alloc, orders, bundle, unit),
         None => Ok(()),
+    }
+}
+
+// The lines of a unit that were read.
+fn filled_rows<'r, 'b>(
+    bundle: &Bundle<'b>,
+    debug: &'r Option<DebugInfo<'b>>,
+    unit: usize,
+) -> Result<Option<UnitRows<'r, 'b>>>
+    requires book { HasBookIf (bundle_view bundle.now) debug.now }
+    requires filled { lines_in (units_in debug.now) unit ≡ true }
+    ensures { Exactly (λ o. option_map rows_view o) result (rows_of (bundle_view bundle.now) (is_some debug.now) unit) }
+{
+    match debug {
+        Some(info) => info.rows(bundle, unit),
+        None => Ok(None),
     }
 }
 
@@ -86,7 +106,36 @@ impl<'b> ElfResolver<'b> {
         count_units(&self.bundle, &self.debug)
     }
 
-    /// The lines of a unit; None exactly where it has no line program. InvalidDwarf exactly where they have no value.
+    /// Reads the lines of a unit where they are not kept, as far as they can be read; `filled_unit_rows` then tells them.
+    /// Only OutOfMemory is refused. What was filled before stays.
+    pub fn fill_unit_rows<O: Orders>(
+        &mut self,
+        alloc: Global,
+        orders: &mut O,
+        unit: usize,
+    ) -> Result<()>
+        requires { unit < unit_count_of self.old.images (has_debug self.old) }
+        ensures filled { IfOk result (λ _. rows_filled self.new unit ≡ true) }
+        ensures refused { IfErr result (λ e. e.kind ≡ OutOfMemory) }
+        ensures stays { Stays self.old self.new }
+        ensures pairs_stay { O.pair_places orders.new ≡ O.pair_places orders.old }
+        ensures names_stay { O.name_places orders.new ≡ O.name_places orders.old }
+    {
+        fill_rows(alloc, orders, &self.bundle, &mut self.debug, unit)?;
+        Ok(())
+    }
+
+    /// The lines of a unit that `fill_unit_rows` read; None exactly where it has no line program (DWARF 5 section 6.2).
+    /// InvalidDwarf exactly where they have no value; takes no memory.
+    pub fn filled_unit_rows(&self, unit: usize) -> Result<Option<UnitRows<'_, 'b>>>
+        requires { rows_filled self.now unit ≡ true }
+        ensures { Exactly (λ o. option_map rows_view o) result (rows_of self.now.images (has_debug self.now) unit) }
+    {
+        filled_rows(&self.bundle, &self.debug, unit)
+    }
+
+    /// The lines of a unit; None exactly where it has no line program. InvalidDwarf exactly where they have no value. What
+    /// the resolver is afterwards, `fill_unit_rows` and `filled_unit_rows` tell, of which this call is made.
     pub fn unit_rows<O: Orders>(
         &mut self,
         alloc: Global,
@@ -96,11 +145,7 @@ impl<'b> ElfResolver<'b> {
         requires { unit < unit_count_of self.old.images (has_debug self.old) }
         ensures { Gives (λ o. option_map rows_view o) result (rows_of self.old.images (has_debug self.old) unit) }
     {
-        let bundle = self.bundle;
-        fill_rows(alloc, orders, &bundle, &mut self.debug, unit)?;
-        match &self.debug {
-            Some(info) => info.rows(&bundle, unit),
-            None => Ok(None),
-        }
+        self.fill_unit_rows(alloc, orders, unit)?;
+        self.filled_unit_rows(unit)
     }
 }

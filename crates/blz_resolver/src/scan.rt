@@ -2,12 +2,13 @@
 ghost use Rattle.std.specs.Prelude.{◌≡◌, true, IfOk, IfErr, length, map};
 ghost use Rattle.blz_model.specs.Part.{Gives, all_good};
 ghost use Rattle.blz_elf.specs.AnswerView.{answer_view};
-ghost use Rattle.blz_resolver.specs.BundleViews.{bundle_view};
+ghost use Rattle.blz_bundle.specs.BundleViews.{bundle_view};
 ghost use Rattle.blz_resolver.specs.FormatKinds.{IsMemoryOrFormat};
 ghost use Rattle.blz_resolver.specs.Resolver.{has_debug};
 ghost use Rattle.blz_resolver.specs.Scan.{answers_of, scan_of};
 
-use crate::{Bundle, ElfResolver};
+use crate::ElfResolver;
+use blz_bundle::Bundle;
 use blz_bytes::Orders;
 use blz_elf::{Answer, FindSymOpts};
 use blz_error::Result;

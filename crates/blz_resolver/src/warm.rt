@@ -4,21 +4,22 @@ ghost use Rattle.std.specs.FinMap as finite;
 ghost use Rattle.std.specs.Option.{option_map};
 ghost use Rattle.blz_model.specs.Part.{Good};
 ghost use Rattle.blz_split.specs.PackageParts.{package_view, package_of};
-ghost use Rattle.blz_resolver.specs.Books.{debug_images, if_there, sup_image};
-ghost use Rattle.blz_resolver.specs.BundleViews.{bundle_view, companion_view};
+ghost use Rattle.blz_resolver.specs.Books.{debug_images, framed, if_there, sup_image};
+ghost use Rattle.blz_bundle.specs.BundleViews.{bundle_view, companion_view};
 ghost use Rattle.blz_resolver.specs.DebugSections.{debug_parts};
 ghost use Rattle.blz_resolver.specs.DebugViews.{parts_view, debug_view};
 ghost use Rattle.blz_resolver.specs.FileViews.{images_view};
-ghost use Rattle.blz_resolver.specs.Images.{debug_file};
+ghost use Rattle.blz_bundle.specs.Images.{debug_file};
 ghost use Rattle.blz_resolver.specs.Resolver.{HasBook, HasBookIf, has_debug, units_in};
 ghost use Rattle.blz_resolver.specs.Sources.{IsOf};
 ghost use Rattle.blz_resolver.specs.WarmFits.{IsThere, IsSupWith, SupFits, WarmBook, WarmBookIf, WarmFits, warm_units, warm_prepared, warm_units_in};
 
+use crate::ElfResolver;
 use crate::debug_data::DebugData;
 use crate::debug_files::DebugFiles;
 use crate::debug_image::DebugImage;
 use crate::debug_info::DebugInfo;
-use crate::{Bundle, Companion, ElfResolver};
+use blz_bundle::{Bundle, Companion};
 use blz_elf::{ElfParser, ElfWarm, RelocationMap, SectionRelocations};
 use blz_index::Units;
 use blz_split::Package;
@@ -166,12 +167,13 @@ impl<'b> ElfResolver<'b> {
         }
     }
 
-    /// A resolver of the bundle that the kept parts fit; takes no memory.
+    /// A resolver of the bundle that the kept parts fit; takes no memory. With debug information the frame was read.
     pub fn from_warm(alloc: Global, bundle: &Bundle<'b>, warm: Warm) -> ElfResolver<'b>
         requires { WarmFits (bundle_view bundle.now) warm }
         ensures images { result.images ≡ bundle_view bundle.now }
         ensures units { result.units ≡ warm_units warm }
         ensures is_prepared { result.prepared ≡ warm_prepared warm }
+        ensures frame { has_debug result ≡ true → framed (bundle_view bundle.now) ≡ Good tt }
     {
         let Warm {
             elf,

@@ -1,7 +1,7 @@
 //! A sink in memory.
 ghost use Rattle.std.specs.Prelude.{◌≡◌, ◌<◌, ◌≤◌, [], Option, Some, None, IfOk, length};
 ghost use Rattle.std.specs.Io.KnownBytes.{WriteAppends};
-ghost use Rattle.blz_resolver.specs.Counts.{HasCause};
+ghost use Rattle.blz_links.specs.Counts.{HasCause};
 ghost use Rattle.blz_resolver.specs.SinkPuts.{after_put, put_result, earliest};
 
 use super::{Sink, SinkFault};

@@ -1,8 +1,8 @@
 //! The files of the system.
 ghost use Rattle.std.specs.Prelude.{◌≢◌, Err, None};
-ghost use Rattle.blz_resolver.specs.FilesAnswers.{HasFilesCause};
+ghost use Rattle.blz_links.specs.FilesAnswers.{HasFilesCause};
 
-use crate::files::{Files, FilesFault, Stamp};
+use blz_links::files::{Files, FilesFault, Stamp};
 use std::alloc::Global;
 use std::io::Read;
 use std::time::UNIX_EPOCH;
@@ -82,6 +82,8 @@ impl<'r, R: rt::Files> Files for RealFiles<'r, R> {
     ghost stamps = { λ _. None };
 
     ghost faults = { λ f. f.faults };
+
+    ghost told_together = { λ _. tt };
 
     fn read(&mut self, alloc: Global, path: &str) -> Result<Vec<u8>, FilesFault> {
         match read_whole(self.rt, alloc, path) {

@@ -1,7 +1,7 @@
 //! What takes bytes.
 ghost use Rattle.std.specs.Prelude.{◌<◌, ◌≤◌, ℕ, List, Option, IfOk, length};
 ghost use Rattle.std.specs.Io.KnownBytes.{WriteAppends};
-ghost use Rattle.blz_resolver.specs.Counts.{HasCause};
+ghost use Rattle.blz_links.specs.Counts.{HasCause};
 
 /// Why a sink takes nothing.
 #[derive(Clone, Copy, Debug, PartialEq, Eq)]

@@ -4,9 +4,9 @@ use Rattle.blz_elf.specs.Infos.{Info}
 use Rattle.blz_elf.specs.NameRule.{image_addresses}
 use Rattle.blz_elf.specs.Sources.{Source}
 use Rattle.blz_elf.specs.declared.find_addr_opts.FindAddrOpts.{FindAddrOpts}
-use Rattle.blz_resolver.specs.BundleViews.{bundle_view}
+use Rattle.blz_bundle.specs.BundleViews.{bundle_view}
 use Rattle.blz_resolver.specs.FunctionNames.{addresses_of}
-use Rattle.blz_resolver.specs.Images.{ImageSet}
+use Rattle.blz_bundle.specs.Images.{ImageSet}
 use Rattle.blz_resolver.specs.Sources.{IsOf, asked_file}
 use Rattle.blz_resolver.specs.declared.debug_info.DebugInfo.{DebugInfo}
 use Rattle.blz_resolver.proofs.names.find_addr.Goals as goal

@@ -2,9 +2,9 @@ use Rattle.std.proofs.Common.{◌≡◌, ℕ, List, Option, Some, None, is_some,
 use Rattle.blz_elf.specs.Listings.{Listing, ShowsAll, image_symbols}
 use Rattle.blz_elf.specs.Sources.{Source}
 use Rattle.blz_elf.specs.declared.find_addr_opts.FindAddrOpts.{FindAddrOpts}
-use Rattle.blz_resolver.specs.BundleViews.{bundle_view}
+use Rattle.blz_bundle.specs.BundleViews.{bundle_view}
 use Rattle.blz_resolver.specs.FunctionNames.{listing_in}
-use Rattle.blz_resolver.specs.Images.{ImageSet}
+use Rattle.blz_bundle.specs.Images.{ImageSet}
 use Rattle.blz_resolver.specs.Sources.{IsOf, asked_file}
 use Rattle.blz_resolver.specs.declared.debug_info.DebugInfo.{DebugInfo}
 use Rattle.blz_resolver.proofs.names.for_each.Goals as goal

@@ -1,4 +1,4 @@
-use Rattle.blz_resolver.specs.BundleViews.{bundle_view}
+use Rattle.blz_bundle.specs.BundleViews.{bundle_view}
 use Rattle.blz_resolver.proofs.ReadBooks.{counted}
 use Rattle.blz_resolver.proofs.rows.fill_rows.Goals as goal
 

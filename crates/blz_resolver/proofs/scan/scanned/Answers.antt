@@ -3,8 +3,8 @@ use Rattle.blz_model.specs.Answers.{Answer}
 use Rattle.blz_model.specs.Part.{Part, Good, Broken, ◌>>=◌, all_good}
 use Rattle.blz_elf.specs.declared.opts.FindSymOpts.{FindSymOpts}
 use Rattle.blz_resolver.specs.Books.{Book, frame_of, framed}
-use Rattle.blz_resolver.specs.BundleViews.{bundle_view}
-use Rattle.blz_resolver.specs.Images.{ImageSet}
+use Rattle.blz_bundle.specs.BundleViews.{bundle_view}
+use Rattle.blz_bundle.specs.Images.{ImageSet}
 use Rattle.blz_resolver.specs.Resolver.{has_debug}
 use Rattle.blz_resolver.specs.Scan.{answers_of, scan_of}
 use Rattle.blz_resolver.proofs.scan.scanned.Goals as goal

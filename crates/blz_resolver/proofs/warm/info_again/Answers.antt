@@ -1,5 +1,5 @@
 use Rattle.std.proofs.Common.{refl}
-use Rattle.blz_resolver.specs.BundleViews.{bundle_view}
+use Rattle.blz_bundle.specs.BundleViews.{bundle_view}
 use Rattle.blz_resolver.proofs.WarmBooks.{parts_there, main_there, others_there, book_again}
 use Rattle.blz_resolver.proofs.warm.info_again.Goals as goal
 

@@ -1,8 +1,8 @@
 use Rattle.std.proofs.Common.{Option, Some, option_map, subst}
 use Rattle.blz_elf.specs.Relocations.{SectionMap}
-use Rattle.blz_resolver.specs.BundleViews.{companion_view}
+use Rattle.blz_bundle.specs.BundleViews.{companion_view}
 use Rattle.blz_resolver.specs.WarmFits.{SupFits}
-use Rattle.blz_resolver.specs.declared.bundle.Companion.{Companion}
+use Rattle.blz_bundle.specs.declared.bundle.Companion.{Companion}
 use Rattle.blz_resolver.proofs.WarmBooks.{sup_with, without_moves}
 use Rattle.blz_resolver.proofs.warm.sup_again.Goals as goal
 

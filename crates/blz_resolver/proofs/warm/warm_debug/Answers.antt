@@ -1,5 +1,5 @@
 use Rattle.std.proofs.Common.{Option, refl, subst}
-use Rattle.blz_resolver.specs.BundleViews.{bundle_view}
+use Rattle.blz_bundle.specs.BundleViews.{bundle_view}
 use Rattle.blz_resolver.specs.Resolver.{HasBookIf}
 use Rattle.blz_resolver.specs.declared.debug_info.DebugInfo.{DebugInfo}
 use Rattle.blz_resolver.proofs.WarmBooks.{warm_book}

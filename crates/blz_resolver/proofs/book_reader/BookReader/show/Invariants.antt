@@ -1,7 +1,7 @@
 use Rattle.std.proofs.Common.{◌≡◌, false, map, drop}
 use Rattle.blz_elf.specs.Listings.{listing_of}
 use Rattle.blz_elf.proofs.ListingSteps.{SoFar}
-use Rattle.blz_resolver.specs.BundleViews.{bundle_view}
+use Rattle.blz_bundle.specs.BundleViews.{bundle_view}
 use Rattle.blz_resolver.specs.FunctionNames.{function_info, named_only}
 use Rattle.blz_resolver.proofs.book_reader.BookReader.show.Given as goal
 

@@ -1,7 +1,7 @@
 use Rattle.std.proofs.Common.{List, refl, sym, ◌∙◌, subst}
 use Rattle.blz_model.specs.Part.{Part, Gives}
 use Rattle.blz_elf.specs.Infos.{Info}
-use Rattle.blz_resolver.specs.BundleViews.{bundle_view}
+use Rattle.blz_bundle.specs.BundleViews.{bundle_view}
 use Rattle.blz_resolver.specs.declared.book_reader.BookReader.{BookReader}
 use Rattle.blz_resolver.proofs.ReadBooks.{IsReaderOf, addresses_read, variables_refused}
 use Rattle.blz_resolver.proofs.debug_info.DebugInfo.find_addr.Goals as goal

@@ -2,7 +2,7 @@ use Rattle.std.proofs.Common.{refl, sym, subst}
 use Rattle.blz_model.specs.Answers.{Answer}
 use Rattle.blz_model.specs.Part.{Part, Gives}
 use Rattle.blz_elf.specs.AnswerView.{answer_view}
-use Rattle.blz_resolver.specs.BundleViews.{bundle_view}
+use Rattle.blz_bundle.specs.BundleViews.{bundle_view}
 use Rattle.blz_resolver.specs.declared.book_reader.BookReader.{BookReader}
 use Rattle.blz_resolver.proofs.ReadBooks.{IsReaderOf, answer_read}
 use Rattle.blz_resolver.proofs.debug_info.DebugInfo.find_sym.Goals as goal

@@ -1,7 +1,7 @@
 use Rattle.std.proofs.Common.{refl, sym, ◌∙◌, subst}
 use Rattle.blz_elf.specs.Listings.{Listing, ShowsAll}
 use Rattle.blz_elf.proofs.ListingLemmas.{refused_first}
-use Rattle.blz_resolver.specs.BundleViews.{bundle_view}
+use Rattle.blz_bundle.specs.BundleViews.{bundle_view}
 use Rattle.blz_resolver.specs.declared.book_reader.BookReader.{BookReader}
 use Rattle.blz_resolver.proofs.ReadBooks.{IsReaderOf, listing_read, no_variables}
 use Rattle.blz_resolver.proofs.debug_info.DebugInfo.for_each.Goals as goal

@@ -1,7 +1,7 @@
 use Rattle.std.proofs.Common.{sym, ap, ◌∙◌}
 use Rattle.blz_model.specs.Part.{Part}
 use Rattle.blz_resolver.specs.Books.{Book}
-use Rattle.blz_resolver.specs.BundleViews.{bundle_view}
+use Rattle.blz_bundle.specs.BundleViews.{bundle_view}
 use Rattle.blz_resolver.specs.UnitRowsRead.{count_of}
 use Rattle.blz_resolver.proofs.ReadBooks.{frame_is}
 use Rattle.blz_resolver.proofs.debug_info.DebugInfo.unit_count.Goals as goal

@@ -1,6 +1,5 @@
 use Rattle.blz_resolver.proofs.DebugMarks.{marks_frame}
-use Rattle.blz_resolver.proofs.FormatMarks.{memory_or_format}
-use Rattle.blz_resolver.proofs.Opens.{if_err_from}
+use Rattle.blz_resolver.proofs.FormatMarks.{if_err_from, memory_or_format}
 use Rattle.blz_resolver.proofs.resolver.ElfResolver.from_bundle.Goals as goal
 
 pub returns-in_err-debug-clause-kinds : goal.returns-in_err-debug-clause-kinds

@@ -1,6 +1,6 @@
 use Rattle.std.proofs.Common.{ap, subst}
-use Rattle.blz_resolver.specs.BundleViews.{bundle_view}
-use Rattle.blz_resolver.specs.Images.{ImageSet}
+use Rattle.blz_bundle.specs.BundleViews.{bundle_view}
+use Rattle.blz_bundle.specs.Images.{ImageSet}
 use Rattle.blz_resolver.specs.Resolver.{Resolver}
 use Rattle.blz_resolver.specs.WarmFits.{WarmFits}
 use Rattle.blz_resolver.proofs.WarmBooks.{warm_fits}
