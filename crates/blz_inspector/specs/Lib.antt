@@ -1,0 +1,5 @@
+pub mod Entries
+pub mod SourceViews
+pub mod Names
+pub mod WarmEntries
+pub mod Uses
