@@ -1,4 +1,5 @@
-pub mod Written
-pub mod Steps
-pub mod Causes
-pub mod Complete
+pub mod Dirs
+pub mod DemoLengths
+pub mod Tallied
+pub mod Found
+pub mod Known

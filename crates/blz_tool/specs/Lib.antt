@@ -1,5 +1,8 @@
-pub mod Words
-pub mod Questions
+pub mod CommandLine
+pub mod Requests
 pub mod PrintedText
-pub mod Lines
+pub mod Fields
+pub mod DemoImage
+pub mod Tallies
+pub mod Summary
 pub mod Runs

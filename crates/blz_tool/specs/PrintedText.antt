@@ -1,22 +1,11 @@
 -- The printed bytes of answers.
-use Rattle.std.specs.Prelude.{ℕ, ◌+◌, ◌/◌, ◌%◌, nat_lt, zero, suc, List, [], ◌∷◌, ◌++◌, codes, decimal, Option, Some, None, if◌then◌else◌}
+use Rattle.std.specs.Prelude.{ℕ, List, [], ◌∷◌, ◌++◌, codes, decimal, Option, Some, None}
 use Rattle.blz_error.specs.Texts.{Bytes}
 use Rattle.blz_model.specs.Answers.{Site, Inlined, Answer, Known, Unknown}
 use Rattle.blz_model.specs.declared.reason.Reason.{Reason}
 use Rattle.blz_model.specs.declared.reason.Reason.TheVariants.{MissingSyms, UnknownAddr}
 use Rattle.blz_bytes.specs.Joined.{joined}
-
-abbrev pub line_feed : Bytes
-line_feed = 10 ∷ []
-
--- the lower-case digit
-abbrev pub hex_glyph : ℕ → ℕ
-hex_glyph d = if nat_lt d 10 then 48 + d else 87 + d
-
--- the last k hexadecimal digits of n
-abbrev pub hex_digits : ℕ → ℕ → Bytes
-hex_digits zero n = []
-hex_digits (suc k) n = hex_digits k (n / 16) ++ hex_glyph (n % 16) ∷ []
+use Rattle.blz_program.specs.PrintedText.{hex_digits, line_feed}
 
 -- `??` where there is no name
 abbrev pub shown_name : Bytes → Bytes
@@ -55,7 +44,7 @@ answer_text (Unknown reason) = reason_text reason ++ line_feed
 
 -- the address with sixteen digits, a blank and its answer
 abbrev pub line_of : ℕ → Answer → Bytes
-line_of addr answer = hex_digits 16 addr ++ codes " " ++ answer_text answer
+line_of addr answer = hex_digits addr ++ codes " " ++ answer_text answer
 
 abbrev pub text_of : List ℕ → List Answer → Bytes
 text_of [] answers = []

@@ -1,0 +1,14 @@
+//! Answers for addresses of an ELF file, as a program.
+#![tactic(auto)]
+
+mod command_line;
+mod demo;
+mod demo_file;
+mod fields;
+mod program;
+mod request;
+mod tally;
+mod text;
+
+pub use demo_file::demo_image;
+pub use program::{blz_tool, run};
