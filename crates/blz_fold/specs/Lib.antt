@@ -1,0 +1,13 @@
+pub mod Counted
+pub mod Adding
+pub mod LineViews
+pub mod AddressStacks
+pub mod Naming
+pub mod FoldedViews
+pub mod Numbered
+pub mod Trees
+pub mod TreeViews
+pub mod StackLines
+pub mod FoldTexts
+pub mod Runs
+pub mod Questions

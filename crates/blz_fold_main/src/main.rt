@@ -1,0 +1,29 @@
+//! Turns stacks of addresses into folded stacks of names.
+#![tactic(auto)]
+
+use blz_bytes::ByStdSort;
+use blz_fold::{blz_fold, run_fold};
+use blz_program::words_of;
+use blz_resolver::outside::{RealFiles, RealSink};
+use std::process::ExitCode;
+
+fn main(rt: HostRuntime) -> ExitCode {
+    let mut err = RealSink::new(rt.stderr());
+    let words = match words_of(&rt) {
+        Ok(words) => words,
+        Err(outcome) => {
+            let _ = outcome.tell(&blz_fold(), &mut err);
+            return ExitCode::from(outcome.status());
+        }
+    };
+    let mut files = RealFiles::new(&rt);
+    let mut out = RealSink::new(rt.stdout());
+    ExitCode::from(run_fold(
+        rt.alloc(),
+        &words,
+        &mut files,
+        &mut ByStdSort,
+        &mut out,
+        &mut err,
+    ))
+}
