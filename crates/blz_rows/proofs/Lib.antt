@@ -1,0 +1,17 @@
+pub mod Reaching
+pub mod Gathering
+pub mod Splits
+pub mod GatherSteps
+pub mod RowSteps
+pub mod Noting
+pub mod LeastSteps
+pub mod Answered
+pub mod EntryMarks
+pub mod FoundCauses
+pub mod TextSteps
+pub mod WordSteps
+pub mod ApartRows
+pub mod StrictRows
+pub mod NextLines
+pub mod EntryLines
+pub mod EntryRows

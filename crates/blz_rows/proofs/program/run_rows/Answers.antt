@@ -1,0 +1,9 @@
+use Rattle.blz_program.proofs.Ends.{HasOutcome-known, HasOutcome-made}
+use Rattle.blz_rows.proofs.FoundCauses.{found_known, nothing_failed}
+use Rattle.blz_rows.proofs.program.run_rows.Goals as goal
+
+pub returns-clause-complete : goal.returns-clause-complete
+returns-clause-complete g c contents told no_files no_out =
+    HasOutcome-known c.finish.result _ _ _ _ _ _ _
+    (HasOutcome-made c.finish.result c.made_of_words-made.result _ _ _ _ _ _ c.made_of_words-made.ensures.made c.finish.ensures)
+    (λ found finds. found_known _ contents _ found told finds) (nothing_failed _ _ no_files) (λ failed. absurd (no_out failed))

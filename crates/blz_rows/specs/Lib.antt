@@ -1,0 +1,10 @@
+pub mod Entries
+pub mod Matching
+pub mod LineAnswers
+pub mod Asking
+pub mod Judging
+pub mod Words
+pub mod QuestionViews
+pub mod PrintedRows
+pub mod Runs
+pub mod RowLaws

@@ -1,0 +1,151 @@
+//! The top call.
+ghost use Rattle.std.specs.Prelude.{◌≡◌, ◌⊎◌, ◌<◌, ◌≤◌, Option, Some, None, IfOk, IfErr, length, map, string_bytes};
+ghost use Rattle.blz_model.specs.Part.{Gives, Good, Broken};
+ghost use Rattle.blz_program.specs.Outcomes.{line_for};
+ghost use Rattle.blz_program.specs.Programs.{texts_of};
+ghost use Rattle.blz_program.specs.Runs.{HasOutcome, IsCaused, IsMade, TellsLine, status_for};
+ghost use Rattle.blz_resolver.specs.Contents.{Contents};
+ghost use Rattle.blz_resolver.specs.Counts.{Rose};
+ghost use Rattle.blz_resolver.specs.FormatKinds.{IsMemoryOrFormat};
+ghost use Rattle.blz_resolver.specs.Outcomes.{HasKindCause};
+ghost use Rattle.blz_rows.specs.QuestionViews.{question_view};
+ghost use Rattle.blz_rows.specs.Runs as rows;
+ghost use Rattle.blz_rows.specs.Runs.{FilesFail, Finds, Prints, found_for, rows_texts, text_for};
+ghost use Rattle.blz_rows.specs.Words.{asked};
+
+use crate::questions::{next_line, rows_of};
+use crate::text::{next_text, places_text};
+use crate::words::{Question, Wanted};
+use blz_bytes::Orders;
+use blz_error::ErrorKind;
+use blz_program::{Outcome, Program, finish};
+use blz_resolver::files::Files;
+use blz_resolver::outside::Sink;
+use blz_resolver::{ElfResolver, OwnedBundle};
+use std::alloc::Global;
+
+/// How the program speaks of itself.
+pub fn blz_rows() -> Program
+    ensures { texts_of result ≡ rows_texts }
+{
+    Program {
+        name: "blz_rows",
+        usage: "[--next] IMAGE FILE:LINE",
+        bad_line: "",
+    }
+}
+
+/// Reads the words, `[--next] IMAGE FILE:LINE`, opens the image and writes to `out` the address of each row of the line,
+/// or with `--next` the next line that has rows. Answers the exit status: 0 where the whole text was written, 1 for an
+/// error of opening or of the lines, 2 for words that are not of their form, 3 where `out` failed, 4 for want of memory. A
+/// line on `err` says which, but for 0.
+pub fn run_rows<F: Files, O: Orders, S: Sink, E: Sink>(
+    alloc: Global,
+    words: &[String],
+    files: &mut F,
+    orders: &mut O,
+    out: &mut S,
+    err: &mut E,
+) -> u8
+    // Each status has its outcome, with the cause, the bytes on `out` and the line on `err`.
+    ensures caused { HasOutcome result (λ o. IsCaused o (Finds (asked (map string_bytes words.now)) (F.contents files.old)) (S.taken out.old) (S.taken out.new)
+        (FilesFail (asked (map string_bytes words.now)) (Rose (F.faults files.old) (F.faults files.new))) (Rose (S.faults out.old) (S.faults out.new))
+        × TellsLine (Rose (E.faults err.old) (E.faults err.new)) (E.taken err.old) (E.taken err.new) (line_for rows_texts o)) }
+
+    // Where the contents are told and nothing counted a fault, a text gives 0 and a mark 1, or there was no memory.
+    ensures complete { (c : Contents) → F.contents files.old ≡ Some c → ¬ (Rose (F.faults files.old) (F.faults files.new))
+        → ¬ (Rose (S.faults out.old) (S.faults out.new))
+        → (result ≡ 4) ⊎ (result ≡ status_for (found_for c (asked (map string_bytes words.now)))) }
+
+    // Words that are not of their form give 2.
+    ensures malformed { asked (map string_bytes words.now) ≡ None → result ≡ 2 }
+
+    ensures contents_stay { F.contents files.new ≡ F.contents files.old }
+    ensures stamps_stay { F.stamps files.new ≡ F.stamps files.old }
+{
+    let made = made_of_words(alloc, words, files, orders);
+    finish(&blz_rows(), made, out, err)
+}
+
+fn made_of_words<F: Files, O: Orders>(
+    alloc: Global,
+    words: &[String],
+    files: &mut F,
+    orders: &mut O,
+) -> Result<Vec<u8>, Outcome>
+    ensures made { IsMade (Finds (asked (map string_bytes words.now)) (F.contents files.old))
+        (FilesFail (asked (map string_bytes words.now)) (Rose (F.faults files.old) (F.faults files.new))) result }
+    ensures malformed { asked (map string_bytes words.now) ≡ None → result ≡ Err Outcome.Usage }
+    ensures contents_stay { F.contents files.new ≡ F.contents files.old }
+    ensures stamps_stay { F.stamps files.new ≡ F.stamps files.old }
+{
+    match Question::from_words(words) {
+        Some(question) => made_of_question(alloc, files, orders, &question),
+        None => Err(Outcome::Usage),
+    }
+}
+
+fn made_of_question<F: Files, O: Orders>(
+    alloc: Global,
+    files: &mut F,
+    orders: &mut O,
+    question: &Question<'_>,
+) -> Result<Vec<u8>, Outcome>
+    requires named { 0 < length question.now.file.now }
+    requires numbered { 1 ≤ question.now.line }
+    ensures made { IsMade (rows.Gives (F.contents files.old) (question_view question.now))
+        (Rose (F.faults files.old) (F.faults files.new)) result }
+    ensures contents_stay { F.contents files.new ≡ F.contents files.old }
+    ensures stamps_stay { F.stamps files.new ≡ F.stamps files.old }
+{
+    match printed(alloc, files, orders, question) {
+        Ok(text) => Ok(text),
+        Err(error) => Err(Outcome::refusal(error.kind())),
+    }
+}
+
+// Opens the path and makes the text of the answer.
+fn printed<F: Files, O: Orders>(
+    alloc: Global,
+    files: &mut F,
+    orders: &mut O,
+    question: &Question<'_>,
+) -> blz_error::Result<Vec<u8>>
+    requires named { 0 < length question.now.file.now }
+    requires numbered { 1 ≤ question.now.line }
+    ensures good { IfOk result (λ v. Prints (F.contents files.old) (question_view question.now) (Good v.items)) }
+    ensures mark { IfErr result (λ e. (e.kind ≡ ErrorKind.OutOfMemory) ⊎ HasKindCause e.kind
+        (Rose (F.faults files.old) (F.faults files.new))
+        (Prints (F.contents files.old) (question_view question.now) (Broken e.kind))) }
+    ensures contents_stay { F.contents files.new ≡ F.contents files.old }
+    ensures stamps_stay { F.stamps files.new ≡ F.stamps files.old }
+{
+    let bundle = ElfResolver::open(alloc, files, question.path)?;
+    answer_text(alloc, orders, &bundle, question)
+}
+
+// The text of the answer.
+#[tactic(auto, unfolding(crate::specs::Runs::text_of))]
+fn answer_text<O: Orders>(
+    alloc: Global,
+    orders: &mut O,
+    bundle: &OwnedBundle,
+    question: &Question<'_>,
+) -> blz_error::Result<Vec<u8>>
+    requires named { 0 < length question.now.file.now }
+    requires numbered { 1 ≤ question.now.line }
+    ensures value { Gives (λ v. v.items) result (text_for (question_view question.now) bundle.now) }
+    ensures kinds { IfErr result (λ e. IsMemoryOrFormat e.kind) }
+{
+    let bundle = bundle.bundle();
+    match question.wanted {
+        Wanted::Addresses => {
+            let places = rows_of(alloc, orders, &bundle, question.file, question.line)?;
+            Ok(places_text(alloc, places.as_slice())?)
+        }
+        Wanted::NextLine => {
+            let next = next_line(alloc, orders, &bundle, question.file, question.line)?;
+            Ok(next_text(alloc, next)?)
+        }
+    }
+}
