@@ -1,9 +1,9 @@
 #!/usr/bin/env python3
-"""Writes crates/blz_tool/data/a.elf, the image of the program's stored run: an ELF64 executable in little-endian order.
+"""Writes crates/blz_fold_main/data/prog, the image of the stack folder's stored run: an ELF64 executable in little-endian order.
 
 `.symtab` has the functions A [0, 100), B [10, 20) and _start [0x1100, 0x1122). Two units of DWARF 5 in /home/u/p say
 more: a C unit has `main` at [0x1140, 0x1180), with a call of `square` inlined at [0x1150, 0x1158), and a Rust unit has
-one function at [0x1200, 0x1260). What the program prints of them is in crates/blz_tool/stdout, written by hand."""
+one function at [0x1200, 0x1260). What the program prints of them is in crates/blz_fold_main/stdout, written by hand."""
 import os
 import struct
 
@@ -189,7 +189,7 @@ def image():
 
 
 def main():
-    with open(os.path.join(TOP, "crates", "blz_tool", "data", "a.elf"), "wb") as out:
+    with open(os.path.join(TOP, "crates", "blz_fold_main", "data", "prog"), "wb") as out:
         out.write(image())
 
 
