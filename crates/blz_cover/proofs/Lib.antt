@@ -1,0 +1,11 @@
+pub mod Sums
+pub mod Seen
+pub mod Entries
+pub mod Lists
+pub mod LineSteps
+pub mod CoverSteps
+pub mod Faults
+pub mod Texts
+pub mod Counted
+pub mod Made
+pub mod CountLaw

@@ -1,0 +1,14 @@
+pub mod Changes
+pub mod SourceLines
+pub mod Answers
+pub mod Coverage
+pub mod LineEntries
+pub mod LineKeys
+pub mod Kept
+pub mod Covers
+pub mod LineViews
+pub mod CoverFits
+pub mod Hits
+pub mod HitViews
+pub mod CoverText
+pub mod Counting
