@@ -1,5 +1,0 @@
-//! Resolvers and the world outside of them, over images whose answers are known by hand. No crate stands on it.
-#![tactic(auto)]
-
-#[cfg(test)]
-mod tests;

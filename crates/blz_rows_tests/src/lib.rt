@@ -1,5 +1,0 @@
-//! Tests of the addresses of source lines, over whole images. No crate of the product stands on it.
-#![tactic(auto)]
-
-#[cfg(test)]
-mod tests;
