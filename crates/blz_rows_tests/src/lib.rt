@@ -1,0 +1,5 @@
+//! Tests of the addresses of source lines, over whole images. No crate of the product stands on it.
+#![tactic(auto)]
+
+#[cfg(test)]
+mod tests;

@@ -1,0 +1,37 @@
+//! The next line that has code.
+use super::images::{lone, of_lines, one_unit, two_rows};
+use blz_bytes::ByStdSort;
+use blz_error::ErrorKind;
+use blz_images::ByteOrder;
+use blz_rows::next_line;
+use std::test::Fail;
+
+#[test]
+fn the_next_line_is_the_least_that_is_not_below(rt: HostRuntime) -> Result<(), Fail> {
+    let alloc = rt.alloc();
+    let image = one_unit(alloc)?;
+    let bundle = lone(&image);
+    assert_eq!(rt;
+        next_line(alloc, &mut ByStdSort, &bundle, b"a.c", 1)?,
+        Some(2)
+    );
+    assert_eq!(rt;
+        next_line(alloc, &mut ByStdSort, &bundle, b"a.c", 2)?,
+        Some(2)
+    );
+    assert_eq!(rt; next_line(alloc, &mut ByStdSort, &bundle, b"a.c", 3)?, None);
+    assert_eq!(rt; next_line(alloc, &mut ByStdSort, &bundle, b"b.c", 1)?, None);
+    Ok(())
+}
+
+#[test]
+fn a_row_whose_file_is_not_there_is_refused(rt: HostRuntime) -> Result<(), Fail> {
+    let alloc = rt.alloc();
+    let lines = two_rows(alloc, ByteOrder::Little, 4, &[4, 9])?;
+    let image = of_lines(alloc, ByteOrder::Little, 4, &lines)?;
+    match next_line(alloc, &mut ByStdSort, &lone(&image), b"a.c", 1) {
+        Ok(_) => assert!(rt; false),
+        Err(error) => assert_eq!(rt; error.kind(), ErrorKind::InvalidDwarf),
+    }
+    Ok(())
+}

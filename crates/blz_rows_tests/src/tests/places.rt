@@ -1,0 +1,133 @@
+//! The addresses of a line.
+use super::images::{cut_short, lone, of_lines, one_unit, two_rows, two_units};
+use blz_bytes::ByStdSort;
+use blz_error::{ErrorKind, Result};
+use blz_images::{ByteOrder, DebugLine};
+use blz_rows::{Place, Places, rows_of};
+use std::alloc::Global;
+use std::test::Fail;
+
+const FIRST: Place = Place {
+    address: 0x1004,
+    end: 0x1015,
+};
+
+const SECOND: Place = Place {
+    address: 0x1015,
+    end: 0x1018,
+};
+
+fn places(alloc: Global, image: &[u8], file: &str, line: u32) -> Result<Places> {
+    if file.is_empty() || line == 0 {
+        return Ok(Places::from_vec(Vec::new(alloc)));
+    }
+    rows_of(alloc, &mut ByStdSort, &lone(image), file.as_bytes(), line)
+}
+
+fn refusal(outcome: Result<Places>) -> Option<ErrorKind> {
+    match outcome {
+        Ok(_) => None,
+        Err(error) => Some(error.kind()),
+    }
+}
+
+#[test]
+fn a_file_is_found_by_its_path_or_the_end_of_it(rt: HostRuntime) -> std::result::Result<(), Fail> {
+    let alloc = rt.alloc();
+    for order in [ByteOrder::Little, ByteOrder::Big] {
+        let lines = two_rows(alloc, order, 4, b"")?;
+        let image = of_lines(alloc, order, 4, &lines)?;
+        for file in ["a.c", "/p/a.c", "p/a.c"] {
+            let found = places(alloc, &image, file, 2)?;
+            assert!(rt; found.as_slice() == [FIRST, SECOND].as_slice());
+        }
+        for file in [".c", "c", "/a.c", "q/a.c", "/p/a.c/"] {
+            assert_eq!(rt; places(alloc, &image, file, 2)?.len(), 0);
+        }
+    }
+    Ok(())
+}
+
+#[test]
+fn a_line_without_rows_has_no_addresses(rt: HostRuntime) -> std::result::Result<(), Fail> {
+    let alloc = rt.alloc();
+    let image = one_unit(alloc)?;
+    assert_eq!(rt; places(alloc, &image, "a.c", 3)?.len(), 0);
+    assert_eq!(rt; places(alloc, &image, "a.c", u32::MAX)?.len(), 0);
+    Ok(())
+}
+
+#[test]
+fn places_are_lent_by_their_index(rt: HostRuntime) -> std::result::Result<(), Fail> {
+    let alloc = rt.alloc();
+    let found = places(alloc, &one_unit(alloc)?, "a.c", 2)?;
+    assert!(rt; found.get(1).copied() == Some(SECOND));
+    assert!(rt; found.get(2).copied() == None);
+    assert_eq!(rt; found.into_vec().len(), 2);
+    Ok(())
+}
+
+#[test]
+fn the_rows_of_all_units_are_listed_in_their_order(
+    rt: HostRuntime,
+) -> std::result::Result<(), Fail> {
+    let alloc = rt.alloc();
+    let again = two_rows(alloc, ByteOrder::Little, 4, b"")?;
+    let image = two_units(alloc, &again)?;
+    let found = places(alloc, &image, "a.c", 2)?;
+    assert!(rt; found.as_slice() == [FIRST, SECOND, FIRST, SECOND].as_slice());
+    Ok(())
+}
+
+#[test]
+fn broken_lines_of_a_later_unit_are_met(rt: HostRuntime) -> std::result::Result<(), Fail> {
+    let alloc = rt.alloc();
+    let image = two_units(alloc, &cut_short(alloc)?)?;
+    assert_eq!(rt;
+        refusal(places(alloc, &image, "a.c", 2)),
+        Some(ErrorKind::InvalidDwarf)
+    );
+    Ok(())
+}
+
+#[test]
+fn a_row_whose_file_is_not_there_is_refused_also_where_another_file_is_asked(
+    rt: HostRuntime,
+) -> std::result::Result<(), Fail> {
+    let alloc = rt.alloc();
+    // set_file 9
+    let lines = two_rows(alloc, ByteOrder::Little, 4, &[4, 9])?;
+    let image = of_lines(alloc, ByteOrder::Little, 4, &lines)?;
+    for file in ["a.c", "b.c"] {
+        assert_eq!(rt;
+            refusal(places(alloc, &image, file, 2)),
+            Some(ErrorKind::InvalidDwarf)
+        );
+    }
+    Ok(())
+}
+
+// file 1200 is `b.c`, before it all are `a.c`; a row of line 7 in it
+fn many_files(alloc: Global) -> std::result::Result<Vec<u8>, Fail> {
+    let mut lines = DebugLine::new(alloc, ByteOrder::Little, 4);
+    for _ in 1..1200 {
+        lines.file("a.c", 0)?;
+    }
+    lines.file("b.c", 0)?;
+    lines.set_address(0x1000)?;
+    lines.set_file(1200)?;
+    lines.advance_line(6)?;
+    lines.row()?;
+    lines.advance(4)?;
+    lines.end_sequence()?;
+    Ok(lines.bytes()?)
+}
+
+#[test]
+fn a_file_of_a_great_number_is_found(rt: HostRuntime) -> std::result::Result<(), Fail> {
+    let alloc = rt.alloc();
+    let image = of_lines(alloc, ByteOrder::Little, 4, &many_files(alloc)?)?;
+    assert_eq!(rt; places(alloc, &image, "b.c", 7)?.len(), 1);
+    assert_eq!(rt; places(alloc, &image, "a.c", 7)?.len(), 0);
+    Ok(())
+}
