@@ -1,0 +1,513 @@
+"""Shapes of images in which some work could be done for each pair of two parts of the file. Each is a function from a count
+to an Attack, whose image grows with the count; `scripts/attacks` writes them by name and size."""
+import struct
+from typing import NamedTuple
+
+from image_parts import *  # noqa: F403  the constants and the parts of an image
+
+
+class Attack(NamedTuple):
+    image: bytes
+    addresses: list
+    package: bytes = b""  # what stands beside it, with `.dwp` behind its path
+
+
+SHAPES = {}
+
+
+def shape(make):
+    SHAPES[make.__name__] = make
+    return make
+
+
+ROOT, FUNCTION, OUTER, CALL, TARGET, CHAIN, NAMED = 1, 2, 3, 4, 5, 6, 7
+BASE = 0x1000
+FLAG = (DW_AT_EXTERNAL, DW_FORM_FLAG_PRESENT)
+RANGES = [(DW_AT_RANGES, DW_FORM_SEC_OFFSET)]
+
+
+def subprogram(attributes, has_children=0):
+    return Abbreviation(DW_TAG_SUBPROGRAM, has_children, attributes)
+
+
+def root(attributes=RANGE, has_children=1):
+    return Abbreviation(DW_TAG_COMPILE_UNIT, has_children, list(attributes))
+
+
+def dwarf(shapes, units, **parts):
+    """An image of units with one table of abbreviations, and other sections by their names without `.debug_`."""
+    table = shapes if isinstance(shapes, bytes) else abbreviations(shapes)
+    sections = {"abbrev": table, "info": units} | parts
+    return image([Section(f".debug_{name}", data) for name, data in sections.items()])
+
+
+def one_unit(shapes, *below, size=0x10000, **parts):
+    """An image of one unit that covers `size` addresses from BASE."""
+    return dwarf(shapes, unit(entry(shapes, ROOT, BASE, size) + b"".join(below) + b"\0"), **parts)
+
+
+def scattered(count, size):
+    """Addresses all over a stretch, without a repeat where it is long enough."""
+    return [BASE + (k * 40503) % size for k in range(count)]
+
+
+# ---- range lists
+
+
+def pairs(count):
+    return b"".join(offset_pair(4 * k, 4 * k + 1) for k in range(count))
+
+
+def based(lists):
+    return bytes([DW_RLE_BASE_ADDRESS, 0]) if lists is None else lists
+
+
+def with_list(shapes, functions, lists):
+    data, first = range_lists(lists + b"\0")
+    return one_unit(shapes, *functions(first), rnglists=data)
+
+
+@shape
+def one_range_list_of_functions(n):
+    shapes = {ROOT: root(), FUNCTION: subprogram(RANGES)}
+    return Attack(with_list(shapes, lambda at: [entry(shapes, FUNCTION, at)] * n, pairs(n)), [BASE + 1])
+
+
+@shape
+def one_range_list_of_calls(n):
+    shapes = {ROOT: root(), OUTER: subprogram(RANGE, 1), CALL: Abbreviation(DW_TAG_INLINED_SUBROUTINE, 0, RANGES)}
+
+    def functions(at):
+        return [entry(shapes, OUTER, BASE, 0x10000)] + [entry(shapes, CALL, at)] * n + [b"\0"]
+
+    return Attack(with_list(shapes, functions, pairs(n)), [BASE + 1])
+
+
+@shape
+def tails_of_a_range_list(n):
+    shapes = {ROOT: root(), FUNCTION: subprogram(RANGES)}
+    size = len(offset_pair(BASE, BASE + 1))
+    lists = b"".join(offset_pair(BASE + k, BASE + k + 1) for k in range(n))
+    return Attack(with_list(shapes, lambda at: [entry(shapes, FUNCTION, at + size * k) for k in range(n)], lists), [BASE + 1])
+
+
+@shape
+def one_range_list_without_ranges(n):
+    shapes = {ROOT: root(), FUNCTION: subprogram(RANGES)}
+    return Attack(with_list(shapes, lambda at: [entry(shapes, FUNCTION, at)] * n, offset_pair(1, 1) * n), [BASE + 1])
+
+
+@shape
+def one_range_list_of_units(n):
+    shapes = {ROOT: root(RANGES, 0)}
+    data, first = range_lists(b"".join(offset_pair(4 * k, 4 * k + 1) for k in range(n)) + b"\0")
+    return Attack(dwarf(shapes, unit(entry(shapes, ROOT, first)) * n, rnglists=data), [0])
+
+
+# ---- attributes without bytes
+
+
+@shape
+def bare_functions_of_many_flags(n):
+    shapes = {ROOT: root(), FUNCTION: subprogram([FLAG] * n)}
+    return Attack(one_unit(shapes, bytes([FUNCTION]) * 2 * n), [BASE])
+
+
+@shape
+def variables_of_many_flags(n):
+    shapes = {ROOT: root(), FUNCTION: Abbreviation(DW_TAG_VARIABLE, 0, [FLAG] * n)}
+    return Attack(one_unit(shapes, bytes([FUNCTION]) * 2 * n), [BASE])
+
+
+@shape
+def units_of_many_flags(n):
+    shapes = {ROOT: root([FLAG] * n, 0)}
+    return Attack(dwarf(shapes, unit(entry(shapes, ROOT)) * (n // 6 + 1)), [0])
+
+
+# ---- references
+
+
+REFERENCE = (DW_AT_ABSTRACT_ORIGIN, DW_FORM_REF4)
+
+
+def referring(n, target, chain):
+    """n functions that refer to one entry through a chain of entries."""
+    shapes = {ROOT: root(), FUNCTION: subprogram([*RANGE, REFERENCE]), TARGET: target, CHAIN: subprogram([REFERENCE])}
+    at = ENTRIES_AT + len(entry(shapes, ROOT, 0, 0))
+    below = entry(shapes, TARGET, *(["f"] * sum(form == DW_FORM_STRING for _, form in target.attributes)))
+    for _ in range(chain):
+        at, below = ENTRIES_AT + len(entry(shapes, ROOT, 0, 0)) + len(below), below + entry(shapes, CHAIN, at)
+    functions = b"".join(entry(shapes, FUNCTION, BASE + 4 * k, 4, at) for k in range(n))
+    return one_unit(shapes, below, functions, size=4 * n)
+
+
+@shape
+def references_to_an_entry_of_many_flags(n):
+    return Attack(referring(n, subprogram([FLAG] * 8 * n), 0), [BASE + 1])
+
+
+@shape
+def chains_to_an_entry_of_many_flags(n):
+    return Attack(referring(n, subprogram([FLAG] * 8 * n), 15), [BASE + 1])
+
+
+@shape
+def references_to_an_entry_of_many_names(n):
+    # the last name is the name of all
+    return Attack(referring(n, subprogram([(DW_AT_SPECIFICATION + 1, DW_FORM_STRING)] * 4 * n + [FLAG]), 0), [BASE + 1])
+
+
+@shape
+def references_into_many_partial_units(n):
+    shapes = {ROOT: root(), FUNCTION: subprogram([*RANGE, (DW_AT_ABSTRACT_ORIGIN, DW_FORM_REF_ADDR)]), NAMED: subprogram([
+        (DW_AT_NAME, DW_FORM_STRING)]), OUTER: Abbreviation(DW_TAG_PARTIAL_UNIT, 1, [])}
+    # abbreviations that nothing uses make the table long
+    shapes |= {100 + k: subprogram([FLAG]) for k in range(4 * n)}
+    part = unit(entry(shapes, OUTER) + entry(shapes, NAMED, "f") + b"\0", DW_UT_PARTIAL)
+    name_at = ENTRIES_AT + len(entry(shapes, OUTER))
+    functions = [entry(shapes, FUNCTION, BASE + 4 * k, 4, len(part) * k + name_at) for k in range(n)]
+    main = unit(entry(shapes, ROOT, BASE, 4 * n) + b"".join(functions) + b"\0")
+    return Attack(dwarf(shapes, part * n + main), [BASE + 4 * (n // 2)])
+
+
+# ---- units that share a table or a program
+
+
+def announced_units(shapes, n, **parts):
+    """n units of four addresses, each announced by a set; each is asked once."""
+    values = [0] * (len(shapes[ROOT].attributes) - len(RANGE))
+    units = [unit(entry(shapes, ROOT, BASE + 4 * k, 4, *values)) for k in range(n)]
+    sets = b"".join(announced(len(units[0]) * k, [(BASE + 4 * k, 4)]) for k in range(n))
+    return Attack(dwarf(shapes, b"".join(units), aranges=sets, **parts), [BASE + 4 * k for k in range(n)])
+
+
+@shape
+def announced_units_of_one_table(n):
+    return announced_units({ROOT: root(RANGE, 0)} | {100 + k: subprogram([FLAG]) for k in range(8 * n)}, n)
+
+
+LINES = (DW_AT_STMT_LIST, DW_FORM_SEC_OFFSET)
+
+
+def many_rows(n):
+    return set_address(BASE) + (advance(1) + COPY) * n + END_SEQUENCE
+
+
+def many_sequences(n):
+    return b"".join(set_address(BASE + k) + COPY + advance(1) + END_SEQUENCE for k in range(n))
+
+
+def plain_program(opcodes):
+    return line_program(["/p"], [("a.c", 0)], opcodes)
+
+
+@shape
+def announced_units_of_one_program(n):
+    return announced_units({ROOT: root([*RANGE, LINES], 0)}, n, line=plain_program(many_rows(16 * n)))
+
+
+@shape
+def units_of_tails_of_a_table(n):
+    first = abbreviation(1, root([FLAG], 0))
+    table = first * n + b"\0"
+    # a table in which a code stands twice is read to its end all the same
+    table = b"".join(abbreviation(n - k, root([FLAG], 0)) for k in range(n)) + b"\0"
+    offsets, at = [], 0
+    for k in range(n):
+        offsets.append(at)
+        at += len(abbreviation(n - k, root([FLAG], 0)))
+    units = [unit(uleb(n - k), abbreviations_at=offset) for k, offset in enumerate(offsets)]
+    return Attack(dwarf(table, b"".join(units)), [0])
+
+
+@shape
+def units_of_one_table(n):
+    table = b"".join(abbreviation(k + 1, root([FLAG], 0)) for k in range(3 * n)) + b"\0"
+    return Attack(dwarf(table, unit(uleb(1)) * n), [0])
+
+
+def units_of_one_program(n, program):
+    shapes = {ROOT: root([LINES], 0)}
+    return Attack(dwarf(shapes, unit(entry(shapes, ROOT, 0)) * n, line=program), [0])
+
+
+@shape
+def units_of_one_program_of_rows(n):
+    return units_of_one_program(n, plain_program(many_rows(6 * n)))
+
+
+@shape
+def units_of_one_program_of_sequences(n):
+    return units_of_one_program(n, plain_program(many_sequences(n)))
+
+
+@shape
+def units_of_one_header_of_files(n):
+    return units_of_one_program(n, line_program(["/p"], [("a", 0)] * 6 * n, b""))
+
+
+@shape
+def units_of_one_program_of_rows_with_ranges(n):
+    shapes = {ROOT: root([*RANGE, LINES], 0)}
+    units = b"".join(unit(entry(shapes, ROOT, BASE + 4 * k, 4, 0)) for k in range(n))
+    return Attack(dwarf(shapes, units, line=plain_program(many_rows(8 * n))), [BASE + 4 * k for k in range(n)])
+
+
+# ---- announced ranges
+
+
+@shape
+def one_range_announced_often(n):
+    shapes = {ROOT: root(RANGE, 0)}
+    ranges = announced(0, [(BASE, 0x1000)] * n)
+    return Attack(dwarf(shapes, unit(entry(shapes, ROOT, BASE, 0x1000)), aranges=ranges), scattered(10, 0x1000))
+
+
+@shape
+def small_ranges_and_one_around_them(n):
+    shapes = {ROOT: root(RANGE, 0)}
+    small = unit(entry(shapes, ROOT, BASE, 1))
+    ranges = [(BASE, 8 * n)] + [(BASE + 8 * k, 1) for k in range(n)]
+    return Attack(dwarf(shapes, small, aranges=announced(0, ranges)), [BASE + 8 * n - 3 - k % 4 for k in range(10000)])
+
+
+@shape
+def sets_that_do_not_rise(n):
+    shapes = {ROOT: root(RANGE, 0)}
+    units = [unit(entry(shapes, ROOT, BASE + 4 * k, 4)) for k in range(n)]
+    sets = [announced(len(units[0]) * k, [(BASE + 4 * k, 4)]) for k in reversed(range(n))]
+    return Attack(dwarf(shapes, b"".join(units), aranges=b"".join(sets)), [0])
+
+
+# ---- functions and calls over one another
+
+
+def ranged_functions(ranges, addresses):
+    shapes = {ROOT: root(), FUNCTION: subprogram(RANGE)}
+    below = b"".join(entry(shapes, FUNCTION, *span) for span in ranges)
+    size = max(begin + length for begin, length in ranges) - BASE
+    return Attack(one_unit(shapes, below, size=size), addresses)
+
+
+@shape
+def functions_of_one_range(n):
+    return ranged_functions([(BASE, 0x10000)] * n, scattered(10000, 0x10000))
+
+
+@shape
+def small_functions_in_one(n):
+    ranges = [(BASE, 8 * n)] + [(BASE + 8 * k, 1) for k in range(n)]
+    return ranged_functions(ranges, [BASE + 8 * (n - 1 - k % (n // 4 + 1)) + 4 for k in range(10000)])
+
+
+@shape
+def functions_in_one_another(n):
+    ranges = [(BASE + k, 2 * (n - k)) for k in range(n)]
+    return ranged_functions(ranges, [BASE + n + k % n for k in range(10000)])
+
+
+def ranged_calls(ranges, addresses):
+    shapes = {ROOT: root(), OUTER: subprogram(RANGE, 1), CALL: Abbreviation(DW_TAG_INLINED_SUBROUTINE, 0, RANGE)}
+    below = entry(shapes, OUTER, BASE, 0x10000) + b"".join(entry(shapes, CALL, *span) for span in ranges) + b"\0"
+    return Attack(one_unit(shapes, below), addresses)
+
+
+@shape
+def calls_of_one_range(n):
+    return ranged_calls([(BASE, 0x10000)] * n, scattered(10000, 0x10000))
+
+
+@shape
+def calls_side_by_side(n):
+    return ranged_calls([(BASE + 8 * k, 8) for k in range(n)], scattered(10000, 8 * n))
+
+
+@shape
+def calls_in_one_another(n):
+    shapes = {ROOT: root(), OUTER: subprogram(RANGE, 1), CALL: Abbreviation(DW_TAG_INLINED_SUBROUTINE, 1, RANGE)}
+    below = entry(shapes, OUTER, BASE, 0x10000)
+    below += b"".join(entry(shapes, CALL, BASE, 0x10000 - k) for k in range(n)) + b"\0" * (n + 1)
+    return Attack(one_unit(shapes, below), [BASE])
+
+
+@shape
+def blocks_in_one_another(n):
+    shapes = {ROOT: root(), OUTER: subprogram(RANGE, 1), CALL: Abbreviation(DW_TAG_LEXICAL_BLOCK, 1, [])}
+    below = entry(shapes, OUTER, BASE, 0x10000) + bytes([CALL]) * 4 * n + b"\0" * (4 * n + 1)
+    return Attack(one_unit(shapes, below), [BASE])
+
+
+@shape
+def zeros_behind_a_root(n):
+    shapes = {ROOT: root()}
+    return Attack(one_unit(shapes, bytes(16 * n)), [BASE])
+
+
+# ---- names
+
+
+@shape
+def one_long_name_of_functions(n):
+    shapes = {ROOT: root(), FUNCTION: subprogram([(DW_AT_NAME, DW_FORM_STRP), *RANGE])}
+    below = b"".join(entry(shapes, FUNCTION, 0, BASE + 4 * k, 4) for k in range(n))
+    return Attack(one_unit(shapes, below, size=4 * n, str=b"f" * 17 * n + b"\0"), [BASE])
+
+
+# ---- line programs
+
+
+def one_program(program, addresses):
+    shapes = {ROOT: root([*RANGE, LINES], 0)}
+    return Attack(dwarf(shapes, unit(entry(shapes, ROOT, BASE, 0x100000, 0)), line=program), addresses)
+
+
+@shape
+def sequences_of_one_range(n):
+    each = set_address(BASE) + COPY + advance(0x4000) + END_SEQUENCE
+    return one_program(plain_program(each * n), scattered(10000, 0x4000))
+
+
+@shape
+def small_sequences_in_one(n):
+    around = set_address(BASE) + COPY + advance(8 * n) + END_SEQUENCE
+    small = b"".join(set_address(BASE + 8 * k) + COPY + advance(1) + END_SEQUENCE for k in range(n))
+    return one_program(plain_program(around + small), [BASE + 8 * (n - 1 - k % (n // 4 + 1)) + 4 for k in range(10000)])
+
+
+@shape
+def rows_of_a_byte(n):
+    return one_program(plain_program(set_address(BASE) + COPY * 16 * n + advance(4) + END_SEQUENCE), [BASE])
+
+
+@shape
+def files_of_two_bytes(n):
+    return one_program(line_program(["/p"], [("", 0)] * 8 * n, many_rows(1)), [BASE])
+
+
+@shape
+def files_of_one_long_path(n):
+    tables = bytes([1, DW_LNCT_PATH, DW_FORM_STRING]) + uleb(1) + b"/p\0"
+    tables += bytes([1, DW_LNCT_PATH, DW_FORM_LINE_STRP]) + uleb(4 * n) + bytes(4) * 4 * n
+    program = line_program_of(tables, many_rows(1))
+    shapes = {ROOT: root([*RANGE, LINES], 0)}
+    return Attack(dwarf(shapes, unit(entry(shapes, ROOT, BASE, 0x1000, 0)), line=program, line_str=b"a" * 16 * n + b"\0"), [BASE])
+
+
+# ---- symbols, sections and relocations
+
+
+def symbols_image(symbols):
+    return image([Section(".text", b"", flags=SHF_ALLOC | SHF_EXECINSTR), Section(
+        ".symtab", symbol(0, 0, 0, 0, 0) + symbols, SHT_SYMTAB, link=3, entry_size=24), Section(".strtab", b"\0f\0", SHT_STRTAB)])
+
+
+@shape
+def symbols_too_small_to_cover(n):
+    return Attack(symbols_image(symbol(1, STB_GLOBAL_STT_FUNC, 1, BASE, 4) * n), [BASE + 0x100 + k for k in range(10000)])
+
+
+@shape
+def undefined_symbols_of_one_value(n):
+    return Attack(symbols_image(symbol(1, STB_GLOBAL_STT_FUNC, SHN_UNDEF, BASE, 4) * n), [BASE + k % 4 for k in range(10000)])
+
+
+@shape
+def small_symbols_in_one(n):
+    around = symbol(1, STB_GLOBAL_STT_FUNC, 1, BASE, 8 * n)
+    small = b"".join(symbol(1, STB_GLOBAL_STT_FUNC, 1, BASE + 8 * k, 1) for k in range(n))
+    return Attack(symbols_image(around + small), [BASE + 8 * (n - 1 - k % (n // 4 + 1)) + 4 for k in range(10000)])
+
+
+def relocated(n, targets):
+    """An object file with `targets` tables of relocations, which all stand at one place, each for its own section."""
+    shapes = {ROOT: root(RANGE, 0)}
+    entries = b"".join(struct.pack("<QQ", 0, R_X86_64_64) for _ in range(4 * n))
+    sections = [Section(".debug_abbrev", abbreviations(shapes)), Section(".debug_info", unit(entry(shapes, ROOT, 0, 1))), Section(
+        ".symtab", symbol(0, 0, 0, 0, 0), SHT_SYMTAB, link=4, entry_size=24), Section(".strtab", b"\0", SHT_STRTAB), Section(
+        ".rel", entries, SHT_REL, link=3, info=2, entry_size=16)]
+    return sections, targets
+
+
+def with_shared_tables(n, target_of):
+    sections, _ = relocated(n, 0)
+    body = image([*sections, *[Section(".text", b"") for _ in range(n)]], ET_REL)
+    table = len(body) - 64 * (len(sections) + n + 2)
+    rel = body[table + 64 * len(sections):table + 64 * (len(sections) + 1)]
+    copies = b""
+    for k in range(n):
+        copies += rel[:44] + struct.pack("<I", target_of(k)) + rel[48:]
+    first = table + 64 * (len(sections) + 1)
+    return body[:first] + copies + body[first + 64 * n:]
+
+
+@shape
+def relocations_for_many_sections(n):
+    # each of the tables stands for itself
+    return Attack(with_shared_tables(n, lambda k: 6 + k), [0])
+
+
+@shape
+def relocations_for_one_section(n):
+    return Attack(with_shared_tables(n, lambda _: 2), [0])
+
+
+@shape
+def sections_of_one_long_name(n):
+    name = "." + "x" * 64 * n
+    sections = [Section("", b"")] * n
+    names = text(name) + text(".shstrtab")
+    return Attack(placed([*sections, Section("", names, SHT_STRTAB)], [0] * n + [len(text(name))], ET_EXEC), [0])
+
+
+# ---- packages
+
+
+def package(identities, contributions):
+    """A package of units, all of whose slots are full: the index of 6.3 of the DWARF 5 standard, section 7.3.5.3."""
+    slots = len(identities)
+    columns = [DW_SECT_INFO, DW_SECT_ABBREV]
+    order = [None] * slots
+    for row, identity in enumerate(identities, 1):
+        at, step = identity & (slots - 1), ((identity >> 32) & (slots - 1)) | 1
+        while order[at] is not None:
+            at = (at + step) & (slots - 1)
+        order[at] = (identity, row)
+    index = struct.pack("<HHIII", 5, 0, len(columns), slots, slots)
+    index += b"".join(struct.pack("<Q", identity) for identity, _ in order)
+    index += b"".join(struct.pack("<I", row) for _, row in order)
+    index += struct.pack("<II", *columns)
+    offsets, sizes, info, abbrev = b"", b"", b"", b""
+    for entries, table in contributions:
+        offsets += struct.pack("<II", len(info), len(abbrev))
+        sizes += struct.pack("<II", len(entries), len(table))
+        info, abbrev = info + entries, abbrev + table
+    return image([Section(".debug_info.dwo", info), Section(".debug_abbrev.dwo", abbrev), Section(
+        ".debug_cu_index", index + offsets + sizes)])
+
+
+def split_units(n, identities, asked):
+    """n skeletons, whose units stand in a package where their ids are among its identities."""
+    shapes = {ROOT: Abbreviation(DW_TAG_SKELETON_UNIT, 0, list(RANGE))}
+    below = {ROOT: root([], 1), FUNCTION: subprogram([(DW_AT_NAME, DW_FORM_STRING), *RANGE])}
+    units = b"".join(unit(entry(shapes, ROOT, BASE + 4 * k, 4), DW_UT_SKELETON, unit_id=asked[k]) for k in range(n))
+    split = [(unit(entry(below, ROOT) + entry(below, FUNCTION, "f", BASE + 4 * k, 4) + b"\0", DW_UT_SPLIT_COMPILE,
+                   unit_id=identity), abbreviations(below)) for k, identity in enumerate(identities)]
+    return Attack(dwarf(shapes, units), [BASE + 4 * k for k in range(n)], package(identities, split))
+
+
+def power_of_two_at_least(n):
+    return 1 << max(n - 1, 1).bit_length()
+
+
+@shape
+def a_package_with_full_slots(n):
+    slots = power_of_two_at_least(n)
+    # none of the ids that are asked is there, so that each search goes through all slots
+    return split_units(n, [(k << 40) | k for k in range(slots)], [(1 << 62) | (1 << 31) | k for k in range(n)])
+
+
+@shape
+def units_of_a_package(n):
+    identities = [(k << 40) | k for k in range(power_of_two_at_least(n))]
+    return split_units(n, identities, identities[:n])
