@@ -1,6 +1,9 @@
 //! The file that debug files share, by its build id.
-use super::{bytes_of, differs, is_at, open, with_build_id, with_section};
-use blz_images::{ByteOrder, Image, debug_altlink, debug_link};
+use super::{
+    bytes_of, differs, is_at, is_invalid, open, refusal, stands_alone, with_build_id, with_section,
+};
+use blz_error::ErrorKind;
+use blz_images::{ByteOrder, Image, Section, debug_altlink, debug_link};
 use blz_links::{MemoryFiles, debug_link_crc32};
 use std::alloc::{AllocError, Global};
 use std::test::Fail;
@@ -69,5 +72,41 @@ fn the_link_of_the_debug_file_is_followed_and_not_that_of_the_image(
     let opened = open(alloc, &mut files)?;
     let common = with_build_id(alloc, b"12345678")?;
     assert!(rt; is_at(opened.bundle().supplementary, "/x/d/common", &common));
+    Ok(())
+}
+
+#[test]
+fn a_debug_file_does_not_share_itself(rt: HostRuntime) -> Result<(), Fail> {
+    let alloc = rt.alloc();
+    let mut files = MemoryFiles::new(alloc);
+    files.put("/x/a", sharing(alloc, "./a", b"12345678")?)?;
+    let opened = open(alloc, &mut files)?;
+    assert!(rt; stands_alone(&opened.bundle()));
+    Ok(())
+}
+
+#[test]
+fn a_broken_altlink_is_invalid(rt: HostRuntime) -> Result<(), Fail> {
+    let alloc = rt.alloc();
+    let mut files = MemoryFiles::new(alloc);
+    files.put(
+        "/x/a",
+        with_section(alloc, ".gnu_debugaltlink", b"common\0")?,
+    )?;
+    files.put("/x/common", with_build_id(alloc, b"12345678")?)?;
+    assert!(rt; is_invalid(open(alloc, &mut files)));
+    Ok(())
+}
+
+#[test]
+fn a_compressed_altlink_is_unsupported(rt: HostRuntime) -> Result<(), Fail> {
+    let alloc = rt.alloc();
+    let section = Section::new(".gnu_debugaltlink", 1, &[0; 24]).with_flags(0x800);
+    let mut files = MemoryFiles::new(alloc);
+    files.put("/x/a", Image::elf64(alloc).add_section(section)?.bytes()?)?;
+    assert_eq!(rt;
+        refusal(open(alloc, &mut files)),
+        Some(ErrorKind::Unsupported)
+    );
     Ok(())
 }

@@ -1,8 +1,8 @@
 //! Files that fail.
-use super::{DIGITS_CHECKSUM, bytes_of, linked, open, refusal};
+use super::{DIGITS_CHECKSUM, bytes_of, is_at, linked, open, refusal, with_build_id, with_section};
 use blz_error::ErrorKind;
-use blz_images::nested_functions;
-use blz_links::MemoryFiles;
+use blz_images::{ByteOrder, debug_altlink, debug_link, nested_functions};
+use blz_links::{MemoryFiles, debug_link_crc32};
 use std::alloc::Global;
 use std::test::Fail;
 
@@ -40,5 +40,38 @@ fn each_call_of_a_search_ends_opening_where_it_fails(rt: HostRuntime) -> Result<
             Some(ErrorKind::PermissionDenied)
         );
     }
+    Ok(())
+}
+
+#[test]
+fn each_call_of_a_search_for_a_shared_file_ends_opening_where_it_fails(
+    rt: HostRuntime,
+) -> Result<(), Fail> {
+    let alloc = rt.alloc();
+    // the path of the linker, two candidates by build id, two by name, the one that is there, its bytes
+    for call in 3..10 {
+        let link = debug_altlink(alloc, "common", b"12345678")?;
+        let mut files = MemoryFiles::new(alloc);
+        files.put("/x/a", with_section(alloc, ".gnu_debugaltlink", &link)?)?;
+        files.put("/x/common", with_build_id(alloc, b"12345678")?)?;
+        files.fail_at(call, false)?;
+        assert_eq!(rt; refusal(open(alloc, &mut files)), Some(ErrorKind::Other));
+    }
+    Ok(())
+}
+
+#[test]
+fn the_debug_link_of_a_debug_file_is_not_followed(rt: HostRuntime) -> Result<(), Fail> {
+    let alloc = rt.alloc();
+    let back = debug_link(alloc, ByteOrder::Little, "a", 0)?;
+    let debug = with_section(alloc, ".gnu_debuglink", &back)?;
+    let mut files = MemoryFiles::new(alloc);
+    files.put("/x/a", linked(alloc, "a.debug", debug_link_crc32(&debug))?)?;
+    files.put("/x/a.debug", debug)?;
+    // the calls before: a read, the path of the linker, three candidates, a read, the package
+    files.fail_at(8, false)?;
+    let opened = open(alloc, &mut files)?;
+    let debug = with_section(alloc, ".gnu_debuglink", &back)?;
+    assert!(rt; is_at(opened.bundle().linkee, "/x/a.debug", &debug));
     Ok(())
 }

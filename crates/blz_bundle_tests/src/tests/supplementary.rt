@@ -1,8 +1,9 @@
 //! The file that debug files share, by its checksum.
 use super::{
-    bytes_of, differs, is_at, is_invalid, open, stands_alone, with_build_id, with_section,
+    bytes_of, differs, is_at, is_invalid, open, refusal, stands_alone, with_build_id, with_section,
 };
-use blz_images::{ByteOrder, Image, debug_altlink, debug_sup};
+use blz_error::ErrorKind;
+use blz_images::{ByteOrder, Image, Section, debug_altlink, debug_sup};
 use blz_links::MemoryFiles;
 use std::alloc::{AllocError, Global};
 use std::test::Fail;
@@ -72,6 +73,50 @@ fn another_checksum_is_refused_with_both(rt: HostRuntime) -> Result<(), Fail> {
     files.put("/x/a", sup(alloc, "a.sup", b"sum")?)?;
     files.put("/x/a.sup", sup(alloc, "", b"other sum")?)?;
     assert!(rt; differs(open(alloc, &mut files), b"other sum", b"sum"));
+    Ok(())
+}
+
+#[test]
+fn a_file_that_leads_to_itself_stands_alone(rt: HostRuntime) -> Result<(), Fail> {
+    let alloc = rt.alloc();
+    let mut files = MemoryFiles::new(alloc);
+    files.put("/x/a", sup(alloc, "a", b"sum")?)?;
+    let opened = open(alloc, &mut files)?;
+    assert!(rt; stands_alone(&opened.bundle()));
+    Ok(())
+}
+
+#[test]
+fn a_broken_section_of_either_file_is_invalid(rt: HostRuntime) -> Result<(), Fail> {
+    let alloc = rt.alloc();
+    let mut files = MemoryFiles::new(alloc);
+    files.put("/x/a", with_section(alloc, ".debug_sup", b"\x05\0\x02")?)?;
+    assert!(rt; is_invalid(open(alloc, &mut files)));
+    files.put("/x/a", sup(alloc, "a.sup", b"sum")?)?;
+    files.put(
+        "/x/a.sup",
+        with_section(alloc, ".debug_sup", b"\x05\0\x02")?,
+    )?;
+    assert!(rt; is_invalid(open(alloc, &mut files)));
+    Ok(())
+}
+
+#[test]
+fn a_compressed_section_of_the_supplementary_file_is_unsupported(
+    rt: HostRuntime,
+) -> Result<(), Fail> {
+    let alloc = rt.alloc();
+    let section = Section::new(".debug_sup", 1, &[0; 24]).with_flags(0x800);
+    let mut files = MemoryFiles::new(alloc);
+    files.put("/x/a", sup(alloc, "a.sup", b"sum")?)?;
+    files.put(
+        "/x/a.sup",
+        Image::elf64(alloc).add_section(section)?.bytes()?,
+    )?;
+    assert_eq!(rt;
+        refusal(open(alloc, &mut files)),
+        Some(ErrorKind::Unsupported)
+    );
     Ok(())
 }
 

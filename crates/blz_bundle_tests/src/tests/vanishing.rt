@@ -1,7 +1,8 @@
 //! A file that is gone when it is read.
-use super::{DIGITS_CHECKSUM, bytes_of, linked, refusal};
+use super::{DIGITS_CHECKSUM, bytes_of, linked, refusal, with_build_id, with_section};
 use blz_bundle::OwnedBundle;
 use blz_error::ErrorKind;
+use blz_images::debug_altlink;
 use blz_links::{Files, FilesFault, MemoryFiles, Stamp};
 use std::alloc::Global;
 use std::test::Fail;
@@ -49,6 +50,19 @@ fn a_debug_file_that_vanishes_is_not_found(rt: HostRuntime) -> Result<(), Fail> 
     let mut files = MemoryFiles::new(alloc);
     files.put("/x/a", linked(alloc, "a.debug", DIGITS_CHECKSUM)?)?;
     files.put("/x/a.debug", bytes_of(alloc, b"123456789")?)?;
+    let mut files = Vanishing { files };
+    let opened = OwnedBundle::open(alloc, &mut files, "/x/a");
+    assert_eq!(rt; refusal(opened), Some(ErrorKind::NotFound));
+    Ok(())
+}
+
+#[test]
+fn a_shared_file_that_vanishes_is_not_found(rt: HostRuntime) -> Result<(), Fail> {
+    let alloc = rt.alloc();
+    let link = debug_altlink(alloc, "a.debug", b"12345678")?;
+    let mut files = MemoryFiles::new(alloc);
+    files.put("/x/a", with_section(alloc, ".gnu_debugaltlink", &link)?)?;
+    files.put("/x/a.debug", with_build_id(alloc, b"12345678")?)?;
     let mut files = Vanishing { files };
     let opened = OwnedBundle::open(alloc, &mut files, "/x/a");
     assert_eq!(rt; refusal(opened), Some(ErrorKind::NotFound));
