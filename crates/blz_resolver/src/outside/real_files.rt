@@ -99,7 +99,11 @@ impl<'r, R: rt::Files> Files for RealFiles<'r, R> {
     fn exists(&mut self, path: &str) -> Result<bool, FilesFault> {
         match fs::exists(self.rt, path) {
             Ok(found) => Ok(found),
-            Err(error) => self.failure(error.kind()),
+            Err(error) => match error.kind() {
+                // below a file nothing can stand
+                io::ErrorKind::NotADirectory => Ok(false),
+                kind => self.failure(kind),
+            },
         }
     }
 
