@@ -1,0 +1,41 @@
+//! Files that are asked again.
+use super::shown::{is_first_alone, look_up, source};
+use blz_images::{Image, nested_functions};
+use blz_inspector::Inspector;
+use blz_links::{Files, FilesFault, MemoryFiles};
+use std::test::Fail;
+
+#[test]
+fn a_file_that_stays_as_it_was_is_read_once(rt: HostRuntime) -> Result<(), Fail> {
+    let alloc = rt.alloc();
+    let mut files = MemoryFiles::new(alloc);
+    files.put("a.elf", nested_functions(alloc)?)?;
+    files.fail_at(5, false)?;
+    let symbols = source(alloc, "a.elf", false)?;
+    let mut inspector = Inspector::new(alloc);
+    // two calls on the files: the stamp and the bytes
+    let first = look_up(alloc, &mut inspector, &mut files, &symbols, ("A", "Z"))?;
+    assert!(rt; is_first_alone(&first, 0, 100));
+    // the third: the stamp
+    let second = look_up(alloc, &mut inspector, &mut files, &symbols, ("A", "Z"))?;
+    assert!(rt; is_first_alone(&second, 0, 100));
+    assert_eq!(rt; files.exists("a.elf"), Ok(true));
+    assert_eq!(rt; files.exists("a.elf"), Err(FilesFault::Failed));
+    Ok(())
+}
+
+#[test]
+fn a_file_that_changed_is_opened_anew(rt: HostRuntime) -> Result<(), Fail> {
+    let alloc = rt.alloc();
+    let mut files = MemoryFiles::new(alloc);
+    files.put("a.elf", nested_functions(alloc)?)?;
+    let symbols = source(alloc, "a.elf", false)?;
+    let mut inspector = Inspector::new(alloc);
+    let before = look_up(alloc, &mut inspector, &mut files, &symbols, ("A", "Z"))?;
+    assert!(rt; is_first_alone(&before, 0, 100));
+    let changed = Image::elf64(alloc).symbol("Z", 0x40, 8)?.bytes()?;
+    files.put("a.elf", changed)?;
+    let after = look_up(alloc, &mut inspector, &mut files, &symbols, ("Z", "A"))?;
+    assert!(rt; is_first_alone(&after, 0x40, 8));
+    Ok(())
+}

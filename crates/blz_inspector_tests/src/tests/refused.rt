@@ -1,0 +1,38 @@
+//! Files that are refused.
+use super::shown::{look_up, refusal, source};
+use blz_bytes::ByStdSort;
+use blz_error::ErrorKind;
+use blz_images::{Image, nested_functions};
+use blz_inspector::Inspector;
+use blz_links::MemoryFiles;
+use std::test::Fail;
+
+#[test]
+fn a_path_that_names_nothing_is_not_found(rt: HostRuntime) -> Result<(), Fail> {
+    let alloc = rt.alloc();
+    let mut files = MemoryFiles::new(alloc);
+    files.put("a.elf", nested_functions(alloc)?)?;
+    let absent = source(alloc, "b.elf", false)?;
+    let mut inspector = Inspector::new(alloc);
+    let outcome = look_up(alloc, &mut inspector, &mut files, &absent, ("A", "Z"));
+    assert_eq!(rt; refusal(outcome), Some(ErrorKind::NotFound));
+    Ok(())
+}
+
+#[test]
+fn broken_debug_information_is_met_where_it_is_asked(rt: HostRuntime) -> Result<(), Fail> {
+    let alloc = rt.alloc();
+    let mut files = MemoryFiles::new(alloc);
+    let broken = Image::elf64(alloc)
+        .section(".debug_info", 1, b"unit")?
+        .bytes()?;
+    files.put("a.elf", broken)?;
+    let mut inspector = Inspector::new(alloc);
+    let functions = source(alloc, "a.elf", true)?;
+    let outcome = inspector.lookup(alloc, &mut files, &mut ByStdSort, &functions, &[]);
+    assert_eq!(rt; refusal(outcome), Some(ErrorKind::InvalidDwarf));
+    let symbols = source(alloc, "a.elf", false)?;
+    let outcome = inspector.lookup(alloc, &mut files, &mut ByStdSort, &symbols, &[]);
+    assert_eq!(rt; refusal(outcome), None);
+    Ok(())
+}

@@ -1,0 +1,4 @@
+//! Words, lines, printed texts and how a run ends.
+mod endings;
+mod texts;
+mod words;

@@ -1,0 +1,7 @@
+//! Whole runs over files and sinks in memory.
+mod demos;
+mod failures;
+mod images;
+mod modes;
+mod runs;
+mod usages;
