@@ -18,7 +18,7 @@ use Rattle.blz_fold.specs.StackLines.{Parsed, parsed}
 
 -- how the program speaks of itself
 abbrev pub fold_texts : ProgramTexts
-fold_texts = record { name = codes "blz_fold"; usage = codes "blz_fold [--nodes] IMAGE STACKS"; bad_line = codes "bad stack" }
+fold_texts = record { name = codes "blz_fold"; usage = codes "[--nodes] IMAGE STACKS"; bad_line = codes "bad stack" }
 
 -- whether nodes are asked for, the path of the image, and that of the stacks
 pub record Question : Type 0 where

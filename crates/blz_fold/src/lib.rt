@@ -11,6 +11,7 @@ mod named_lines;
 mod parsing;
 mod printing;
 mod program;
+mod room;
 mod stack_fault;
 mod stack_list;
 mod texts;

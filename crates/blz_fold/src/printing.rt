@@ -7,6 +7,7 @@ ghost use Rattle.blz_fold.specs.Trees.{IsWithin, node_at};
 
 use crate::lines::Lines;
 use crate::name_table::NameTable;
+use crate::room::{lines_room, nodes_room};
 use crate::tree::{Beginning, Tree};
 use blz_program::push_decimal;
 use std::alloc::{AllocError, Global};
@@ -19,7 +20,7 @@ pub(crate) fn print_lines(
 ) -> Result<Vec<u8>, AllocError>
     ensures { IfOk result (λ v. v.items ≡ flat_map line_text (map (spelled names.now) lines.now)) }
 {
-    let mut out = Vec::new(alloc);
+    let mut out = Vec::with_capacity(alloc, lines_room(names, lines))?;
     for i in 0..lines.len() {
         let (numbers, count) = lines.at(i);
         push_line(&mut out, names, numbers, count)?;
@@ -35,7 +36,7 @@ pub(crate) fn print_nodes(
 ) -> Result<Vec<u8>, AllocError>
     ensures { IfOk result (λ v. v.items ≡ flat_map node_text (map (spelled_node names.now) tree.now.nodes)) }
 {
-    let mut out = Vec::new(alloc);
+    let mut out = Vec::with_capacity(alloc, nodes_room(names, tree))?;
     for i in 0..tree.len() {
         let node = tree.at(i);
         push_node(&mut out, names, tree.names_of(node), node)?;

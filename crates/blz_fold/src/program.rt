@@ -27,7 +27,7 @@ pub fn blz_fold() -> Program
 {
     Program {
         name: "blz_fold",
-        usage: "blz_fold [--nodes] IMAGE STACKS",
+        usage: "[--nodes] IMAGE STACKS",
         bad_line: "bad stack",
     }
 }

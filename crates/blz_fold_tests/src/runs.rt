@@ -180,7 +180,7 @@ fn other_words_are_told_the_usage(rt: HostRuntime) -> Result<(), Fail> {
         assert_eq!(rt; ended.status, 2);
         assert_eq!(rt;
             ended.line.bytes(),
-            b"usage: blz_fold [--nodes] IMAGE STACKS\n".as_slice()
+            b"usage: [--nodes] IMAGE STACKS\n".as_slice()
         );
     }
     // two words are paths, whatever they begin with
