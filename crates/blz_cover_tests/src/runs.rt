@@ -1,0 +1,199 @@
+//! Whole runs over files and sinks in memory.
+
+use crate::one_line::one_line;
+use blz_bytes::ByStdSort;
+use blz_cover::run_cover;
+use blz_images::ByteOrder;
+use blz_resolver::files::MemoryFiles;
+use blz_resolver::outside::MemorySink;
+use std::alloc::Global;
+use std::test::Fail;
+
+const HITS: &[u8] = b"1004 3\n1016 2\n1018 5\n2000 1\n";
+
+const COUNTS: &[u8] = b"/p/a.c:2 5\nrest 6\ntotal 11\n";
+
+/// The status of a run on these words, and the line that it writes on `err`.
+#[derive(Drop)]
+struct Ended {
+    status: u8,
+    line: MemorySink,
+}
+
+fn run_on(
+    alloc: Global,
+    files: &mut MemoryFiles,
+    words: &[&str],
+    out: &mut MemorySink,
+) -> Result<Ended, Fail> {
+    let mut list = Vec::new(alloc);
+    for word in words {
+        list.push(String::from_str(alloc, word)?)?;
+    }
+    let mut line = MemorySink::with_room(alloc, 100, 7)?;
+    let status = run_cover(alloc, &list, files, &mut ByStdSort, out, &mut line);
+    Ok(Ended { status, line })
+}
+
+// The image `a.elf` with a file of this number at its second row, and these hits.
+fn holding(alloc: Global, second_file: u64, hits: &[u8]) -> Result<MemoryFiles, Fail> {
+    let mut files = MemoryFiles::new(alloc);
+    files.put("a.elf", one_line(alloc, ByteOrder::Little, second_file)?)?;
+    files.put("hits", Vec::from_slice(alloc, hits)?)?;
+    Ok(files)
+}
+
+#[test]
+fn counts_are_printed_by_line(rt: HostRuntime) -> Result<(), Fail> {
+    let alloc = rt.alloc();
+    let mut files = holding(alloc, 1, HITS)?;
+    let mut out = MemorySink::with_room(alloc, 200, 9)?;
+    let ended = run_on(alloc, &mut files, &["a.elf", "hits"], &mut out)?;
+    assert_eq!(rt; ended.status, 0);
+    assert_eq!(rt; out.bytes(), COUNTS);
+    assert_eq!(rt; ended.line.bytes(), b"".as_slice());
+    Ok(())
+}
+
+#[test]
+fn no_hits_print_no_line(rt: HostRuntime) -> Result<(), Fail> {
+    let alloc = rt.alloc();
+    let mut files = holding(alloc, 1, b"")?;
+    let mut out = MemorySink::with_room(alloc, 200, 200)?;
+    assert_eq!(rt;
+        run_on(alloc, &mut files, &["a.elf", "hits"], &mut out)?.status,
+        0
+    );
+    assert_eq!(rt; out.bytes(), b"rest 0\ntotal 0\n".as_slice());
+    Ok(())
+}
+
+// A run over these hits.
+fn run_over(alloc: Global, hits: &[u8], out: &mut MemorySink) -> Result<Ended, Fail> {
+    let mut files = holding(alloc, 1, hits)?;
+    run_on(alloc, &mut files, &["a.elf", "hits"], out)
+}
+
+#[test]
+fn a_line_of_another_form_is_refused_with_its_number(rt: HostRuntime) -> Result<(), Fail> {
+    let alloc = rt.alloc();
+    let lines: [&[u8]; 12] = [
+        b"1016",
+        b"",
+        b"1004 0",
+        b"1004 03",
+        b"1004  3",
+        b" 1004 3",
+        b"1004\t3",
+        b"1004 3\r",
+        b"1004 18446744073709551616",
+        b"00000000000001004 3",
+        b"0x 3",
+        b"100g 3",
+    ];
+    let mut out = MemorySink::with_room(alloc, 200, 200)?;
+    for line in lines {
+        let mut hits = Vec::new(alloc);
+        hits.extend_from_slice(b"1004 3\n")?;
+        hits.extend_from_slice(line)?;
+        hits.extend_from_slice(b"\n1016 2\n")?;
+        let ended = run_over(alloc, &hits, &mut out)?;
+        assert_eq!(rt; ended.status, 5);
+        assert_eq!(rt;
+            ended.line.bytes(),
+            b"blz_cover: line 2: bad hit\n".as_slice()
+        );
+    }
+    assert_eq!(rt; out.bytes(), b"".as_slice());
+    Ok(())
+}
+
+#[test]
+fn a_last_line_may_lack_its_line_feed(rt: HostRuntime) -> Result<(), Fail> {
+    let alloc = rt.alloc();
+    let mut out = MemorySink::with_room(alloc, 200, 200)?;
+    let ended = run_over(alloc, b"0x1004 3", &mut out)?;
+    assert_eq!(rt; ended.status, 0);
+    assert_eq!(rt; out.bytes(), b"/p/a.c:2 3\nrest 0\ntotal 3\n".as_slice());
+    Ok(())
+}
+
+#[test]
+fn a_total_that_is_too_large_is_refused_at_its_line(rt: HostRuntime) -> Result<(), Fail> {
+    let alloc = rt.alloc();
+    let hits = b"1004 18446744073709551615\n2000 1\nx\n";
+    let mut out = MemorySink::with_room(alloc, 200, 200)?;
+    let ended = run_over(alloc, hits, &mut out)?;
+    assert_eq!(rt; ended.status, 5);
+    assert_eq!(rt;
+        ended.line.bytes(),
+        b"blz_cover: line 2: total too large\n".as_slice()
+    );
+    assert_eq!(rt; out.bytes(), b"".as_slice());
+    Ok(())
+}
+
+#[test]
+fn the_first_line_that_fails_decides(rt: HostRuntime) -> Result<(), Fail> {
+    let alloc = rt.alloc();
+    let texts: [(&[u8], u8, &[u8]); 2] = [
+        (
+            b"1004 1\n1016 1\nx\n",
+            1,
+            b"blz_cover: DWARF data invalid\n",
+        ),
+        (b"1004 1\nx\n1016 1\n", 5, b"blz_cover: line 2: bad hit\n"),
+    ];
+    for (hits, status, line) in texts {
+        // the address 0x1016 has a mark
+        let mut files = holding(alloc, 9, hits)?;
+        let mut out = MemorySink::with_room(alloc, 200, 200)?;
+        let ended = run_on(alloc, &mut files, &["a.elf", "hits"], &mut out)?;
+        assert_eq!(rt; ended.status, status);
+        assert_eq!(rt; ended.line.bytes(), line);
+    }
+    Ok(())
+}
+
+#[test]
+fn other_words_are_told_the_usage(rt: HostRuntime) -> Result<(), Fail> {
+    let alloc = rt.alloc();
+    let mut files = holding(alloc, 1, HITS)?;
+    let mut out = MemorySink::with_room(alloc, 200, 200)?;
+    let words: [&[&str]; 3] = [&[], &["a.elf"], &["a.elf", "hits", "hits"]];
+    for given in words {
+        let ended = run_on(alloc, &mut files, given, &mut out)?;
+        assert_eq!(rt; ended.status, 2);
+        assert_eq!(rt; ended.line.bytes(), b"usage: IMAGE HITS\n".as_slice());
+    }
+    Ok(())
+}
+
+#[test]
+fn a_file_that_is_refused_is_told_by_its_kind(rt: HostRuntime) -> Result<(), Fail> {
+    let alloc = rt.alloc();
+    let mut files = holding(alloc, 1, HITS)?;
+    let mut out = MemorySink::with_room(alloc, 200, 200)?;
+    let runs: [(&[&str], &[u8]); 3] = [
+        (&["none", "hits"], b"blz_cover: entity not found\n"),
+        (&["a.elf", "none"], b"blz_cover: entity not found\n"),
+        (&["hits", "hits"], b"blz_cover: invalid data\n"),
+    ];
+    for (words, line) in runs {
+        let ended = run_on(alloc, &mut files, words, &mut out)?;
+        assert_eq!(rt; ended.status, 1);
+        assert_eq!(rt; ended.line.bytes(), line);
+    }
+    Ok(())
+}
+
+#[test]
+fn a_sink_that_fails_has_a_front_of_the_text(rt: HostRuntime) -> Result<(), Fail> {
+    let alloc = rt.alloc();
+    let mut out = MemorySink::with_room(alloc, 5, 200)?;
+    let ended = run_over(alloc, HITS, &mut out)?;
+    assert_eq!(rt; ended.status, 3);
+    assert_eq!(rt; out.bytes(), b"/p/a.".as_slice());
+    assert_eq!(rt; ended.line.bytes(), b"blz_cover: write failed\n".as_slice());
+    Ok(())
+}
