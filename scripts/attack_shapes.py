@@ -58,10 +58,6 @@ def pairs(count):
     return b"".join(offset_pair(4 * k, 4 * k + 1) for k in range(count))
 
 
-def based(lists):
-    return bytes([DW_RLE_BASE_ADDRESS, 0]) if lists is None else lists
-
-
 def with_list(shapes, functions, lists):
     data, first = range_lists(lists + b"\0")
     return one_unit(shapes, *functions(first), rnglists=data)
@@ -100,7 +96,7 @@ def one_range_list_without_ranges(n):
 @shape
 def one_range_list_of_units(n):
     shapes = {ROOT: root(RANGES, 0)}
-    data, first = range_lists(b"".join(offset_pair(4 * k, 4 * k + 1) for k in range(n)) + b"\0")
+    data, first = range_lists(pairs(n) + b"\0")
     return Attack(dwarf(shapes, unit(entry(shapes, ROOT, first)) * n, rnglists=data), [0])
 
 
@@ -209,9 +205,7 @@ def announced_units_of_one_program(n):
 
 @shape
 def units_of_tails_of_a_table(n):
-    first = abbreviation(1, root([FLAG], 0))
-    table = first * n + b"\0"
-    # a table in which a code stands twice is read to its end all the same
+    # each code is another one, since a code that stands twice ends the reading
     table = b"".join(abbreviation(n - k, root([FLAG], 0)) for k in range(n)) + b"\0"
     offsets, at = [], 0
     for k in range(n):
@@ -419,18 +413,18 @@ def small_symbols_in_one(n):
     return Attack(symbols_image(around + small), [BASE + 8 * (n - 1 - k % (n // 4 + 1)) + 4 for k in range(10000)])
 
 
-def relocated(n, targets):
-    """An object file with `targets` tables of relocations, which all stand at one place, each for its own section."""
+def relocated(n):
+    """The sections of an object file, the last of which is a table of relocations of `.debug_info`."""
     shapes = {ROOT: root(RANGE, 0)}
     entries = b"".join(struct.pack("<QQ", 0, R_X86_64_64) for _ in range(4 * n))
-    sections = [Section(".debug_abbrev", abbreviations(shapes)), Section(".debug_info", unit(entry(shapes, ROOT, 0, 1))), Section(
+    return [Section(".debug_abbrev", abbreviations(shapes)), Section(".debug_info", unit(entry(shapes, ROOT, 0, 1))), Section(
         ".symtab", symbol(0, 0, 0, 0, 0), SHT_SYMTAB, link=4, entry_size=24), Section(".strtab", b"\0", SHT_STRTAB), Section(
         ".rel", entries, SHT_REL, link=3, info=2, entry_size=16)]
-    return sections, targets
 
 
 def with_shared_tables(n, target_of):
-    sections, _ = relocated(n, 0)
+    """An object file with n more tables, which all stand at the place of the first, each for the section that is told."""
+    sections = relocated(n)
     body = image([*sections, *[Section(".text", b"") for _ in range(n)]], ET_REL)
     table = len(body) - 64 * (len(sections) + n + 2)
     rel = body[table + 64 * len(sections):table + 64 * (len(sections) + 1)]
@@ -464,7 +458,7 @@ def sections_of_one_long_name(n):
 
 
 def package(identities, contributions):
-    """A package of units, all of whose slots are full: the index of 6.3 of the DWARF 5 standard, section 7.3.5.3."""
+    """A package of units, all of whose slots are full (DWARF 5 section 7.3.5.3)."""
     slots = len(identities)
     columns = [DW_SECT_INFO, DW_SECT_ABBREV]
     order = [None] * slots
