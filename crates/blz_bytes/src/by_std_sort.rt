@@ -16,9 +16,9 @@ fn triple(keys: &[Key], place: usize) -> (u64, u64, usize) {
 }
 
 impl Orders for ByStdSort {
-    ghost pair_places = { λ _. None };
+    ghost pair_places = { None };
 
-    ghost name_places = { λ _. None };
+    ghost name_places = { None };
 
     fn by_pair(&mut self, keys: &[Key], places: &mut [usize]) {
         places.sort_unstable_by_key(|place| triple(keys, *place));

@@ -129,7 +129,16 @@ impl<K: Eq + Hash, V> InsertMap<K, V> {
         Ok(i)
     }
 
-    /// The value of a key; where there is none it is put as `try_insert` does.
+    /// The value at a place, as `try_insert` gives one.
+    pub fn at(&self, place: usize) -> &V
+        requires { place < length self.now }
+        ensures { (d : K × V) → result.now ≡ (get_or self.now place d).1 }
+    {
+        &self.pairs[place].1
+    }
+
+    /// The value of a key, which `init` makes where there is none. It is `try_insert` and then `at`, which say what the
+    /// map is afterwards.
     pub fn get_or_try_insert<E: From<AllocError>, G: FnOnce() -> Result<V, E>>(
         &mut self,
         key: K,
@@ -142,8 +151,8 @@ impl<K: Eq + Hash, V> InsertMap<K, V> {
         ensures value { IfOk result (λ v. UnwrapsOrElse (lookup (K.eq key) self.old) (λ v. G.post init (Ok v)) v.now) }
         ensures err { IfErr result (λ e. (lookup (K.eq key) self.old ≡ None) × (E.from_gives alloc_error e ⊎ G.post init (Err e))) }
     {
-        let i = self.try_insert(key, init)?;
-        Ok(&self.pairs[i].1)
+        let place = self.try_insert(key, init)?;
+        Ok(&self.pairs[place].1)
     }
 
     /// Keeps the keys of which a test says so, in their order.

@@ -41,24 +41,20 @@ impl NameSpan {
 /// checked.
 pub trait Orders {
     /// The places that `by_pair` puts into the slice, where they are told.
-    ghost pair_places: { Self → Option (List Key → List ℕ) };
+    ghost pair_places: { Option (List Key → List ℕ) };
 
     /// The places that `by_name` puts into the slice, where they are told.
-    ghost name_places: { Self → Option (List ℕ × List NameSpan → List ℕ) };
+    ghost name_places: { Option (List ℕ × List NameSpan → List ℕ) };
 
     /// Is to put the places 0, 1, 2 and so on, one for each key, into rising order of (first, second, place).
     fn by_pair(&mut self, keys: &[Key], places: &mut [usize])
         requires { places.old ≡ counting (length keys.now) }
-        ensures places { TellsPlaces (pair_places self.old) keys.now places.new }
-        ensures pairs_stay { pair_places self.new ≡ pair_places self.old }
-        ensures names_stay { name_places self.new ≡ name_places self.old };
+        ensures places { TellsPlaces pair_places keys.now places.new };
 
     /// Is to put the places 0, 1, 2 and so on, one for each name, into rising order of (bytes of the name, place).
     fn by_name(&mut self, strs: &[u8], names: &[NameSpan], places: &mut [usize])
         requires { places.old ≡ counting (length names.now) }
-        ensures places { TellsPlaces (name_places self.old) (strs.now, names.now) places.new }
-        ensures pairs_stay { pair_places self.new ≡ pair_places self.old }
-        ensures names_stay { name_places self.new ≡ name_places self.old };
+        ensures places { TellsPlaces name_places (strs.now, names.now) places.new };
 }
 
 /// Leaves the places as they are, and says so.
@@ -66,9 +62,9 @@ pub trait Orders {
 pub struct AsTheyStand;
 
 impl Orders for AsTheyStand {
-    ghost pair_places = { λ _. Some (λ keys. counting (length keys)) };
+    ghost pair_places = { Some (λ keys. counting (length keys)) };
 
-    ghost name_places = { λ _. Some (λ names. counting (length names.1)) };
+    ghost name_places = { Some (λ names. counting (length names.1)) };
 
     fn by_pair(&mut self, _keys: &[Key], _places: &mut [usize]) {}
 

@@ -137,7 +137,8 @@ fn keeps_the_value_that_was_put_first(rt: HostRuntime) -> Result<(), Fail> {
 fn retains_by_key_and_value(rt: HostRuntime) -> Result<(), Fail> {
     let mut map: InsertMap<u64, u64> = InsertMap::new(rt.alloc());
     for n in 0..4 {
-        let _ = map.try_insert(n, || -> Result<u64, Error> { Ok(10 - n.min(10)) })?;
+        let place = map.try_insert(n, || -> Result<u64, Error> { Ok(10 - n.min(10)) })?;
+        assert_eq!(rt; *map.at(place), 10 - n.min(10));
     }
     map.retain(|key, value| *key != 1 && *value > 7);
     assert_eq!(rt; map.len(), 2);
