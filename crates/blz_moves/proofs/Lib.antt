@@ -1,0 +1,2 @@
+pub mod TreeMaps
+pub mod SectionMaps

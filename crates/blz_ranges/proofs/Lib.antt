@@ -1,0 +1,12 @@
+pub mod BestOf
+pub mod InTurn
+pub mod Halving
+pub mod Backward
+pub mod Carried
+pub mod Scanning
+pub mod Made
+pub mod Alone
+pub mod OwnedItems
+pub mod OneCovers
+pub mod ListEnds
+pub mod Turning

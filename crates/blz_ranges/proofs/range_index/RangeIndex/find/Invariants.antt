@@ -1,0 +1,4 @@
+use Rattle.blz_ranges.proofs.range_index.RangeIndex.find.Given as goal
+
+abbrev pub ghosts-best_from : goal.ghosts-best_from
+ghosts-best_from a = record { name = a.blank.name; parts = a.blank.parts }

@@ -1,0 +1,10 @@
+pub mod Best
+pub mod Turns
+pub mod Groups
+pub mod Sorted
+pub mod Search
+pub mod Keyed
+pub mod Owned
+pub mod Ranges
+pub mod Turned
+pub mod Skipping
