@@ -1,5 +1,5 @@
 -- One more abbreviation keeps the table indexed.
-use Rattle.std.proofs.Common.{◌≡◌, ◌≢◌, ℕ, zero, suc, ◌+◌, ◌-◌, ◌≤◌, ◌<◌, false, eqb, ltb, leb, List, [], ◌∷◌, ◌++◌, length, Option, Some, None, refl, sym, subst, ◌∙◌, arith, inl, inr}
+use Rattle.std.proofs.Common.{◌≡◌, ◌≢◌, ℕ, zero, suc, ◌+◌, ◌-◌, ◌≤◌, ◌<◌, false, eqb, ltb, leb, List, [], ◌∷◌, ◌++◌, length, take, Option, Some, None, refl, sym, subst, ◌∙◌, arith, inl, inr}
 use Rattle.std.specs.Prelude.{slice_get, option_and_then}
 use Rattle.std.specs.Option.{option_or}
 use Rattle.std.specs.Ordering.{nat_cmp, is_eq}
@@ -9,6 +9,7 @@ use Rattle.std.proofs.lemmas.List.Folds.{find-append}
 use Rattle.std.proofs.lemmas.List.{length-append}
 use Rattle.std.proofs.lemmas.Option.{slice_get_within}
 use Rattle.std.proofs.lemmas.Grind.{common_steps}
+use Rattle.std.proofs.Math.Seq.{take-append_seam}
 use Rattle.blz_entry.specs.Abbrevs.{Abbrev, of_code, looked_up, IsIndexed}
 
 pub slice_get-append : {A : Type 0} (xs ys : List A) (i : ℕ) → i < length xs → slice_get (xs ++ ys) i ≡ slice_get xs i
@@ -132,3 +133,15 @@ front_more table a ordered others i new all next = record {
           let ne : a.code ≢ code = omega (arith, is_zero) in
           rw none (kept code (i.found code ∙ rw none refl) ne)
     ]
+
+-- a map with the same entries finds the same
+pub index_stays : (table : List Abbrev) (ordered : ℕ) (others n : BTreeMap ℕ ℕ) → IsIndexed ordered others table → n.entries ≡ others.entries → IsIndexed ordered n table
+index_stays table ordered others n i same = record {
+  front = i.front;
+  inside = λ code place e. i.inside code place (rw same at e);
+  found = λ code. i.found code ∙ rw same refl;
+}
+
+-- an element that was pushed and taken back
+pub take_back : (table : List Abbrev) (a : Abbrev) (n : ℕ) → n ≡ length table + 1 → take (n - 1) (table ++ a ∷ []) ≡ table
+take_back table a n h = let k : n - 1 ≡ length table = omega arith in rw k (take-append_seam table (a ∷ []))

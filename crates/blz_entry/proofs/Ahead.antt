@@ -11,7 +11,7 @@ use Rattle.blz_model.specs.LebNumbers.{leb_in, uleb, sleb, fits_i64, signed}
 use Rattle.blz_model.specs.Reads.{Read, ◌>>=◌, number}
 use Rattle.blz_model.specs.Texts.{c_string, text_at}
 use Rattle.blz_bytes.specs.Pieces.{zero_ended}
-use Rattle.blz_elf.specs.Relocations.{relocated}
+use Rattle.blz_moves.specs.Relocations.{relocated}
 use Rattle.blz_entry.specs.Attributes.{form_for, direct_attribute, attribute, attributes}
 use Rattle.blz_entry.specs.Contents.{Contents, moved_number, address_at, offset_at, offset_len, skipped, block, field_at, bytes_in}
 use Rattle.blz_entry.specs.Forms.{text_here, value_by, made}

@@ -1,6 +1,10 @@
 pub mod Bytes
 pub mod Sizes
 pub mod Together
+pub mod RunSteps
+pub mod RunsMade
+pub mod WantedSteps
+pub mod SameEncoding
 pub mod AttributeSteps
 pub mod AbbreviationIndex
 pub mod Marked
@@ -13,5 +17,6 @@ pub mod SetSteps
 pub mod Preorder
 pub mod HeadsLead
 pub mod WalkSteps
+pub mod PassingSteps
 pub mod ValueSteps
 pub mod HeadersEnd

@@ -14,7 +14,7 @@ use Rattle.blz_entry.specs.RangeLists.{spans_in, spans_from, spans_at, joined, l
 use Rattle.blz_entry.specs.declared.range_list.RangeEntry.{RangeEntry}
 use Rattle.blz_entry.specs.declared.root.UnitRoot.{UnitRoot}
 use Rattle.blz_entry.specs.declared.section.Sections.{Sections}
-use Rattle.blz_entry.specs.declared.span.Span.{Span}
+use Rattle.blz_ranges.specs.declared.span.Span.{Span}
 use Rattle.blz_entry.specs.declared.units.UnitHeader.{UnitHeader}
 
 pub spans_more : (s : Sections) (h : UnitHeader) (root : UnitRoot) (m n base at next : ℕ) (so_far : List Span) (entry : RangeEntry) → m ≡ suc n → eqb at (list_length s h) ≡ false → range_entry_at s h root at ≡ Some (entry, next) → is_end entry ≡ false → spans_in s h root m base so_far at ≡ spans_in s h root n (base_behind base entry) (so_far ++ option_to_list (spelled h.version h.address_size base entry)) next

@@ -6,7 +6,7 @@ use Rattle.std.proofs.lemmas.Bool.{cases_Bool, leb-true, eqb-true}
 use Rattle.blz_model.specs.Reads.{Read, ◌>>=◌}
 use Rattle.blz_entry.specs.AddressSets.{length_at, kept, range_pair, next_pair, then_pairs, pairs_in, pairs_from}
 use Rattle.blz_entry.specs.Contents.{Contents, moved_number, address_at}
-use Rattle.blz_entry.specs.declared.span.Span.{Span}
+use Rattle.blz_ranges.specs.declared.span.Span.{Span}
 use Rattle.blz_entry.proofs.Ahead.{Ahead, Past, number_ahead, address_past, if_ahead}
 
 length_ahead : (size : ℕ) (s : Contents) (at : ℕ) → Ahead s.bytes at (length_at size s at)

@@ -89,7 +89,7 @@ sized Sixteen e s at n h = rw (← some_is h) (skipped_behind 16 s.bytes at)
 sized (Block w) e s at n h = absurd cc
 sized UlebBlock e s at n h = absurd cc
 
-behind_value : (f : Form) (e : Encoding) (base : StrBase) (s : Contents) (at : ℕ) → next_place (value_by f e base s at) ≡ behind_form f e s at
+pub behind_value : (f : Form) (e : Encoding) (base : StrBase) (s : Contents) (at : ℕ) → next_place (value_by f e base s at) ≡ behind_form f e s at
 unfolding value_by behind_form text_here
 behind_value (Numeric field makes) e base s at = same_place _ (field_at field e s at)
 behind_value forms.Signed e base s at = same_place _ _

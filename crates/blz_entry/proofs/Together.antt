@@ -1,19 +1,14 @@
 -- Attributes of which each has a fixed size are passed over in one step.
-use Rattle.std.proofs.Common.{◌≡◌, ◌∙◌, ℕ, suc, ◌+◌, ◌*◌, ◌<◌, true, eqb, leb, List, [], ◌∷◌, ◌++◌, length, get_or, take, Option, Some, None, refl, sym, ap, inl, inr, arith}
+use Rattle.std.proofs.Common.{◌≡◌, ◌∙◌, ℕ, ◌+◌, eqb, leb, List, [], ◌∷◌, ◌++◌, length, Option, Some, None, refl, sym, ap, inl, inr, arith}
 use Rattle.std.specs.Prelude.{◌⊎◌}
 use Rattle.std.proofs.lemmas.Bool.{cases_Bool, eqb-true, eqb-false, ne_eqb, lt-leb, leb-false}
-use Rattle.std.proofs.lemmas.List.{take_more}
-use Rattle.std.proofs.Math.Nat.{suc-mul}
 use Rattle.blz_model.specs.Reads.{Read, ◌>>=◌, passed_over}
-use Rattle.blz_entry.specs.Contents.{Contents, bytes_in, offset_len}
+use Rattle.blz_entry.specs.Contents.{Contents}
 use Rattle.blz_entry.specs.Forms.{form_of}
 use Rattle.blz_entry.specs.Attributes.{attribute, passed}
-use Rattle.blz_entry.specs.Sizes.{size_of, over, behind_form, behind_code, behind, form_size, attribute_size, size_together, has_addresses, total, Counts, counted_field, counted_form, counted}
+use Rattle.blz_entry.specs.Sizes.{over, behind_form, behind_code, behind, form_size, attribute_size, size_together}
 use Rattle.blz_entry.specs.declared.abbreviations.AttrSpec.{AttrSpec}
 use Rattle.blz_entry.specs.declared.encoding.Encoding.{Encoding}
-use Rattle.blz_entry.specs.declared.fixed.FixedSize.{FixedSize}
-use Rattle.blz_entry.specs.declared.form.Field.{Field}
-use Rattle.blz_entry.specs.declared.form.Field.TheVariants.{Nothing, Fixed, Address, Offset, RefAddress, Uleb, Sixteen, Block, UlebBlock}
 use Rattle.blz_entry.specs.declared.form.Form.{Form}
 use Rattle.blz_entry.specs.declared.form.Form.TheVariants as forms
 use Rattle.blz_entry.specs.declared.form.Form.TheVariants.{Numeric}
@@ -97,41 +92,7 @@ passed_together (a ∷ rest) e base s at n h =
       ]
     ]
 
-abbrev Counted : Option ℕ → ℕ → ℕ → Type 0
-Counted size before after = (n : ℕ) × (size ≡ Some n) × (after ≡ before + n)
-
-more_times : (k z : ℕ) → (k + 1) * z ≡ k * z + z
-more_times k z = let one : k + 1 ≡ suc k = omega arith in rw one (suc-mul k z)
-
-field_counts : (field : Field) (f g : FixedSize) (e : Encoding) → has_addresses e ≡ true → counted_field field f ≡ Some g → Counted (size_of field e) (total f e) (total g e)
-unfolding total
-field_counts Nothing f g e known h = let k = some_is h in rw (← k) (0, refl, omega arith)
-field_counts (Fixed w) f g e known h = let k = some_is h in rw (← k) (bytes_in w, refl, omega arith)
-field_counts Address f g e known h = let k = some_is h in rw (← k, known) (e.address_size, refl, omega (arith, more_times f.addresses e.address_size))
-field_counts Offset f g e known h = let k = some_is h in rw (← k) (offset_len e.wide, refl, omega (arith, more_times f.offsets (offset_len e.wide)))
-field_counts RefAddress f g e known h = let k = some_is h in rw (← k) (elim (cases_Bool (eqb e.version 2)) [
-  | inl two ↦ rw (two, known) (e.address_size, refl, omega (arith, more_times f.references e.address_size))
-  | inr later ↦ rw later (offset_len e.wide, refl, omega (arith, more_times f.references (offset_len e.wide)))
-])
-field_counts Uleb f g e known h = absurd cc
-field_counts Sixteen f g e known h = let k = some_is h in rw (← k) (16, refl, omega arith)
-field_counts (Block w) f g e known h = absurd cc
-field_counts UlebBlock f g e known h = absurd cc
-
-form_counts : (o : Option Form) (f g : FixedSize) (e : Encoding) → has_addresses e ≡ true → counted_form o f ≡ Some g → Counted (form_size o e) (total f e) (total g e)
-form_counts None f g e known h = absurd cc
-form_counts (Some (Numeric field makes)) f g e known h = field_counts field f g e known h
-form_counts (Some forms.Signed) f g e known h = absurd cc
-form_counts (Some forms.Text) f g e known h = absurd cc
-
-attribute_counts : (a : AttrSpec) (f g : FixedSize) (e : Encoding) → has_addresses e ≡ true → counted a f ≡ Some g → Counted (attribute_size a e) (total f e) (total g e)
-unfolding counted
-attribute_counts a f g e known h = elim (cases_Bool (eqb a.form 0x21)) [
-  | inl constant ↦ let k = some_is (rw constant at h) in rw (constant, ← k) (0, refl, omega arith)
-  | inr other ↦ let k = rw other at h in rw other (form_counts (form_of a.form) f g e known k)
-]
-
-together_more : (specs : List AttrSpec) (a : AttrSpec) (e : Encoding) (n m : ℕ) → size_together specs e ≡ Some n → attribute_size a e ≡ Some m → size_together (specs ++ a ∷ []) e ≡ Some (n + m)
+pub together_more : (specs : List AttrSpec) (a : AttrSpec) (e : Encoding) (n m : ℕ) → size_together specs e ≡ Some n → attribute_size a e ≡ Some m → size_together (specs ++ a ∷ []) e ≡ Some (n + m)
 unfolding size_together
 together_more [] a e n m h k = let z : n ≡ 0 = sym (some_is h) in rw (k, z) (ap (λ (n : ℕ). Some n) (omega arith))
 together_more (x ∷ rest) a e n m h k =
@@ -145,15 +106,3 @@ together_more (x ∷ rest) a e n m h k =
             rw (first.1, more) (ap (λ (n : ℕ). Some n) (omega arith))
       ]
     ]
-
-pub counts_none : Counts (record { bytes = 0; addresses = 0; offsets = 0; references = 0 }) []
-unfolding total size_together
-counts_none e known = ap (λ (n : ℕ). Some n) (omega arith)
-
-counts_more : (specs : List AttrSpec) (a : AttrSpec) (f g : FixedSize) → Counts f specs → counted a f ≡ Some g → Counts g (specs ++ a ∷ [])
-counts_more specs a f g before h e known =
-    let c = attribute_counts a f g e known h in
-    together_more specs a e (total f e) c.0 (before e known) c.1 ∙ ap (λ (n : ℕ). Some n) (sym c.2)
-
-pub counts_taken : (specs : List AttrSpec) (i : ℕ) (d : AttrSpec) (f g : FixedSize) → i < length specs → Counts f (take i specs) → counted (get_or specs i d) f ≡ Some g → Counts g (take (i + 1) specs)
-counts_taken specs i d f g lt before h = rw (take_more specs i d lt) (counts_more (take i specs) (get_or specs i d) f g before h)

@@ -12,7 +12,7 @@ use Rattle.blz_entry.specs.Headers.{extent_at, is_address_size}
 use Rattle.blz_entry.specs.RangeLists.{greatest}
 use Rattle.blz_entry.specs.declared.aranges.ArangeSet.{ArangeSet}
 use Rattle.blz_entry.specs.declared.extent.Extent.{Extent}
-use Rattle.blz_entry.specs.declared.span.Span.{Span}
+use Rattle.blz_ranges.specs.declared.span.Span.{Span}
 
 -- the least multiple of k from n up
 abbrev pub rounded_up : ℕ → ℕ → ℕ

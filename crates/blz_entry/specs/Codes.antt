@@ -5,7 +5,7 @@ use Rattle.std.specs.FinMap as map
 use Rattle.std.proofs.Common.{ap}
 use Rattle.blz_model.specs.declared.byte_order.ByteOrder.{ByteOrder}
 use Rattle.blz_model.specs.declared.byte_order.ByteOrder.TheVariants.{Little, Big}
-use Rattle.blz_elf.specs.Relocations.{OffsetMap, relocation_code}
+use Rattle.blz_moves.specs.Relocations.{OffsetMap, relocation_code}
 use Rattle.blz_entry.specs.Contents.{Contents}
 use Rattle.blz_entry.specs.Abbrevs.{Abbrev}
 use Rattle.blz_entry.specs.Headers.{UnitList}

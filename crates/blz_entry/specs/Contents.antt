@@ -4,7 +4,7 @@ use Rattle.blz_model.specs.declared.byte_order.ByteOrder.{ByteOrder}
 use Rattle.blz_model.specs.Reads.{Read, ◌>>=◌, number}
 use Rattle.blz_model.specs.LebNumbers.{uleb}
 use Rattle.std.specs.FinMap as map
-use Rattle.blz_elf.specs.Relocations.{OffsetMap, relocated}
+use Rattle.blz_moves.specs.Relocations.{OffsetMap, relocated}
 use Rattle.blz_entry.specs.declared.section.Section.{Section}
 use Rattle.blz_entry.specs.declared.encoding.Encoding.{Encoding}
 use Rattle.blz_entry.specs.declared.form.Width.{Width}

@@ -9,6 +9,9 @@ pub mod Sizes
 pub mod Headers
 pub mod Forest
 pub mod Walks
+pub mod Wanted
+pub mod AttributeRuns
+pub mod Passing
 pub mod Codes
 pub mod Folds
 pub mod StringPlaces
@@ -17,3 +20,4 @@ pub mod RangeLists
 pub mod Roots
 pub mod AddressSets
 pub mod Listing
+pub mod FileSections

@@ -16,7 +16,7 @@ use Rattle.blz_entry.specs.declared.range_list.RangeEntry.TheVariants.{End, Base
 use Rattle.blz_entry.specs.declared.ranges.RangeAttributes.{RangeAttributes}
 use Rattle.blz_entry.specs.declared.root.UnitRoot.{UnitRoot}
 use Rattle.blz_entry.specs.declared.section.Sections.{Sections}
-use Rattle.blz_entry.specs.declared.span.Span.{Span}
+use Rattle.blz_ranges.specs.declared.span.Span.{Span}
 use Rattle.blz_entry.specs.declared.units.UnitHeader.{UnitHeader}
 use Rattle.blz_entry.specs.declared.value.AttrValue.{AttrValue}
 use Rattle.blz_entry.specs.declared.value.AttrValue.TheVariants.{SecOffset, RangeIndex}

@@ -1,6 +1,6 @@
 -- Fields whose bytes the sizes of a unit tell, and the place behind an attribute, whatever its value (DWARF 5 section
 -- 7.5.6).
-use Rattle.std.specs.Prelude.{◌≡◌, ℕ, ◌+◌, ◌*◌, Bool, true, [], ◌∷◌, ◌||◌, Option, Some, None, option_map, ◌==◌, if◌then◌else◌, List}
+use Rattle.std.specs.Prelude.{ℕ, ◌+◌, [], ◌∷◌, ◌||◌, Option, Some, None, option_map, ◌==◌, if◌then◌else◌, List}
 use Rattle.blz_model.specs.Reads.{◌>>=◌, passed_over}
 use Rattle.blz_model.specs.LebNumbers.{uleb, sleb}
 use Rattle.blz_bytes.specs.Pieces.{zero_ended}
@@ -8,7 +8,6 @@ use Rattle.blz_entry.specs.Contents.{Contents, bytes_in, offset_len, field_at}
 use Rattle.blz_entry.specs.Forms.{form_of}
 use Rattle.blz_entry.specs.declared.abbreviations.AttrSpec.{AttrSpec}
 use Rattle.blz_entry.specs.declared.encoding.Encoding.{Encoding}
-use Rattle.blz_entry.specs.declared.fixed.FixedSize.{FixedSize}
 use Rattle.blz_entry.specs.declared.form.Field.{Field}
 use Rattle.blz_entry.specs.declared.form.Field.TheVariants.{Nothing, Fixed, Address, Offset, RefAddress, Uleb, Sixteen, Block, UlebBlock}
 use Rattle.blz_entry.specs.declared.form.Form.{Form}
@@ -72,47 +71,3 @@ size_together (a ∷ rest) e = do
   n ← attribute_size a e
   m ← size_together rest e
   Some (n + m)
-
--- addresses can be read
-abbrev pub has_addresses : Encoding → Bool
-has_addresses e = e.address_size == 4 || e.address_size == 8
-
--- the bytes of DW_FORM_ref_addr: in version 2 those of an address, and else of an offset
-abbrev pub reference_len : Encoding → ℕ
-reference_len e = if e.version == 2 then e.address_size else offset_len e.wide
-
--- what is counted, as bytes
-unfoldable pub total : FixedSize → Encoding → ℕ
-total f e = f.bytes + f.addresses * e.address_size + f.offsets * offset_len e.wide + f.references * reference_len e
-
-abbrev pub total_in : FixedSize → Encoding → Option ℕ
-total_in f e = if has_addresses e then Some (total f e) else None
-
--- The counts are those of the attributes, in each unit whose addresses can be read.
-abbrev pub Counts : FixedSize → List AttrSpec → Type 0
-Counts f specs = (e : Encoding) → has_addresses e ≡ true → size_together specs e ≡ Some (total f e)
-
-abbrev pub with_bytes : ℕ → FixedSize → FixedSize
-with_bytes n f = record { bytes = f.bytes + n; addresses = f.addresses; offsets = f.offsets; references = f.references }
-
--- the counts with those of a field
-abbrev pub counted_field : Field → FixedSize → Option FixedSize
-counted_field Nothing f = Some f
-counted_field (Fixed w) f = Some (with_bytes (bytes_in w) f)
-counted_field Address f = Some (record { bytes = f.bytes; addresses = f.addresses + 1; offsets = f.offsets; references = f.references })
-counted_field Offset f = Some (record { bytes = f.bytes; addresses = f.addresses; offsets = f.offsets + 1; references = f.references })
-counted_field RefAddress f = Some (record { bytes = f.bytes; addresses = f.addresses; offsets = f.offsets; references = f.references + 1 })
-counted_field Uleb f = None
-counted_field Sixteen f = Some (with_bytes 16 f)
-counted_field (Block w) f = None
-counted_field UlebBlock f = None
-
-abbrev pub counted_form : Option Form → FixedSize → Option FixedSize
-counted_form None f = None
-counted_form (Some (Numeric field makes)) f = counted_field field f
-counted_form (Some forms.Signed) f = None
-counted_form (Some forms.Text) f = None
-
--- the counts with those of an attribute
-unfoldable pub counted : AttrSpec → FixedSize → Option FixedSize
-counted a f = if a.form == 0x21 then Some f else counted_form (form_of a.form) f

@@ -5,12 +5,13 @@ ghost use Rattle.std.specs.Option.{option_copied};
 ghost use Rattle.blz_model.specs.Part.{Gives};
 ghost use Rattle.blz_entry.specs.Marks.{or_invalid};
 ghost use Rattle.blz_entry.specs.Abbrevs.{of_code};
-ghost use Rattle.blz_entry.specs.Sizes.{size_together};
+ghost use Rattle.blz_entry.specs.AttributeRuns.{Passes, Reads};
 ghost use Rattle.blz_entry.specs.AbbreviationTables.{spec_at, is_last, specs_in, has_children, abbreviation_at, has_code, abbreviations};
 
 use crate::encoding::Encoding;
 use crate::fault::invalid;
-use crate::fixed::FixedSize;
+use crate::ready::Ready;
+use crate::runs::Runs;
 use blz_bytes::{sleb_at, u8_at, uleb_at};
 use blz_error::Result;
 use std::alloc::{AllocError, Global};
@@ -34,20 +35,20 @@ pub struct Abbreviation {
     /// Whether they have children.
     pub children: bool,
     specs: Vec<AttrSpec>,
-    // what the attributes have together, where the bytes of each are fixed
-    fixed: Option<FixedSize>,
+    // how the attributes are passed over and read
+    ready: Ready,
 }
 
 impl Model for Abbreviation {
-    ghost use Rattle.std.specs.Prelude.{IfSome};
     ghost use Rattle.blz_entry.specs.Abbrevs.{Abbrev};
-    ghost use Rattle.blz_entry.specs.Sizes.{Counts};
 
     ghost Value = { Abbrev };
 
     ghost view = { λ a. record { code = a.code; tag = a.tag; children = a.children; specs = a.specs.items } };
 
-    ghost invariant = { λ a. IfSome a.fixed (λ f. Counts f a.specs.items) };
+    ghost use Rattle.blz_entry.specs.AttributeRuns.{IsReady};
+
+    ghost invariant = { λ a. IsReady a.ready a.specs.items };
 }
 
 impl Abbreviation {
@@ -58,11 +59,30 @@ impl Abbreviation {
         &self.specs
     }
 
-    /// The bytes of the attributes, where those of each are fixed.
-    pub(crate) fn size_in(&self, encoding: Encoding) -> Option<usize>
-        ensures { IfSome result (λ n. size_together self.now.specs encoding ≡ Some n) }
+    /// How the attributes are passed over, where this is known for the sizes of a unit.
+    #[inline(always)]
+    pub(crate) fn passing(&self, encoding: Encoding) -> Option<&Runs>
+        ensures { IfSome result (λ r. Passes encoding r.now self.now.specs) }
     {
-        self.fixed?.total_in(encoding)
+        if self.ready.encoding.is(encoding) {
+            Some(&self.ready.passing)
+        } else {
+            None
+        }
+    }
+
+    /// How those that are wanted are read, where this is known for the sizes of a unit.
+    #[inline(always)]
+    pub(crate) fn reading(&self, encoding: Encoding) -> Option<&Runs>
+        ensures { IfSome result (λ r. Reads encoding 0 r.now self.now.specs) }
+    {
+        if !self.ready.encoding.is(encoding) {
+            return None;
+        }
+        match &self.ready.reading {
+            Some(runs) => Some(runs),
+            None => None,
+        }
     }
 }
 
@@ -99,6 +119,7 @@ impl Abbreviations {
     }
 
     /// The abbreviation of a code; None exactly where there is none.
+    #[inline(always)]
     pub fn get(&self, code: u64) -> Option<&Abbreviation>
         ensures { option_copied result ≡ of_code code self.now }
     {
@@ -141,6 +162,23 @@ impl Abbreviations {
     pub fn parse(alloc: Global, abbrev: &[u8], at: u64) -> Result<Abbreviations>
         ensures { Gives (λ t. t) result (or_invalid (abbreviations «abbrev».now at)) }
     {
+        let encoding = Encoding {
+            version: 5,
+            wide: false,
+            address_size: 8,
+        };
+        Abbreviations::parse_for(alloc, abbrev, at, encoding)
+    }
+
+    /// The same, ready for units whose fields have the sizes of an encoding: their entries are walked over faster.
+    pub fn parse_for(
+        alloc: Global,
+        abbrev: &[u8],
+        at: u64,
+        encoding: Encoding,
+    ) -> Result<Abbreviations>
+        ensures { Gives (λ t. t) result (or_invalid (abbreviations «abbrev».now at)) }
+    {
         if at > abbrev.len() as u64 {
             return Err(invalid("abbreviations lie outside their section"));
         }
@@ -156,7 +194,7 @@ impl Abbreviations {
             if table.has(code) {
                 return Err(invalid("an abbreviation code stands twice"));
             }
-            let (abbreviation, next) = abbreviation_at(alloc, code, abbrev, next)?;
+            let (abbreviation, next) = abbreviation_at(alloc, encoding, code, abbrev, next)?;
             table.add(abbreviation)?;
             place = next;
         }
@@ -229,6 +267,7 @@ fn has_children(flag: u8) -> Option<bool>
 #[tactic(auto, unfolding(crate::specs::AbbreviationTables::abbreviation_at))]
 fn abbreviation_at(
     alloc: Global,
+    encoding: Encoding,
     code: u64,
     bytes: &[u8],
     at: usize,
@@ -246,13 +285,13 @@ fn abbreviation_at(
         return Err(invalid("the children byte of an abbreviation is neither 0 nor 1"));
     };
     let (specs, next) = specs_at(alloc, bytes, next)?;
-    let fixed = FixedSize::of(&specs);
+    let ready = Ready::of(alloc, tag, &specs, encoding)?;
     let abbreviation = Abbreviation {
         code,
         tag,
         children,
         specs,
-        fixed,
+        ready,
     };
     Ok((abbreviation, next))
 }

@@ -9,10 +9,10 @@ use crate::field::{address_at, fixed_at, offset_at};
 use crate::form::Width;
 use crate::range_list::greatest;
 use crate::section::{Section, cut};
-use crate::span::Span;
 use crate::units::is_address_size;
 use blz_bytes::{u8_at, u16_at};
 use blz_error::Result;
+use blz_ranges::Span;
 use std::marker::Model;
 
 /// A set of address ranges of a unit, from the next range on (DWARF 5 section 6.1.2).

@@ -19,7 +19,7 @@ const RANGES: u64 = 0x55;
 /// How the form of an attribute is read. Before version 4 offsets had no form of their own, so that a number of the
 /// unit's offset size is one at the two attributes that are offsets.
 #[tactic(auto, unfolding(crate::specs::Attributes::form_for))]
-fn form_for(name: u64, encoding: Encoding, code: u64) -> Option<Form>
+pub(crate) fn form_for(name: u64, encoding: Encoding, code: u64) -> Option<Form>
     ensures { result ≡ form_for name encoding code }
 {
     let offset_size = if encoding.wide { 0x07 } else { 0x06 };

@@ -10,7 +10,7 @@ use crate::form::{Field, Form, Width, form_of};
 use crate::section::Section;
 use blz_bytes::{sleb_at, uleb_at, zero_ended_at};
 
-pub(crate) fn bytes_in(width: Width) -> usize
+fn bytes_in(width: Width) -> usize
     ensures value { result ≡ bytes_in width }
     ensures few { result ≤ 8 }
 {
@@ -34,7 +34,7 @@ fn address_len(size: u8) -> Option<usize>
 }
 
 /// The bytes of a field; None where its own bytes tell them, or no address can be read.
-fn size_of(field: Field, encoding: Encoding) -> Option<usize>
+pub(crate) fn size_of(field: Field, encoding: Encoding) -> Option<usize>
     ensures { result ≡ size_of field encoding }
 {
     match field {
@@ -55,6 +55,7 @@ fn size_of(field: Field, encoding: Encoding) -> Option<usize>
 }
 
 /// The place behind so many bytes.
+#[inline(always)]
 #[tactic(auto, unfolding(crate::specs::Sizes::over, blz_model::specs::Reads::passed_over))]
 pub(crate) fn over(size: usize, bytes: &[u8], at: usize) -> Option<usize>
     ensures value { result ≡ over size bytes.now at }
@@ -85,8 +86,9 @@ fn behind_field(
     Some(next)
 }
 
+/// The place behind what a form reads.
 #[tactic(auto, unfolding(crate::specs::Sizes::behind_form))]
-fn behind_form(
+pub(crate) fn behind_form(
     form: Form,
     encoding: Encoding,
     section: &Section<'_, '_>,

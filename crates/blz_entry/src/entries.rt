@@ -1,16 +1,21 @@
 //! The entries of a unit, one after the other.
-ghost use Rattle.std.specs.Prelude.{◌≡◌, ◌≤◌, ◌<◌, ◌+◌, ◌^◌, ◌&&◌, nat_le, if◌then◌else◌, length, drop, IfSome, IfOk, OnOk};
+ghost use Rattle.std.specs.Prelude.{◌≡◌, ℕ, ◌≤◌, ◌<◌, ◌+◌, ◌^◌, ◌&&◌, nat_le, if◌then◌else◌, length, drop, [], IfSome, IfOk, OnOk, MatchOption};
 ghost use Rattle.std.specs.Option.{option_copied};
 ghost use Rattle.blz_error.specs.declared.kind.ErrorKind.TheVariants.{InvalidDwarf};
 ghost use Rattle.blz_model.specs.Part.{Exactly, Good, Broken};
 ghost use Rattle.blz_entry.specs.Attributes.{passed};
+ghost use Rattle.blz_entry.specs.Passing.{past, past_one};
 ghost use Rattle.blz_entry.specs.Walks.{Steps, IsNext, walk_from, source_of, info_base, next_of, value_of, skipped_of};
+ghost use Rattle.blz_entry.specs.Wanted.{wanted_of};
 
-use crate::abbreviations::{Abbreviations, AttrSpec};
+use crate::abbreviations::{Abbreviation, Abbreviations, AttrSpec};
 use crate::attributes::{attribute, passed};
 use crate::behind::over;
 use crate::encoding::Encoding;
 use crate::fault::invalid;
+use crate::passing::Passing;
+use crate::ready::next_wanted;
+use crate::runs::{Runs, passed_by};
 use crate::section::{Section, Sections, cut};
 use crate::text::{StrBase, StrPart};
 use crate::units::UnitHeader;
@@ -44,8 +49,10 @@ pub struct Entries<'s, 'b> {
     end: usize,
     place: usize,
     pending: &'s [AttrSpec],
-    // the bytes of what is pending, where it is whole and they are fixed
-    size: Option<usize>,
+    // how what is pending is passed over, and read, where that is known; and how many runs were read
+    passing: Option<&'s Runs>,
+    reading: Option<&'s Runs>,
+    taken: usize,
     depth: usize,
 }
 
@@ -54,7 +61,7 @@ impl<'s, 'b> Model for Entries<'s, 'b> {
     ghost use Rattle.blz_entry.specs.Contents.{section_view};
     ghost use Rattle.blz_entry.specs.Codes.{walk_code};
     ghost use Rattle.blz_entry.specs.Walks.{Walk};
-    ghost use Rattle.blz_entry.specs.Sizes.{size_together};
+    ghost use Rattle.blz_entry.specs.AttributeRuns.{Passes, Reads};
 
     ghost Value = { Walk };
 
@@ -62,7 +69,7 @@ impl<'s, 'b> Model for Entries<'s, 'b> {
 
     ghost view = { λ e. record { source = record { section = section_view e.section; base = e.base; encoding = e.encoding; table = e.abbreviations.now; end = e.end }; place = e.place; pending = e.pending.now; depth = e.depth } };
 
-    ghost invariant = { λ e. record { cut : length e.section.bytes.now ≤ e.end; texts : e.base.start + length e.section.bytes.now < 2 ^ 64; low : e.depth ≤ e.place; sized : IfSome e.size (λ n. size_together e.pending.now e.encoding ≡ Some n) } };
+    ghost invariant = { λ e. record { cut : length e.section.bytes.now ≤ e.end; texts : e.base.start + length e.section.bytes.now < 2 ^ 64; low : e.depth ≤ e.place; passing : IfSome e.passing (λ r. Passes e.encoding r.now e.pending.now); reading : IfSome e.reading (λ r. Reads e.encoding e.taken r.now e.pending.now) } };
 }
 
 /// Where the texts among the entries of a unit stand.
@@ -94,7 +101,6 @@ fn depth_behind(depth: usize, children: bool) -> usize
 impl<'s, 'b> Entries<'s, 'b> {
     /// The entries of a unit from a place on. InvalidDwarf exactly where the place is not among them. The header and the
     /// abbreviations are those of the unit.
-    #[tactic(auto, unfolding(crate::specs::Sizes::size_together))]
     pub fn new(
         sections: Sections<'s, 'b>,
         header: UnitHeader,
@@ -115,17 +121,26 @@ impl<'s, 'b> Entries<'s, 'b> {
             end: header.end,
             place: at,
             pending: &[],
-            size: Some(0),
+            passing: None,
+            reading: None,
+            taken: 0,
             depth: 0,
         })
     }
 
+    #[inline(always)]
     fn behind_pending(&self) -> Option<usize>
         ensures value { result ≡ passed self.now.pending self.now.source.encoding self.now.source.base self.now.source.section self.now.place }
         ensures within { IfSome result (λ n. (self.now.place ≤ n) × (self.now.place ≤ length self.now.source.section.bytes → n ≤ length self.now.source.section.bytes)) }
     {
-        if let Some(size) = self.size {
-            return over(size, self.section.bytes, self.place);
+        if let Some(runs) = self.passing {
+            return passed_by(
+                &runs.runs,
+                runs.tail,
+                self.encoding,
+                &self.section,
+                self.place,
+            );
         }
         passed(
             self.pending,
@@ -138,7 +153,8 @@ impl<'s, 'b> Entries<'s, 'b> {
 
     /// The next entry, behind what was not read of the last one; None exactly at the unit's end. InvalidDwarf exactly
     /// where no entry can be read, and then nothing has changed.
-    #[tactic(auto, unfolding(crate::specs::Walks::next_of, crate::specs::Walks::entry_from, crate::specs::Attributes::passed, crate::specs::Sizes::size_together))]
+    #[inline(always)]
+    #[tactic(auto, unfolding(crate::specs::Walks::next_of, crate::specs::Walks::entry_from, crate::specs::Attributes::passed))]
     pub fn next_entry(&mut self) -> Result<Option<Entry>>
         ensures value { Steps (λ e. e) (next_of self.old) self.old result self.new }
         ensures source { self.new.source ≡ self.old.source }
@@ -151,7 +167,8 @@ impl<'s, 'b> Entries<'s, 'b> {
         if at >= self.end {
             self.place = at;
             self.pending = &[];
-            self.size = Some(0);
+            self.passing = None;
+            self.reading = None;
             return Ok(None);
         }
         let Some((code, next)) = uleb_at(self.section.bytes, at) else {
@@ -161,7 +178,8 @@ impl<'s, 'b> Entries<'s, 'b> {
         if code == 0 {
             self.place = next;
             self.pending = &[];
-            self.size = Some(0);
+            self.passing = None;
+            self.reading = None;
             self.depth = depth.saturating_sub(1);
             return Ok(Some(Entry {
                 place: at,
@@ -176,7 +194,9 @@ impl<'s, 'b> Entries<'s, 'b> {
         };
         self.place = next;
         self.pending = abbreviation.attributes();
-        self.size = abbreviation.size_in(self.encoding);
+        self.passing = abbreviation.passing(self.encoding);
+        self.reading = abbreviation.reading(self.encoding);
+        self.taken = 0;
         self.depth = depth_behind(depth, abbreviation.children);
         Ok(Some(Entry {
             place: at,
@@ -215,13 +235,50 @@ impl<'s, 'b> Entries<'s, 'b> {
         };
         self.place = next;
         self.pending = &self.pending[1..];
-        self.size = None;
+        self.passing = None;
+        self.reading = None;
         Ok(value)
+    }
+
+    /// The next attribute of the entry that tells what a function or an inlined call is, with its name, and None where
+    /// none is left: its names (`DW_AT_name`, `DW_AT_linkage_name`, `DW_AT_MIPS_linkage_name`), where they stand
+    /// (`DW_AT_abstract_origin`, `DW_AT_specification`), what it covers (`DW_AT_low_pc`, `DW_AT_high_pc`,
+    /// `DW_AT_ranges`), and where it is called (`DW_AT_call_file`, `DW_AT_call_line`, `DW_AT_call_column`). Those before
+    /// it are passed over. InvalidDwarf exactly where it or one of them has no value, and then nothing has changed.
+    #[tactic(auto, unfolding(crate::specs::Wanted::wanted_of))]
+    pub fn next_wanted(&mut self) -> Result<Option<(u64, AttrValue)>>
+        ensures value { Steps (λ w. w) (wanted_of self.old) self.old result self.new }
+        ensures left { IfOk result (λ w. MatchOption w (self.new.pending ≡ []) (λ _. length self.new.pending < length self.old.pending)) }
+        ensures depth { self.new.depth ≡ self.old.depth }
+        ensures source { self.new.source ≡ self.old.source }
+        ensures ahead { self.old.place ≤ self.new.place }
+    {
+        let Some(met) = next_wanted(
+            self.reading,
+            self.taken,
+            self.pending,
+            self.encoding,
+            self.base,
+            &self.section,
+            self.place,
+        ) else {
+            return Err(invalid("an attribute is not whole or its form is not known"));
+        };
+        self.place = met.place;
+        self.pending = &self.pending[met.count..];
+        self.passing = None;
+        if met.runs == 0 {
+            self.reading = None;
+            return Ok(met.found);
+        }
+        self.taken = met.runs;
+        Ok(met.found)
     }
 
     /// Passes over the attributes of the entry that were not read. InvalidDwarf exactly where one has no value, and then
     /// nothing has changed.
-    #[tactic(auto, unfolding(crate::specs::Walks::skipped_of, crate::specs::Sizes::size_together))]
+    #[inline(always)]
+    #[tactic(auto, unfolding(crate::specs::Walks::skipped_of))]
     pub fn skip_attributes(&mut self) -> Result<()>
         ensures value { Steps (λ _. tt) (skipped_of self.old) self.old result self.new }
         ensures source { self.new.source ≡ self.old.source }
@@ -232,7 +289,68 @@ impl<'s, 'b> Entries<'s, 'b> {
         };
         self.place = at;
         self.pending = &[];
-        self.size = Some(0);
+        self.passing = None;
+        self.reading = None;
         Ok(())
+    }
+
+    /// The place behind the attributes of an entry, where the sizes of the unit tell it.
+    #[inline(always)]
+    fn behind_ready(&self, abbreviation: &Abbreviation, at: usize) -> Option<usize>
+        ensures value { IfSome result (λ n. passed abbreviation.now.specs self.now.source.encoding self.now.source.base self.now.source.section at ≡ Some n) }
+        ensures within { IfSome result (λ n. (at ≤ n) × (at ≤ length self.now.source.section.bytes → n ≤ length self.now.source.section.bytes)) }
+    {
+        let runs = abbreviation.passing(self.encoding)?;
+        let list = runs.runs.as_slice();
+        // most entries have attributes of fixed sizes alone
+        if list.is_empty() {
+            return over(runs.tail, self.section.bytes, at);
+        }
+        passed_by(list, runs.tail, self.encoding, &self.section, at)
+    }
+
+    /// The place and the depth behind the entry at a place, where it is passed over and its size is known.
+    #[inline(always)]
+    #[tactic(auto, unfolding(crate::specs::Passing::past_one, crate::specs::Walks::next_of, crate::specs::Walks::entry_from, crate::specs::Walks::skipped_of, crate::specs::Attributes::passed))]
+    fn past(&self, passing: Passing, tag: u64, at: usize, depth: usize) -> Option<(usize, usize)>
+        requires { depth ≤ at }
+        ensures value { IfSome result (λ r. past_one passing tag (record { source = self.now.source; place = at; pending = []; depth = depth }) ≡ Some (record { source = self.now.source; place = r.0; pending = []; depth = r.1 })) }
+        ensures ahead { IfSome result (λ r. (at < r.0) × (r.0 ≤ self.now.source.end) × (r.1 ≤ r.0)) }
+    {
+        if at >= self.end {
+            return None;
+        }
+        let (code, next) = uleb_at(self.section.bytes, at)?;
+        if code == 0 {
+            if !passing.takes(tag, 0, false) {
+                return None;
+            }
+            return Some((next, depth.saturating_sub(1)));
+        }
+        let abbreviation = self.abbreviations.get(code)?;
+        if !passing.takes(tag, abbreviation.tag, !abbreviation.children) {
+            return None;
+        }
+        let behind = self.behind_ready(abbreviation, next)?;
+        Some((behind, depth_behind(depth, abbreviation.children)))
+    }
+
+    /// Passes over entries that are not looked at, where another tag is sought, as far as their sizes are known; how many
+    /// these are is not told.
+    pub fn pass_over(&mut self, passing: Passing, tag: u64)
+        requires { self.old.pending ≡ [] }
+        ensures passed { (n : ℕ) × (past n passing tag self.old ≡ Some self.new) }
+        ensures source { self.new.source ≡ self.old.source }
+        ensures pending { self.new.pending ≡ [] }
+        ensures ahead { self.old.place ≤ self.new.place }
+    {
+        let mut place = self.place;
+        let mut depth = self.depth;
+        while let Some((next, deep)) = self.past(passing, tag, place, depth) {
+            place = next;
+            depth = deep;
+        }
+        self.place = place;
+        self.depth = depth;
     }
 }

@@ -5,7 +5,7 @@ ghost use Rattle.blz_error.specs.declared.kind.ErrorKind.TheVariants.{InvalidDwa
 use blz_error::{Error, ErrorKind, Str};
 
 /// The error of kind InvalidDwarf with a text that says what is broken.
-pub(crate) fn invalid(text: &'static str) -> Error
+pub fn invalid(text: &'static str) -> Error
     ensures { result.kind ≡ InvalidDwarf }
 {
     Error::new(ErrorKind::InvalidDwarf, Str::fixed(text))

@@ -12,10 +12,10 @@ use crate::fault::invalid;
 use crate::field::address_at;
 use crate::root::UnitRoot;
 use crate::section::{Section, Sections};
-use crate::span::Span;
 use crate::units::UnitHeader;
 use blz_bytes::{u8_at, uleb_at};
 use blz_error::Result;
+use blz_ranges::Span;
 
 /// An entry of a list of ranges.
 #[derive(Clone, Copy)]

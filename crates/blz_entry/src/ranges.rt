@@ -10,10 +10,10 @@ use crate::field::indexed_offset;
 use crate::range_list::{append_list, put};
 use crate::root::UnitRoot;
 use crate::section::Sections;
-use crate::span::Span;
 use crate::units::UnitHeader;
 use crate::value::AttrValue;
 use blz_error::Result;
+use blz_ranges::Span;
 
 /// The attributes of an entry that tell which addresses it covers (DWARF 5 section 2.17).
 #[derive(Clone, Copy, Default)]

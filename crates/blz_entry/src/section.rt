@@ -3,8 +3,8 @@
 ghost use Rattle.std.specs.Prelude.{◌≡◌, ◌≤◌, length};
 ghost use Rattle.blz_entry.specs.Contents.{section_view, cut};
 
-use blz_elf::RelocationMap;
 use blz_model::ByteOrder;
+use blz_moves::RelocationMap;
 
 /// The bytes of a section, its relocations and the byte order of its file.
 #[derive(Clone, Copy)]

@@ -7,3 +7,4 @@ mod indexes;
 mod ranges;
 mod samples;
 mod small;
+mod wanted;

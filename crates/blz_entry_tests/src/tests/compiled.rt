@@ -3,10 +3,10 @@ ghost use Rattle.std.specs.Prelude.{◌≡◌};
 
 use super::samples::{LINE_STR, SAMPLES, Sample};
 use super::small::{no_sections, section};
-use blz_elf::RelocationMap;
 use blz_entry::{
     Abbreviations, AttrValue, Sections, Span, StrPart, StrPlace, UnitHeaders, UnitRoot, list_unit,
 };
+use blz_moves::RelocationMap;
 use std::alloc::Global;
 use std::test::Fail;
 

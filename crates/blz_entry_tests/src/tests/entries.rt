@@ -1,7 +1,7 @@
 //! Entries one after the other.
 use super::small::{header, no_sections, section};
-use blz_elf::RelocationMap;
 use blz_entry::{Abbreviations, AttrValue, Entries, Sections, UnitHeader};
+use blz_moves::RelocationMap;
 use std::test::Fail;
 
 #[test]

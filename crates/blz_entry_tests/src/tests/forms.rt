@@ -1,10 +1,10 @@
 //! The values of forms (DWARF 5 section 7.5.6).
 use super::small::{header, no_sections, section};
-use blz_elf::RelocationMap;
 use blz_entry::{
     Abbreviations, AttrValue, Entries, Section, Sections, StrPart, StrPlace, UnitHeader, form_value,
 };
 use blz_model::ByteOrder;
+use blz_moves::RelocationMap;
 use std::test::Fail;
 
 const NUMBERS: &[u8] = b"\x83\x01\0\0\0\0\0\0\0\0\0\0\0\0\0\0";

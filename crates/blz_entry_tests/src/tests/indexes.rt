@@ -1,11 +1,11 @@
 //! Strings, addresses and lists of ranges that are found by their index.
 use super::small::{header, no_sections, root, section};
-use blz_elf::RelocationMap;
 use blz_entry::{
     AttrValue, RangeAttributes, Sections, StrPart, StrPlace, Texts, UnitHeader, address,
     attr_ranges_offset, attr_string, supplementary_string,
 };
 use blz_error::ErrorKind;
+use blz_moves::RelocationMap;
 use std::test::Fail;
 
 const STRINGS: &[u8] = b"\0ab\0cde\0";

@@ -1,7 +1,7 @@
 //! Lists of ranges, and sets of address ranges.
 use super::small::{header, no_sections, root, section};
-use blz_elf::RelocationMap;
 use blz_entry::{Aranges, RangeAttributes, Sections, Span};
+use blz_moves::RelocationMap;
 use std::test::Fail;
 
 #[test]

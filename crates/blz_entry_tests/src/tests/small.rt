@@ -1,9 +1,9 @@
 //! Small sections and units.
 ghost use Rattle.std.specs.Prelude.{◌≡◌};
 
-use blz_elf::RelocationMap;
 use blz_entry::{RangeAttributes, Section, Sections, UnitHeader, UnitKind, UnitRoot};
 use blz_model::ByteOrder;
+use blz_moves::RelocationMap;
 
 /// Bytes in the little-endian order.
 pub fn section<'s, 'b>(bytes: &'b [u8], moves: &'s RelocationMap) -> Section<'s, 'b> {

@@ -5,7 +5,7 @@ use Rattle.blz_entry.specs.Marks.{or_invalid}
 use Rattle.blz_entry.specs.AbbreviationTables.{abbreviations, table_in}
 use Rattle.blz_entry.proofs.Marked.{marks, marks_on, good_some, is_none}
 use Rattle.blz_entry.proofs.AbbreviationSteps.{table_more, table_last, table_none, table_again, table_stops, table_end, past_the_end}
-use Rattle.blz_entry.proofs.abbreviations.Abbreviations.parse.Goals as goal
+use Rattle.blz_entry.proofs.abbreviations.Abbreviations.parse_for.Goals as goal
 
 pub returns-then-at-abbrev : goal.returns-then-at-abbrev
 unfolding abbreviations

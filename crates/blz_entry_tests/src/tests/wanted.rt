@@ -1,0 +1,101 @@
+//! The attributes of an entry that tell what a function or an inlined call is.
+use super::small::{header, no_sections, section};
+use blz_entry::{
+    Abbreviations, AttrValue, Encoding, Entries, Sections, StrPart, StrPlace, UnitHeader,
+};
+use blz_moves::RelocationMap;
+use std::alloc::Global;
+use std::process::Abort;
+use std::test::Fail;
+
+// DW_AT_external, name, decl_line, frame_base, low_pc, high_pc, call_line (an implicit constant of 9) and object_pointer
+// of a subprogram, and of a variable
+const TABLE: &[u8] =
+    b"\x01\x2e\0\x3f\x19\x03\x08\x3b\x0b\x40\x18\x11\x01\x12\x06\x59\x21\x09\x64\x13\0\0\x02\x34\0\x3f\x19\x03\x08\x3b\x0b\x40\x18\x11\x01\x12\x06\x59\x21\x09\x64\x13\0\0\0";
+
+const INFO: &[u8] =
+    b"\x01f\0\x05\x01\x9c\0\x10\0\0\0\0\0\0\x20\0\0\0\0\0\0\0\x02g\0\x05\x01\x9c\0\x10\0\0\0\0\0\0\x20\0\0\0\0\0\0\0";
+
+fn wanted(alloc: Global, entries: &mut Entries<'_, '_>) -> Result<Vec<(u64, AttrValue)>, Fail> {
+    let mut found = Vec::new(alloc);
+    for _ in 0..8 {
+        let Some(attribute) = entries.next_wanted()? else {
+            return Ok(found);
+        };
+        found.push(attribute)?;
+    }
+    Ok(found)
+}
+
+fn told(start: usize) -> [(u64, AttrValue); 4] {
+    let name = StrPlace {
+        part: StrPart::Info,
+        start,
+        len: 1,
+    };
+    [
+        (0x03, AttrValue::Text(name)),
+        (0x11, AttrValue::Addr(0x1000)),
+        (0x12, AttrValue::Const(0x20)),
+        (0x59, AttrValue::Signed(9)),
+    ]
+}
+
+// both entries by a table that is read for one encoding
+fn same_values(rt: &impl Abort, alloc: Global, version: u16) -> Result<(), Fail> {
+    let moves = RelocationMap::new(alloc);
+    let sections = Sections {
+        info: section(INFO, &moves),
+        ..no_sections(&moves)
+    };
+    let encoding = Encoding {
+        version,
+        wide: false,
+        address_size: 8,
+    };
+    let abbreviations = Abbreviations::parse_for(alloc, TABLE, 0, encoding)?;
+    let unit = UnitHeader {
+        end: 44,
+        ..header(5)
+    };
+    let mut entries = Entries::new(sections, unit, &abbreviations, 0)?;
+    for place in [0, 22] {
+        let entry = entries.next_entry()?.ok_or("an entry")?;
+        assert_eq!(rt; entry.place, place);
+        let found = wanted(alloc, &mut entries)?;
+        assert_eq!(rt; found.as_slice(), told(place + 1).as_slice());
+    }
+    assert!(rt; entries.next_entry()?.is_none());
+    Ok(())
+}
+
+#[test]
+fn wanted_attributes_are_those_of_the_entry_whatever_the_table_is_ready_for(
+    rt: HostRuntime,
+) -> Result<(), Fail> {
+    same_values(&rt, rt.alloc(), 5)?;
+    same_values(&rt, rt.alloc(), 4)
+}
+
+#[test]
+fn an_entry_of_which_some_was_read_is_passed_over(rt: HostRuntime) -> Result<(), Fail> {
+    let moves = RelocationMap::new(rt.alloc());
+    let sections = Sections {
+        info: section(INFO, &moves),
+        ..no_sections(&moves)
+    };
+    let abbreviations = Abbreviations::parse(rt.alloc(), TABLE, 0)?;
+    let unit = UnitHeader {
+        end: 44,
+        ..header(5)
+    };
+    let mut entries = Entries::new(sections, unit, &abbreviations, 0)?;
+    entries.next_entry()?.ok_or("an entry")?;
+    entries.next_wanted()?.ok_or("a name")?;
+    entries.next_wanted()?.ok_or("an address")?;
+    let spec = *entries.pending().first().ok_or("an attribute")?;
+    assert_eq!(rt; spec.name, 0x12);
+    let second = entries.next_entry()?.ok_or("a second entry")?;
+    assert_eq!(rt; second.place, 22);
+    Ok(())
+}
