@@ -1,10 +1,5 @@
 pub mod ProgramSteps
 pub mod TableSteps
-pub mod BestOf
-pub mod Backward
-pub mod Carried
-pub mod Made
 pub mod AllFiles
 pub mod RowsUpTo
 pub mod RisingRows
-pub mod Scanning

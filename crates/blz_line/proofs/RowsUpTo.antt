@@ -4,12 +4,6 @@ use Rattle.std.specs.List.Sorted.{IsPartitionPoint}
 use Rattle.blz_line.specs.declared.row.LineRow.{LineRow}
 use Rattle.blz_line.specs.Lookups.{row_at, later_row}
 
-abbrev UpTo : ℕ → LineRow → Type 0
-UpTo a row = leb row.address a ≡ true
-
-abbrev Above : ℕ → LineRow → Type 0
-Above a row = leb row.address a ≡ false
-
 abbrev pub PartsAt : List LineRow → ℕ → ℕ → Type 0
 PartsAt rows a count = IsPartitionPoint (λ (row : LineRow). leb row.address a ≡ true) (λ (row : LineRow). leb row.address a ≡ false) rows count
 

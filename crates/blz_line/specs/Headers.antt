@@ -1,5 +1,5 @@
 -- Headers of line number programs (DWARF 5 section 6.2.4).
-use Rattle.std.specs.Prelude.{ℕ, ◌+◌, ◌-◌, Bool, true, false, ◌||◌, ◌&&◌, not, length, take, Option, Some, None, ◌==◌, nat_lt, nat_le, if◌then◌else◌, ℤ, pos, ◌-ℤ◌}
+use Rattle.std.specs.Prelude.{ℕ, ◌+◌, ◌-◌, Bool, ◌&&◌, not, length, Option, Some, None, ◌==◌, nat_lt, nat_le, if◌then◌else◌, ℤ, pos, ◌-ℤ◌}
 use Rattle.blz_model.specs.Reads.{Read, ◌>>=◌, passed_over}
 use Rattle.blz_bytes.specs.Pieces.{byte}
 use Rattle.blz_entry.specs.Contents.{Contents, cut, number_at, offset_len}

@@ -7,8 +7,6 @@ pub mod Opcodes
 pub mod Registers
 pub mod Sequences
 pub mod Program
-pub mod Best
-pub mod RunningEnds
 pub mod FileNames
 pub mod NamingView
 pub mod UnitLines

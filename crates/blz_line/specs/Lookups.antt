@@ -3,12 +3,12 @@ use Rattle.std.specs.Prelude.{ℕ, List, [], ◌∷◌, map, Option, Some, None,
 use Rattle.blz_error.specs.declared.kind.ErrorKind.TheVariants.{InvalidDwarf}
 use Rattle.blz_model.specs.Part.{Part, Good, ◌>>=◌, or_mark}
 use Rattle.blz_model.specs.Answers.{Site}
-use Rattle.blz_entry.specs.declared.span.Span.{Span}
+use Rattle.blz_ranges.specs.declared.span.Span.{Span}
 use Rattle.blz_entry.specs.declared.text.Texts.{Texts}
 use Rattle.blz_line.specs.declared.row.LineRow.{LineRow}
 use Rattle.blz_line.specs.declared.lines.Location.{Location}
 use Rattle.blz_line.specs.Sequences.{Sequence}
-use Rattle.blz_line.specs.Best.{best_at}
+use Rattle.blz_ranges.specs.Best.{best}
 use Rattle.blz_line.specs.FileNames.{file_text}
 use Rattle.blz_line.specs.UnitLines.{LineTable}
 
@@ -21,7 +21,7 @@ spans_of sequences = map span_of sequences
 
 -- of those that cover an address the one with the greatest start, then the earlier
 abbrev pub best_sequence : List Sequence → ℕ → Option Sequence
-best_sequence sequences a = option_and_then (λ place. slice_get sequences place) (best_at (spans_of sequences) a)
+best_sequence sequences a = option_and_then (λ place. slice_get sequences place) (best (spans_of sequences) a)
 
 abbrev pub later_row : Option LineRow → LineRow → ℕ → Option LineRow
 later_row None row a = if nat_le row.address a then Some row else None

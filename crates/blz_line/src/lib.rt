@@ -2,7 +2,6 @@
 //! (DWARF 5 section 6.2).
 #![tactic(auto)]
 
-mod best;
 mod broken;
 mod files;
 mod formats;
@@ -11,7 +10,6 @@ mod lines;
 mod lookup;
 mod naming;
 mod opcode;
-mod order;
 mod paths;
 mod program;
 mod registers;

@@ -1,10 +1,10 @@
 //! The line table of a unit, and the line of an address in it.
-ghost use Rattle.std.specs.Prelude.{◌≡◌, ◌≤◌, length, slice_get, Option, Some, None, IfOk, IfSome, true};
+ghost use Rattle.std.specs.Prelude.{◌≡◌, ◌≤◌, length, map, slice_get, Option, Some, None, IfOk, IfSome, true};
 ghost use Rattle.std.specs.Option.{option_map};
 ghost use Rattle.blz_error.specs.declared.kind.ErrorKind.TheVariants.{InvalidDwarf};
 ghost use Rattle.blz_model.specs.Part.{Gives, Exactly, or_mark};
-ghost use Rattle.blz_line.specs.Best.{best_at};
-ghost use Rattle.blz_line.specs.RunningEnds.{IsAccepted, IsIndexIf};
+ghost use Rattle.blz_ranges.specs.Best.{best};
+ghost use Rattle.blz_ranges.specs.Keyed.{IsAccepted, begin_key};
 ghost use Rattle.blz_line.specs.FileNames.{file_text};
 ghost use Rattle.blz_line.specs.HeaderFacts.{IsInside, IsReady};
 ghost use Rattle.blz_line.specs.Headers.{rules_of};
@@ -16,14 +16,14 @@ ghost use Rattle.blz_line.specs.UnitLines.{LineTable, OrderedLines, program_of, 
 use crate::broken::broken;
 use crate::files::{Files, file_text};
 use crate::header::{LineHeader, header_at};
-use crate::lookup::{row_at, scan, spans_of};
+use crate::lookup::{row_at, spans_of};
 use crate::naming::Namer;
-use crate::order::{Ordered, first_places, in_order, keys_of, search};
 use crate::program::{Machine, run};
 use crate::row::{LineRow, LineSequence};
-use blz_bytes::{DirPath, Orders, check_pairs};
+use blz_bytes::{DirPath, Orders};
 use blz_entry::{Sections, Texts, UnitHeader, UnitRoot, cut};
 use blz_error::Result;
+use blz_ranges::RangeIndex;
 use std::alloc::{AllocError, Global};
 use std::marker::Model;
 
@@ -45,8 +45,7 @@ pub struct Location<'b> {
 pub struct Lines {
     sequences: Vec<LineSequence>,
     files: Files,
-    order: Vec<Ordered>,
-    ordered: bool,
+    index: RangeIndex,
 }
 
 impl Model for Lines {
@@ -126,22 +125,15 @@ impl Lines {
     ) -> std::result::Result<Lines, AllocError>
         requires { AreRising (table_view table).sequences }
         ensures table { IfOk result (λ l. l.table ≡ table_view table) }
-        ensures accepted { IfOk result (λ l. IsAccepted (O.pair_places orders.old) (spans_of l.table.sequences) l.ordered) }
-        ensures pairs_stay { O.pair_places orders.new ≡ O.pair_places orders.old }
-        ensures names_stay { O.name_places orders.new ≡ O.name_places orders.old }
+        ensures accepted { IfOk result (λ l. IsAccepted O.pair_places (map begin_key (spans_of l.table.sequences)) l.ordered) }
     {
         let Unordered { sequences, files } = table;
         let spans = spans_of(alloc, sequences.as_slice())?;
-        let keys = keys_of(alloc, spans.as_slice())?;
-        let mut places = first_places(alloc, spans.len())?;
-        orders.by_pair(keys.as_slice(), places.as_mut_slice());
-        let ordered = check_pairs(keys.as_slice(), places.as_slice());
-        let order = in_order(alloc, spans.as_slice(), places.as_slice(), ordered)?;
+        let index = RangeIndex::build(alloc, orders, spans)?;
         Ok(Lines {
             sequences,
             files,
-            order,
-            ordered,
+            index,
         })
     }
 
@@ -155,9 +147,7 @@ impl Lines {
         root: &UnitRoot,
     ) -> Result<Option<Lines>>
         ensures value { Gives (λ lines. option_map (λ (l : OrderedLines). l.table) lines) result (lines_of sections.now header.now root.now) }
-        ensures accepted { IfOk result (λ lines. IfSome lines (λ (l : OrderedLines). IsAccepted (O.pair_places orders.old) (spans_of l.table.sequences) l.ordered)) }
-        ensures pairs_stay { O.pair_places orders.new ≡ O.pair_places orders.old }
-        ensures names_stay { O.name_places orders.new ≡ O.name_places orders.old }
+        ensures accepted { IfOk result (λ lines. IfSome lines (λ (l : OrderedLines). IsAccepted O.pair_places (map begin_key (spans_of l.table.sequences)) l.ordered)) }
     {
         let Some(at) = root.line else {
             return Ok(None);
@@ -165,6 +155,13 @@ impl Lines {
         let table = table_at(alloc, sections, header, root, at)?;
         let lines = Lines::new(alloc, orders, table)?;
         Ok(Some(lines))
+    }
+
+    /// Whether the order of the sequences was accepted.
+    pub fn is_ordered(&self) -> bool
+        ensures { result ≡ self.now.ordered }
+    {
+        self.index.is_ordered()
     }
 
     /// The sequences, in the order of the program.
@@ -184,13 +181,9 @@ impl Lines {
     }
 
     fn best_place(&self, probe: u64) -> Option<usize>
-        ensures { result ≡ best_at (spans_of self.now.table.sequences) probe }
+        ensures { result ≡ best (spans_of self.now.table.sequences) probe }
     {
-        if self.ordered {
-            search(self.order.as_slice(), probe)
-        } else {
-            scan(self.sequences.as_slice(), probe)
-        }
+        self.index.find(probe)
     }
 
     fn row_in(&self, probe: u64) -> Option<LineRow>

@@ -1,11 +1,11 @@
 //! Small line tables, with the rows that the standard or another reader gives for them.
 use blz_bytes::{AsTheyStand, ByteOrder};
-use blz_elf::RelocationMap;
 use blz_entry::{
     RangeAttributes, Section, Sections, StrPart, StrPlace, Texts, UnitHeader, UnitKind, UnitRoot,
 };
 use blz_error::{ErrorKind, Result};
 use blz_line::{LineHeader, LineRow, Lines};
+use blz_moves::RelocationMap;
 use std::alloc::Global;
 use std::test::Fail;
 
