@@ -1,5 +1,5 @@
 -- A search over an accepted order answers by the symbol rule.
-use Rattle.std.proofs.Common.{◌≡◌, ◌≢◌, ◌⊎◌, inl, inr, ℕ, ◌+◌, ◌-◌, ◌<◌, ◌≤◌, Bool, true, false, ◌&&◌, List, length, get_or, filter, Some, None, refl, sym, ap, subst, ◌∙◌, arith, eqb, leb}
+use Rattle.std.proofs.Common.{◌≡◌, ◌≢◌, ◌⊎◌, inl, inr, ℕ, ◌+◌, ◌-◌, ◌<◌, ◌≤◌, Bool, true, false, ◌&&◌, List, length, get_or, filter, Some, None, refl, sym, ap, ◌∙◌, arith, eqb, leb}
 use Rattle.std.specs.Prelude.{nat_le}
 use Rattle.std.proofs.lemmas.Bool.{eqb-true, leb-true, eq-eqb}
 use Rattle.std.proofs.lemmas.Bool.Decides.{nat_tests, eqb_tells, leb_tells}
@@ -11,6 +11,7 @@ use Rattle.blz_elf.specs.declared.question.Question.{Question}
 use Rattle.blz_elf.specs.SymbolTables.{Symbol}
 use Rattle.blz_elf.specs.SymbolRule.{is_typed, is_candidate, may_answer, answers, covering, greatest, largest}
 use Rattle.blz_elf.specs.Accepted.{Before, no_symbol, at_place, IsAccepted, IsKey, AreKeys, SplitsAt, SplitsBelow}
+use Rattle.blz_elf.specs.Needed.{IsSearchable}
 use Rattle.blz_elf.proofs.Greatest.{Passes, greatest_is, largest_is, none_pass, filter_within, each_passes}
 
 -- ---- from the keys to the symbols
@@ -29,26 +30,37 @@ accepted keys xs places are order = record {
     within : (k : ℕ) → k < length places → get_or places k 0 < length keys
     within k lt = order.each.within k (get_or places k 0) (slice_get-get_or places k 0 lt)
 
+-- the place of a symbol
+pub record PlacedAt (places : List ℕ) (i : ℕ) : Type 0 where
+  pub at : ℕ
+  pub inside : at < length places
+  pub is : get_or places at 0 ≡ i
+
+pub placed_at : (xs : List Symbol) (places : List ℕ) → IsAccepted xs places → (i : ℕ) → i < length xs → PlacedAt places i
+placed_at xs places a i lt =
+    let s = a.every i lt in
+    record { at = s.at; inside = slice_get_within places s.at i s.is; is = get_or_from_slice_get places s.at i 0 s.is }
+
 -- ---- tests
 
-both : (a b : Bool) → (a && b) ≡ true → (a ≡ true) × (b ≡ true)
+pub both : (a b : Bool) → (a && b) ≡ true → (a ≡ true) × (b ≡ true)
 both true true e = (refl, refl)
 both true false e = absurd cc
 both false b e = absurd cc
 
-together : (a b : Bool) → a ≡ true → b ≡ true → (a && b) ≡ true
+pub together : (a b : Bool) → a ≡ true → b ≡ true → (a && b) ≡ true
 together true b p q = q
 together false b p q = absurd cc
 
 answers_true : (q : Question) (g : ℕ) (s : Symbol) → is_candidate q.addr s ≡ true → s.value ≡ g → may_answer q s ≡ true → answers q g s ≡ true
 answers_true q g s c v m = together (is_candidate q.addr s && eqb s.value g) (may_answer q s) (together (is_candidate q.addr s) (eqb s.value g) c (eq-eqb s.value g v)) m
 
-record Answering (q : Question) (g : ℕ) (s : Symbol) : Type 0 where
-  candidate : is_candidate q.addr s ≡ true
-  value : s.value ≡ g
-  may : may_answer q s ≡ true
+pub record Answering (q : Question) (g : ℕ) (s : Symbol) : Type 0 where
+  pub candidate : is_candidate q.addr s ≡ true
+  pub value : s.value ≡ g
+  pub may : may_answer q s ≡ true
 
-answers_of : (q : Question) (g : ℕ) (s : Symbol) → answers q g s ≡ true → Answering q g s
+pub answers_of : (q : Question) (g : ℕ) (s : Symbol) → answers q g s ≡ true → Answering q g s
 answers_of q g s e =
     let h = both (is_candidate q.addr s && eqb s.value g) (may_answer q s) e in
     let c = both (is_candidate q.addr s) (eqb s.value g) h.0 in
@@ -65,29 +77,21 @@ candidate_of addr s e = let h = both (is_typed s) (nat_le s.value addr) e in leb
 abbrev pub AllTyped : List Symbol → Type 0
 AllTyped xs = (i : ℕ) → i < length xs → is_typed (get_or xs i no_symbol) ≡ true
 
-abbrev Named : List ℕ → ℕ → Type 0
-Named xs q = (k : ℕ) × (k < length xs) × (get_or xs k 0 ≡ q)
-
-named : (xs : List Symbol) (places : List ℕ) → IsAccepted xs places → (i : ℕ) → i < length xs → Named places i
-named xs places a i lt =
-    let s = a.every i lt in
-    (s.at, slice_get_within places s.at i s.is, get_or_from_slice_get places s.at i 0 s.is)
-
 -- nothing lies at or below the address
-pub nothing_below : (xs : List Symbol) (places : List ℕ) (q : Question) (n : ℕ) → IsAccepted xs places → SplitsAt xs places n q.addr → n ≡ 0 → None ≡ covering q xs
+pub nothing_below : (xs : List Symbol) (places : List ℕ) (q : Question) (n : ℕ) → IsSearchable xs places → SplitsAt xs places n q.addr → n ≡ 0 → None ≡ covering q xs
 unfolding covering
 nothing_below xs places q n a s z = sym (ap largest (none_pass (answers q (greatest (filter (is_candidate q.addr) xs))) xs none))
   where
     none : (i : ℕ) → Passes (answers q (greatest (filter (is_candidate q.addr) xs))) xs i → ⊥
     none i h =
-        let w = named xs places a i h.0 in
+        let w = a.every i h.0 in
         let c = candidate_of q.addr (get_or xs i no_symbol) (answers_of q (greatest (filter (is_candidate q.addr) xs)) (get_or xs i no_symbol) h.1).candidate in
-        let c2 : (at_place xs places w.0).value ≤ q.addr = subst (λ (n : ℕ). (get_or xs n no_symbol).value ≤ q.addr) (sym w.2) c in
-        omega (arith, s.high w.0 (omega arith) w.1)
+        let c2 : (at_place xs places w.at).value ≤ q.addr = rw (w.value) c in
+        omega (arith, s.high w.at (omega arith) w.inside)
 
 -- What is known when the places from `from` up to `to` are tried.
 pub record Searching (xs : List Symbol) (places : List ℕ) (q : Question) (to from : ℕ) : Type 0 where
-  pub accepted : IsAccepted xs places
+  pub accepted : IsSearchable xs places
   pub typed : AllTyped xs
   pub up_to : SplitsAt xs places to q.addr
   pub some : 0 < to
@@ -95,18 +99,6 @@ pub record Searching (xs : List Symbol) (places : List ℕ) (q : Question) (to f
 
 abbrev top_value : List Symbol → List ℕ → ℕ → ℕ
 top_value xs places to = (at_place xs places (to - 1)).value
-
--- a symbol in list order is one in the order's
-record Placed (xs : List Symbol) (places : List ℕ) (i : ℕ) : Type 0 where
-  at : ℕ
-  inside : at < length places
-  is : get_or places at 0 ≡ i
-  same : at_place xs places at ≡ get_or xs i no_symbol
-
-placed : (xs : List Symbol) (places : List ℕ) → IsAccepted xs places → (i : ℕ) → i < length xs → Placed xs places i
-placed xs places a i lt =
-    let w = named xs places a i lt in
-    record { at = w.0; inside = w.1; is = w.2; same = ap (λ (n : ℕ). get_or xs n no_symbol) w.2 }
 
 -- the values up to `to` are at most the last of them
 at_most_top : (xs : List Symbol) (places : List ℕ) (q : Question) (to from : ℕ) → Searching xs places q to from → (k : ℕ) → k < to → (at_place xs places k).value ≤ top_value xs places to
@@ -135,32 +127,35 @@ greatest_here xs places q to from s = greatest_is (is_candidate q.addr) xs (get_
 
     each : (j : ℕ) → Passes (is_candidate q.addr) xs j → (get_or xs j no_symbol).value ≤ top_value xs places to
     each j h =
-        let w = placed xs places s.accepted j h.0 in
-        let le : (at_place xs places w.at).value ≤ q.addr = rw (w.same) (candidate_of q.addr (get_or xs j no_symbol) h.1) in
+        let w = s.accepted.every j h.0 in
+        let le : (at_place xs places w.at).value ≤ q.addr = rw (w.value) (candidate_of q.addr (get_or xs j no_symbol) h.1) in
         let top = at_most_top xs places q to from s w.at (candidate_place xs places q to from s w.at w.inside le) in
-        rw w.same at top
+        rw w.value at top
 
--- a symbol that answers stands between `from` and `to`
+-- for a symbol that answers, a place between `from` and `to` answers too
 record Between (xs : List Symbol) (places : List ℕ) (q : Question) (to from i : ℕ) : Type 0 where
   at : ℕ
-  is : get_or places at 0 ≡ i
-  same : at_place xs places at ≡ get_or xs i no_symbol
   low : from ≤ at
   high : at < to
   value : (at_place xs places at).value ≡ top_value xs places to
+  own : (at_place xs places at).value ≡ (get_or xs i no_symbol).value
   may : may_answer q (at_place xs places at) ≡ true
+  order : (get_or places at 0 ≡ i) ⊎ Before (at_place xs places at) (get_or places at 0) (get_or xs i no_symbol) i
 
 between : (xs : List Symbol) (places : List ℕ) (q : Question) (to from : ℕ) → Searching xs places q to from → (i : ℕ) → Passes (answers q (top_value xs places to)) xs i → Between xs places q to from i
 between xs places q to from s i h =
-    let w = placed xs places s.accepted i h.0 in
-    let a : Answering q (top_value xs places to) (at_place xs places w.at) = rw (w.same) (answers_of q (top_value xs places to) (get_or xs i no_symbol) h.1) in
-    let le = candidate_of q.addr (at_place xs places w.at) a.candidate in
-    let high = candidate_place xs places q to from s w.at w.inside le in
-    record { at = w.at; is = w.is; same = w.same; low = low w a (leb_tells from w.at); high = high; value = a.value; may = a.may }
+    let w = s.accepted.every i h.0 in
+    let a = answers_of q (top_value xs places to) (get_or xs i no_symbol) h.1 in
+    let value : (at_place xs places w.at).value ≡ top_value xs places to = w.value ∙ a.value in
+    let le : (at_place xs places w.at).value ≤ q.addr = rw (w.value) (candidate_of q.addr (get_or xs i no_symbol) a.candidate) in
+    record { at = w.at; low = low w.at value (leb_tells from w.at); high = candidate_place xs places q to from s w.at w.inside le; value = value; own = w.value; may = w.may q a.may; order = w.order }
   where
-    low : (w : Placed xs places i) (a : Answering q (top_value xs places to) (at_place xs places w.at)) → ((leb from w.at ≡ true) × (from ≤ w.at)) ⊎ ((leb from w.at ≡ false) × (w.at < from)) → from ≤ w.at
-    low w a (inl e) = e.1
-    low w a (inr n) = absurd (let v = a.value in omega (arith, s.below.low w.at n.1))
+    low : (at : ℕ) → (at_place xs places at).value ≡ top_value xs places to → ((leb from at ≡ true) × (from ≤ at)) ⊎ ((leb from at ≡ false) × (at < from)) → from ≤ at
+    low at value (inl e) = e.1
+    low at value (inr n) = absurd (omega (arith, s.below.low at n.1))
+
+before_trans : (s : Symbol) (i : ℕ) (t : Symbol) (j : ℕ) (u : Symbol) (k : ℕ) → s.value ≡ t.value → t.value ≡ u.value → Before s i t j → Before t j u k → Before s i u k
+before_trans s i t j u k e f p q = record { by_value = omega arith; by_size = λ g. omega (arith, p.by_size e, q.by_size f); by_place = λ g h. omega (arith, p.by_size e, q.by_size f, p.by_place e, q.by_place f) }
 
 pub search_none : (xs : List Symbol) (places : List ℕ) (q : Question) (to from : ℕ) → Searching xs places q to from → ((k : ℕ) → from ≤ k → k < to → may_answer q (at_place xs places k) ≡ false) → None ≡ covering q xs
 unfolding covering
@@ -192,38 +187,46 @@ search_found xs places q to from m s low high may before = rw (greatest_here xs 
     order : (i : ℕ) (b : Between xs places q to from i) → i ≢ get_or places m 0 → Before (at_place xs places m) (get_or places m 0) (get_or xs i no_symbol) i
     order i b ne = by (leb_tells b.at m)
       where
+        here_or : b.at ≡ m → (get_or places b.at 0 ≡ i) ⊎ Before (at_place xs places b.at) (get_or places b.at 0) (get_or xs i no_symbol) i → Before (at_place xs places m) (get_or places m 0) (get_or xs i no_symbol) i
+        here_or e (inl is) = absurd (ne (sym is ∙ ap (λ (n : ℕ). get_or places n 0) e))
+        here_or e (inr r) = rw e at r
+
+        later_or : m < b.at → (get_or places b.at 0 ≡ i) ⊎ Before (at_place xs places b.at) (get_or places b.at 0) (get_or xs i no_symbol) i → Before (at_place xs places m) (get_or places m 0) (get_or xs i no_symbol) i
+        later_or lt (inl is) = rw (← is) (s.accepted.rising m b.at lt (let h = b.high in omega (arith, s.up_to.inside)))
+        later_or lt (inr r) = before_trans _ _ _ _ _ _ (value ∙ sym b.value) b.own (s.accepted.rising m b.at lt (let h = b.high in omega (arith, s.up_to.inside))) r
+
         by : ((leb b.at m ≡ true) × (b.at ≤ m)) ⊎ ((leb b.at m ≡ false) × (m < b.at)) → Before (at_place xs places m) (get_or places m 0) (get_or xs i no_symbol) i
-        by (inl e) = absurd (ne (sym b.is ∙ ap (λ (n : ℕ). get_or places n 0) (same (eqb_tells b.at m))))
+        by (inl e) = here_or (same (eqb_tells b.at m)) b.order
           where
             same : ((eqb b.at m ≡ true) × (b.at ≡ m)) ⊎ ((eqb b.at m ≡ false) × (b.at ≢ m)) → b.at ≡ m
             same (inl f) = f.1
             same (inr n) = absurd (let f = before b.at b.low (let d = n.1 in let h = e.1 in omega arith) in let t = b.may in cc)
-        by (inr n) = rw (← b.is) (s.accepted.rising m b.at n.1 (let h = b.high in omega (arith, s.up_to.inside)))
+        by (inr n) = later_or n.1 b.order
 
     earlier : (i : ℕ) → i < get_or places m 0 → Passes (answers q (top_value xs places to)) xs i → (get_or xs i no_symbol).size < (at_place xs places m).size
     earlier i lt h =
         let b = between xs places q to from s i h in
         let o = order i b (λ e. omega arith) in
-        let v : (at_place xs places m).value ≡ (get_or xs i no_symbol).value = value ∙ sym b.value ∙ ap (λ (t : Symbol). t.value) b.same in
+        let v : (at_place xs places m).value ≡ (get_or xs i no_symbol).value = value ∙ sym b.value ∙ b.own in
         strictly (at_place xs places m).size (get_or xs i no_symbol).size (get_or places m 0) i (o.by_size v) (o.by_place v) lt
 
     later : (i : ℕ) → get_or places m 0 < i → Passes (answers q (top_value xs places to)) xs i → (get_or xs i no_symbol).size ≤ (at_place xs places m).size
     later i lt h =
         let b = between xs places q to from s i h in
         let o = order i b (λ e. omega arith) in
-        let v : (at_place xs places m).value ≡ (get_or xs i no_symbol).value = value ∙ sym b.value ∙ ap (λ (t : Symbol). t.value) b.same in
+        let v : (at_place xs places m).value ≡ (get_or xs i no_symbol).value = value ∙ sym b.value ∙ b.own in
         o.by_size v
 
 -- ---- the halves of a list whose middle was looked at
 
-pub splits_low : (xs : List Symbol) (places : List ℕ) (m addr k : ℕ) → IsAccepted xs places → k ≤ m → m < length places → (at_place xs places m).value ≤ addr → (at_place xs places k).value ≤ addr
+pub splits_low : (xs : List Symbol) (places : List ℕ) (m addr k : ℕ) → IsSearchable xs places → k ≤ m → m < length places → (at_place xs places m).value ≤ addr → (at_place xs places k).value ≤ addr
 splits_low xs places m addr k a le lt h = by (eqb_tells k m)
   where
     by : ((eqb k m ≡ true) × (k ≡ m)) ⊎ ((eqb k m ≡ false) × (k ≢ m)) → (at_place xs places k).value ≤ addr
     by (inl e) = rw (e.1) h
     by (inr n) = let d = n.1 in let b = (a.rising k m (omega arith) lt).by_value in omega arith
 
-pub splits_high : (xs : List Symbol) (places : List ℕ) (m addr k : ℕ) → IsAccepted xs places → m ≤ k → k < length places → addr < (at_place xs places m).value → addr < (at_place xs places k).value
+pub splits_high : (xs : List Symbol) (places : List ℕ) (m addr k : ℕ) → IsSearchable xs places → m ≤ k → k < length places → addr < (at_place xs places m).value → addr < (at_place xs places k).value
 splits_high xs places m addr k a le lt h = by (eqb_tells m k)
   where
     by : ((eqb m k ≡ true) × (m ≡ k)) ⊎ ((eqb m k ≡ false) × (m ≢ k)) → addr < (at_place xs places k).value

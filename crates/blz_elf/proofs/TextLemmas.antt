@@ -1,7 +1,9 @@
 -- A text is what a search for the zero byte finds.
-use Rattle.std.proofs.Common.{◌≡◌, ℕ, zero, suc, ◌+◌, ◌-◌, ◌<◌, ◌≤◌, Bool, true, false, cond, eqb, List, [], ◌∷◌, length, get_or, take, drop, Option, Some, None, refl, ap, ◌∙◌, arith, length-drop}
+use Rattle.std.proofs.Common.{◌≡◌, ℕ, zero, suc, ◌+◌, ◌-◌, ◌<◌, ◌≤◌, Bool, true, false, cond, eqb, List, [], ◌∷◌, length, get_or, take, drop, Option, Some, None, refl, sym, ap, subst, ◌∙◌, arith, length-drop}
+use Rattle.std.proofs.lemmas.List.{drop-drop}
 use Rattle.std.specs.Option.{option_map}
-use Rattle.std.specs.Str.{is_utf8}
+use Rattle.std.specs.Str.{is_utf8, IsCharBoundary}
+use Rattle.std.proofs.lemmas.Str.{IsUtf8-drop, IsUtf8-from_is_utf8, is_utf8-from_IsUtf8}
 use Rattle.std.proofs.lemmas.Bool.{false_from_ne_true, le-leb}
 use Rattle.blz_error.specs.declared.kind.ErrorKind.TheVariants.{InvalidData, InvalidInput}
 use Rattle.blz_model.specs.Part.{Good, ◌>>=◌, or_mark, check}
@@ -64,3 +66,42 @@ span_of_text table text at s found start len =
     let low : at + length text ≤ length table = omega (arith, h.shorter, length-drop at table) in
     let n : at + length text - at ≡ length text = omega arith in
     rw (start, len, le-leb (at + length text) (length table) low) (ap (λ (k : ℕ). take k (drop at table)) n ∙ h.is)
+
+-- ---- a tail of a name
+
+pub name_utf8 : (table : List ℕ) (at : ℕ) (name : List ℕ) → name_at table at ≡ Good name → is_utf8 name ≡ true
+unfolding name_at
+name_utf8 table at name e = by (text_at table at) e
+  where
+    by : (o : Option (List ℕ)) → (or_mark o InvalidInput >>= λ text. check (is_utf8 text) InvalidData >>= λ utf8. Good text) ≡ Good name → is_utf8 name ≡ true
+    by None e = absurd cc
+    by (Some text) e = utf8 (is_utf8 text) refl e
+      where
+        utf8 : (t : Bool) → is_utf8 text ≡ t → (check t InvalidData >>= λ u. Good text) ≡ Good name → is_utf8 name ≡ true
+        utf8 true h e = let same : text ≡ name = cc in rw (← same) h
+        utf8 false h e = absurd cc
+
+c_string_tail : (bytes text : List ℕ) (k : ℕ) → c_string bytes ≡ Some text → k ≤ length text → c_string (drop k bytes) ≡ Some (drop k text)
+c_string_tail bytes text zero e le = e
+c_string_tail [] text (suc k) e le = absurd cc
+c_string_tail (b ∷ bytes) text (suc k) e le = by (c_string_tail bytes) (eqb b 0) e
+  where
+    more : ((u : List ℕ) (j : ℕ) → c_string bytes ≡ Some u → j ≤ length u → c_string (drop j bytes) ≡ Some (drop j u)) → (o : Option (List ℕ)) → c_string bytes ≡ o → option_map (λ (u : List ℕ). b ∷ u) o ≡ Some text → c_string (drop k bytes) ≡ Some (drop (suc k) text)
+    more tail None is f = absurd cc
+    more tail (Some u) is f =
+        let t : b ∷ u ≡ text = cc in
+        let h : suc k ≤ length (b ∷ u) = subst (λ (v : List ℕ). suc k ≤ length v) (sym t) le in
+        rw (← t) (tail u k is (omega arith))
+
+    by : ((u : List ℕ) (j : ℕ) → c_string bytes ≡ Some u → j ≤ length u → c_string (drop j bytes) ≡ Some (drop j u)) → (t : Bool) → cond t (Some []) (option_map (λ (u : List ℕ). b ∷ u) (c_string bytes)) ≡ Some text → c_string (drop k bytes) ≡ Some (drop (suc k) text)
+    by tail true f = let t : [] ≡ text = cc in let h : suc k ≤ 0 = subst (λ (v : List ℕ). suc k ≤ length v) (sym t) le in absurd (omega arith)
+    by tail false f = more tail (c_string bytes) refl f
+
+pub tail_read : (table name : List ℕ) (from at : ℕ) → name_at table from ≡ Good name → from ≤ at → IsCharBoundary name (at - from) → name_at table at ≡ Good (drop (at - from) name)
+unfolding name_at
+tail_read table name from at e le b =
+    let found = c_string_tail (drop from table) name (at - from) (name_text table from name e) b.0 in
+    let place : from + (at - from) ≡ at = omega arith in
+    let there : text_at table at ≡ Some (drop (at - from) name) = subst (λ (p : ℕ). c_string (drop p table) ≡ Some (drop (at - from) name)) place (ap c_string (sym (drop-drop (at - from) from table)) ∙ found) in
+    let utf8 = is_utf8-from_IsUtf8 (drop (at - from) name) (IsUtf8-drop name (at - from) (IsUtf8-from_is_utf8 name (name_utf8 table from name e)) b) in
+    rw (there, utf8) refl

@@ -10,7 +10,6 @@ pub mod NameRule
 pub mod NameSteps
 pub mod NameOrders
 pub mod Listings
-pub mod Relocations
 pub mod RelocationTables
 pub mod EntryPlaces
 pub mod EntryViews
@@ -19,6 +18,7 @@ pub mod Places
 pub mod Views
 pub mod Frames
 pub mod Accepted
+pub mod Needed
 pub mod Tables
 pub mod CallViews
 pub mod AnswerView

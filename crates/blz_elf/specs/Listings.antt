@@ -9,8 +9,8 @@ use Rattle.blz_elf.specs.Images.{Elf, elf_of}
 use Rattle.blz_elf.specs.Infos.{Info}
 use Rattle.blz_elf.specs.NameRule.{Named, is_of_type, listed_names, info_of}
 use Rattle.blz_elf.specs.declared.question.TableKind.TheVariants.{Symtab, Dynsym}
-use Rattle.blz_elf.specs.declared.visit.Flow.{Flow}
-use Rattle.blz_elf.specs.declared.visit.Flow.TheVariants.{Continue, Break}
+use Rattle.blz_moves.specs.declared.flow.Flow.{Flow}
+use Rattle.blz_moves.specs.declared.flow.Flow.TheVariants.{Continue, Break}
 
 -- the infos before the first mark, and that mark
 pub record Listing : Type 0 where

@@ -9,13 +9,13 @@ use Rattle.blz_elf.specs.declared.format.Class.TheVariants.{Elf32, Elf64}
 use Rattle.blz_elf.specs.declared.format.Format.{Format}
 use Rattle.blz_elf.specs.declared.entries.EntryKind.{EntryKind}
 use Rattle.blz_elf.specs.declared.entries.EntryKind.TheVariants.{Rela, Rel}
-use Rattle.blz_elf.specs.declared.relocation.Relocation.{Relocation}
-use Rattle.blz_elf.specs.declared.relocation.Relocation.TheVariants.{Replaces, Adds}
+use Rattle.blz_moves.specs.declared.relocation.Relocation.{Relocation}
+use Rattle.blz_moves.specs.declared.relocation.Relocation.TheVariants.{Replaces, Adds}
 use Rattle.blz_elf.specs.Formats.{word, word_at, symbol_size, rela_size, rel_size}
 use Rattle.blz_elf.specs.Headers.{Header, header_of}
 use Rattle.blz_elf.specs.Sections.{Section, sections_of, records_of}
 use Rattle.blz_elf.specs.SymbolTables.{Symbol, symbol_at}
-use Rattle.blz_elf.specs.Relocations.{SectionMap, with_relocation}
+use Rattle.blz_moves.specs.Relocations.{SectionMap, with_relocation}
 
 -- an entry: the place of the field, the index of the symbol, and the addend where the entry has one
 pub record Entry : Type 0 where

@@ -12,15 +12,15 @@ use Rattle.blz_elf.specs.declared.sorted.Sorted.{Sorted}
 use Rattle.blz_elf.specs.Formats.{symbol_size}
 use Rattle.blz_elf.specs.Places.{SpanFits, span_in, RowsFit, symbols_in}
 use Rattle.blz_elf.specs.Views.{symbol_view}
-use Rattle.blz_elf.specs.Accepted.{IsAccepted}
+use Rattle.blz_elf.specs.Needed.{IsSearchable}
 
 abbrev pub table_view : List ℕ → Table → symbols.SymbolTable
 table_view image t = record { symbols = symbols_in image t.symbols; strings = span_in image t.strings }
 
--- the symbols of the answered types, and an accepted order of them
+-- the symbols of the answered types, and what a search needs of an accepted order of them
 pub record Sorts (symbols : List symbols.Symbol) (s : Sorted) : Type 0 where
   pub typed : map symbol_view s.typed.items ≡ filter is_typed symbols
-  pub order : IfSome s.order (λ o. IsAccepted (map symbol_view s.typed.items) o.items)
+  pub order : IfSome s.order (λ o. IsSearchable (map symbol_view s.typed.items) o.items)
 
 pub record TableFits (image : List ℕ) (t : Table) : Type 0 where
   pub symbols : RowsFit symbol_size image t.symbols

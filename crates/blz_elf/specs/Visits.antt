@@ -1,12 +1,6 @@
 -- What a visitor was shown, and what the one that collects keeps.
 use Rattle.std.specs.Prelude.{◌≡◌, ℕ, ◌+◌, ◌==◌, ⊤, Bool, true, false, List, [], ◌∷◌, ◌++◌, length, Option, Some, None}
-use Rattle.blz_elf.specs.declared.visit.Flow.{Flow}
-use Rattle.blz_elf.specs.declared.visit.Flow.TheVariants.{Continue, Break}
 use Rattle.blz_elf.specs.Infos.{Info}
-
-abbrev pub is_break : Flow → Bool
-is_break Continue = false
-is_break Break = true
 
 -- where the infos shown are told, there is one more, unless they are told no longer, and then never again
 abbrev pub ShowsOne : Option (List Info) → Option (List Info) → Info → Type 0

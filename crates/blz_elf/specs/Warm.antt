@@ -46,3 +46,7 @@ pub record Fits (image : List ℕ) (w : ElfWarm) : Type 0 where
 -- whether `prepare` filled them
 abbrev pub warm_prepared : ElfWarm → Bool
 warm_prepared w = w.prepared
+
+-- whether the relocations were read
+abbrev pub warm_relocated : ElfWarm → Bool
+warm_relocated w = is_kept w.relocations

@@ -83,6 +83,13 @@ impl<'b> InlinedFns<'b> {
     {
         self.items.as_slice()
     }
+
+    /// The vector of the functions; takes no memory.
+    pub fn into_vec(self) -> Vec<InlinedFn<'b>>
+        ensures { map inlined_view result.items ≡ self.entry }
+    {
+        self.items
+    }
 }
 
 /// A symbol or function, and where the address stands in a source.

@@ -108,13 +108,13 @@ fn entry_at(image: &[u8], at: usize, format: Format, kind: EntryKind) -> Entry
 
 /// The entries of a section.
 #[derive(Drop)]
-pub struct Entries<'b> {
+pub struct RelocationEntries<'b> {
     image: &'b [u8],
     rows: Rows,
     kind: EntryKind,
 }
 
-impl<'b> Model for Entries<'b> {
+impl<'b> Model for RelocationEntries<'b> {
     ghost use Rattle.std.specs.Prelude.{List};
     ghost use Rattle.blz_elf.specs.declared.format.Class.TheVariants.{Elf32};
     ghost use Rattle.blz_elf.specs.EntryPlaces.{entries_in};
@@ -129,13 +129,13 @@ impl<'b> Model for Entries<'b> {
     ghost invariant = { λ t. RowsFit (entry_size t.kind) t.image.now t.rows };
 }
 
-impl<'b> Entries<'b> {
+impl<'b> RelocationEntries<'b> {
     /// The entries at a place.
-    pub fn open(image: &'b [u8], rows: Rows, kind: EntryKind) -> Entries<'b>
+    pub fn open(image: &'b [u8], rows: Rows, kind: EntryKind) -> RelocationEntries<'b>
         requires { RowsFit (entry_size kind) image.now rows }
         ensures { result ≡ entries_in kind image.now rows }
     {
-        Entries { image, rows, kind }
+        RelocationEntries { image, rows, kind }
     }
 
     /// How many they are.

@@ -1,5 +1,5 @@
 //! What is kept, filled and looked at one part at a time.
-ghost use Rattle.std.specs.Prelude.{◌≡◌, true, IfOk};
+ghost use Rattle.std.specs.Prelude.{◌≡◌, true, IfOk, OnErr, OnOk};
 ghost use Rattle.std.specs.Option.{option_map};
 ghost use Rattle.blz_model.specs.Part.{Exactly};
 ghost use Rattle.blz_model.specs.Kept.{Kept, is_kept};
@@ -23,13 +23,13 @@ use crate::image::{Frame, Image};
 use crate::lookup::answer_in;
 use crate::question::{Question, TableKind};
 use crate::relocating::relocations;
-use crate::relocation::SectionRelocations;
 use crate::span::Rows;
 use crate::table::{Table, read_table};
 use crate::warm::ElfWarm;
 use blz_bytes::Orders;
 use blz_error::{Error, ErrorKind, Result, Str};
 use blz_model::{Cache, Reason};
+use blz_moves::SectionRelocations;
 use blz_records::SymType;
 use std::alloc::{AllocError, Global};
 
@@ -54,7 +54,27 @@ pub fn sort_table<O: Orders>(
     Ok(())
 }
 
-/// The same, by the image as it was read.
+/// Sorts the symbols of a table that is kept, from the second question on.
+#[tactic(auto, unfolding(crate::specs::SymbolTables::image_table))]
+pub fn sort_from_second<O: Orders>(
+    alloc: Global,
+    orders: &mut O,
+    image: &[u8],
+    kind: TableKind,
+    table: &mut Cache<Table>,
+) -> std::result::Result<(), AllocError>
+    requires { Kept (TableFits image.now) (table_view image.now) table.old (image_table kind image.now) }
+    ensures kept { Kept (TableFits image.now) (table_view image.now) table.new (image_table kind image.now) }
+    ensures filled { is_kept table.new ≡ is_kept table.old }
+    ensures before { is_sorted table.old ≡ true → is_sorted table.new ≡ true }
+{
+    if let Cache::Value(table) = table {
+        table.sort_from_second(alloc, orders, image)?;
+    }
+    Ok(())
+}
+
+/// Sorts the symbols of a table that is kept, by the image as it was read, where they are not sorted yet.
 pub fn sort_kept<O: Orders>(
     alloc: Global,
     orders: &mut O,
@@ -184,6 +204,7 @@ pub fn fill(warm: &mut ElfWarm, image: &[u8], read: Result<Frame>)
     ensures symtab { is_kept warm.new.symtab ≡ true }
     ensures dynsym { is_kept warm.new.dynsym ≡ true }
     ensures prepared { warm.new.prepared ≡ warm.old.prepared }
+    ensures relocations { warm.new.relocations ≡ warm.old.relocations }
 {
     match read {
         Ok(frame) => {
@@ -214,7 +235,8 @@ pub fn fill_relocations(
     requires rows { Exactly (sections_in image.now) rows (image_sections image.now) }
     requires fits { IfOk rows (RowsFit section_size image.now) }
     ensures kept { Kept (λ _. Unit {0}) (λ m. m) kept.new (image_relocations image.now) }
-    ensures full { IfOk result (λ _. is_kept kept.new ≡ true) }
+    ensures full { OnOk result (is_kept kept.new ≡ true) }
+    ensures before { OnErr result (is_kept kept.new ≡ is_kept kept.old) }
 {
     if let Cache::Empty = kept {
         *kept = relocations_part(alloc, image, header, rows)?;

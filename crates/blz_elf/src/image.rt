@@ -17,7 +17,7 @@ use crate::format::Format;
 use crate::header::{Header, RELOCATABLE};
 use crate::section::{NOBITS, Section, SectionTable, data, names};
 use crate::span::{Rows, Span};
-use crate::text::{bytes_at, name};
+use crate::text::{is_text_at, next_name};
 use blz_error::Result;
 use std::marker::Model;
 
@@ -55,8 +55,9 @@ impl<'b> Model for Image<'b> {
 fn check_names(texts: &[u8], sections: &SectionTable<'_>) -> Result<()>
     ensures { Exactly (λ _. names_in texts.now sections.now) result (names_of texts.now sections.now) }
 {
+    let mut last = None;
     for i in 1..sections.len() {
-        name(texts, sections.at(i).name)?;
+        last = Some(next_name(texts, last, sections.at(i).name)?);
     }
     Ok(())
 }
@@ -99,10 +100,8 @@ impl<'b> Image<'b> {
         ensures { result ≡ section_named self.now name.now }
     {
         for i in 1..self.sections.len() {
-            if let Some(text) = bytes_at(self.texts, self.sections.at(i).name) {
-                if text == name.as_bytes() {
-                    return Some(i);
-                }
+            if is_text_at(self.texts, self.sections.at(i).name, name.as_bytes()) {
+                return Some(i);
             }
         }
         None

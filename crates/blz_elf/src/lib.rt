@@ -13,13 +13,13 @@ mod kept_names;
 mod lookup;
 mod name_order;
 mod names;
+mod needed;
 mod number;
 mod opts;
 mod parser;
 mod question;
 mod record_slice;
 mod relocating;
-mod relocation;
 mod section;
 mod segments;
 mod show;
@@ -34,6 +34,7 @@ mod warm;
 
 pub use answer::{Answer, CodeInfo, InlinedFn, InlinedFns, ResolvedSym};
 pub use blz_model::{Reason, SrcLang};
+pub use blz_moves::{Flow, RelocationMap, SectionRelocations};
 pub use blz_records::{
     Elf32_Chdr, Elf32_Ehdr, Elf32_Nhdr, Elf32_Phdr, Elf32_Rel, Elf32_Rela, Elf32_Shdr, Elf32_Sym,
     Elf64_Chdr, Elf64_Ehdr, Elf64_Nhdr, Elf64_Phdr, Elf64_Rel, Elf64_Rela, Elf64_Shdr, Elf64_Sym,
@@ -45,7 +46,6 @@ pub use parser::ElfParser;
 pub use record_slice::{
     ElfN_Phdrs, ElfN_Relas, ElfN_Rels, ElfN_Shdrs, ElfN_Syms, ElfNIter, ElfNSlice, ElfNVec,
 };
-pub use relocation::{RelocationMap, SectionRelocations};
 pub use sym_info::{SymInfo, SymInfoBuf, SymInfos};
-pub use visit::{Collect, Flow, Visit};
+pub use visit::{Collect, Visit};
 pub use warm::ElfWarm;

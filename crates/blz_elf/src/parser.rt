@@ -5,7 +5,6 @@ ghost use Rattle.blz_model.specs.Part.{Exactly, Gives};
 ghost use Rattle.blz_elf.specs.Headers.{header_of};
 ghost use Rattle.blz_elf.specs.Formats.{section_size};
 ghost use Rattle.blz_elf.specs.Images.{elf_of, image_order, image_sections, image_section, image_section_data, image_data_named, image_holds_bytes, image_is_relocatable};
-ghost use Rattle.blz_elf.specs.RelocationTables.{image_relocations};
 ghost use Rattle.blz_elf.specs.Segments.{ComesBack, image_file_place, image_address_of};
 ghost use Rattle.blz_elf.specs.SymbolRule.{image_symbol};
 ghost use Rattle.blz_elf.specs.AnswerView.{answer_view};
@@ -17,15 +16,14 @@ mod headers;
 mod listing;
 mod naming;
 mod prepared;
+mod relocations;
 
 use crate::answer::Answer;
-use crate::fill::{fill_relocations, fill_table, look, look_dynamic, sort_table};
+use crate::fill::{fill_table, look, look_dynamic, sort_from_second};
 use crate::header::{Header, read_header};
 use crate::image::{Frame, Image, read_frame};
 use crate::opts::FindSymOpts;
 use crate::question::TableKind;
-use crate::relocating::relocations;
-use crate::relocation::SectionRelocations;
 use crate::section::{data_at, sections};
 use crate::segments::{SegmentTable, segments};
 use crate::span::Rows;
@@ -46,12 +44,13 @@ pub struct ElfParser<'b> {
 
 impl<'b> Model for ElfParser<'b> {
     ghost use Rattle.std.specs.Option.{option_map};
+    ghost use Rattle.blz_model.specs.Kept.{is_kept};
     ghost use Rattle.blz_elf.specs.Sources.{Source};
     ghost use Rattle.blz_elf.specs.Warm.{Fits};
 
     ghost Value = { Source };
 
-    ghost view = { λ p. record { image = p.image.now; module_name = option_map (λ m. m.now) p.module; prepared = p.warm.prepared } };
+    ghost view = { λ p. record { image = p.image.now; module_name = option_map (λ m. m.now) p.module; prepared = p.warm.prepared; relocated = is_kept p.warm.relocations } };
 
     ghost invariant = { λ p. Fits p.image.now p.warm };
 }
@@ -62,6 +61,7 @@ impl<'b> ElfParser<'b> {
         ensures image { result.image ≡ image.now }
         ensures module_name { result.module_name ≡ option_map (λ m. m.now) «module».entry }
         ensures prepared { result.prepared ≡ false }
+        ensures relocated { result.relocated ≡ false }
     {
         let warm = ElfWarm {
             header: Cache::Empty,
@@ -101,6 +101,13 @@ impl<'b> ElfParser<'b> {
         ensures { result ≡ self.now.prepared }
     {
         self.warm.prepared
+    }
+
+    /// Whether `fill_relocations` has read the relocations.
+    pub fn is_relocated(&self) -> bool
+        ensures { result ≡ self.now.relocated }
+    {
+        !matches!(&self.warm.relocations, Cache::Empty)
     }
 
     /// The byte order of the image; refused by the first mark of the header.
@@ -282,35 +289,9 @@ impl<'b> ElfParser<'b> {
         Ok(SegmentTable::open(self.image, rows).address_of(offset))
     }
 
-    /// The relocations of a relocatable file, by the section that they change (ELF gABI, Relocation); none in other
-    /// files. Refused by the first mark of header, section table and relocations: InvalidData, InvalidInput or
-    /// Unsupported.
-    pub fn section_relocations(&mut self, alloc: Global) -> Result<&SectionRelocations>
-        ensures value { Gives (λ m. m.now) result (image_relocations self.old.image) }
-    {
-        let header = self.header();
-        let rows = self.rows();
-        fill_relocations(alloc, &mut self.warm.relocations, self.image, header, rows)?;
-        match &self.warm.relocations {
-            Cache::Value(map) => Ok(map),
-            Cache::Mark(kind) => Err(Error::new(*kind, Str::fixed("relocations"))),
-            Cache::Empty => unreachable!(),
-        }
-    }
-
-    /// The same relocations, read anew and given to the caller.
-    #[tactic(auto, unfolding(crate::specs::RelocationTables::image_relocations, crate::specs::Images::image_sections))]
-    pub fn read_relocations(&mut self, alloc: Global) -> Result<SectionRelocations>
-        ensures value { Gives (λ m. m) result (image_relocations self.old.image) }
-        ensures same { self.new ≡ self.old }
-    {
-        let header = self.header()?;
-        let rows = self.rows()?;
-        relocations(alloc, self.image, header, rows)
-    }
-
     /// The symbol of an address: of the symbols with the greatest value up to it, the largest that is defined and covers
-    /// it (ELF gABI, Symbol Table). Refused as `find_section` is, and by a broken table or name of that symbol.
+    /// it (ELF gABI, Symbol Table). The first that is asked is found by a scan, and from the second on by the order. Refused
+    /// as `find_section` is, and by a broken table or name of that symbol.
     #[tactic(auto, unfolding(crate::specs::SymbolRule::image_symbol, crate::specs::SymbolRule::symbol_for, crate::specs::SymbolTables::image_table))]
     pub fn find_sym<O: Orders>(
         &mut self,
@@ -324,7 +305,7 @@ impl<'b> ElfParser<'b> {
     {
         let parts = self.parts()?;
         fill_table(&mut self.warm.symtab, &parts, TableKind::Symtab);
-        sort_table(
+        sort_from_second(
             alloc,
             orders,
             self.image,
@@ -343,7 +324,7 @@ impl<'b> ElfParser<'b> {
             return Ok(answer);
         }
         fill_table(&mut self.warm.dynsym, &parts, TableKind::Dynsym);
-        sort_table(
+        sort_from_second(
             alloc,
             orders,
             self.image,

@@ -10,15 +10,15 @@ ghost use Rattle.blz_elf.specs.EntryPlaces.{entries_in};
 ghost use Rattle.blz_elf.specs.EntryViews.{entry_view};
 ghost use Rattle.blz_elf.specs.Views.{header_view, section_view};
 
-use crate::entries::{Entries, Entry, EntryKind, entry_kind, entry_size};
+use crate::entries::{Entry, EntryKind, RelocationEntries, entry_kind, entry_size};
 use crate::format::Format;
 use crate::header::{Header, RELOCATABLE};
-use crate::relocation::SectionRelocations;
 use crate::section::{Section, SectionTable, records};
 use crate::span::Rows;
 use crate::symbols::Symbols;
 use crate::table::symbols_of;
 use blz_error::{Error, ErrorKind, Result, Str};
+use blz_moves::SectionRelocations;
 use std::alloc::{AllocError, Global};
 
 /// The value of a symbol, 0 where the index lies outside.
@@ -62,7 +62,7 @@ fn put_entries(
     map: &mut SectionRelocations,
     symbols: &Symbols<'_>,
     target: u32,
-    entries: &Entries<'_>,
+    entries: &RelocationEntries<'_>,
 ) -> std::result::Result<(), AllocError>
     ensures { OnOk result (map.new ≡ fold (put_entry symbols.now target) map.old entries.now) }
 {
@@ -104,7 +104,7 @@ fn relocate_by(
     let symbols = symbols_of(image, Some(sections.at(link)), format)?;
     let entries = entries_of(image, section, kind, format)?;
     let symbols = Symbols::open(image, symbols);
-    let entries = Entries::open(image, entries, kind);
+    let entries = RelocationEntries::open(image, entries, kind);
     put_entries(alloc, map, &symbols, section.info, &entries)?;
     Ok(())
 }

@@ -17,10 +17,11 @@ use crate::kept_names::{dynamic_list, static_list};
 use crate::name_order::KeptNames;
 use crate::names::{NamedSymbol, Wanted};
 use crate::table::Table;
-use crate::visit::{Flow, Visit};
+use crate::visit::Visit;
 use blz_bytes::Orders;
 use blz_error::Result;
 use blz_model::Cache;
+use blz_moves::Flow;
 use std::alloc::Global;
 
 /// Shows symbols until one is broken or the visitor breaks.

@@ -5,8 +5,10 @@ ghost use Rattle.blz_bytes.specs.ToldPlaces.{counting};
 ghost use Rattle.blz_elf.specs.SymbolRule.{is_typed, covering};
 ghost use Rattle.blz_elf.specs.Views.{symbol_view};
 ghost use Rattle.blz_elf.specs.Tables.{Sorts};
-ghost use Rattle.blz_elf.specs.Accepted.{AreKeys, no_symbol, at_place, IsAccepted, SplitsAt, SplitsBelow};
+ghost use Rattle.blz_elf.specs.Accepted.{AreKeys, no_symbol, SplitsAt, SplitsBelow};
+ghost use Rattle.blz_elf.specs.Needed.{IsSearchable};
 
+use crate::needed::{needed_places, symbol_at_place};
 use crate::question::Question;
 use crate::symbols::{Symbol, Symbols};
 use blz_bytes::{Key, Orders, check_pairs};
@@ -15,22 +17,15 @@ use std::alloc::{AllocError, Global};
 /// The symbols of the asked types, and an order of them that was accepted.
 #[derive(Drop)]
 pub struct Sorted {
+    /// The symbols, in table order.
     pub typed: Vec<Symbol>,
+    /// The places in it that a search needs, in order, where an order was accepted.
     pub order: Option<Vec<usize>>,
-}
-
-/// The symbol at the k-th place.
-fn symbol_at_place(typed: &[Symbol], places: &[usize], k: usize) -> Symbol
-    requires accepted { IsAccepted (map symbol_view typed.now) places.now }
-    requires inside { k < length places.now }
-    ensures { symbol_view result ≡ at_place (map symbol_view typed.now) places.now k }
-{
-    typed[places[k]]
 }
 
 /// How many places have a value up to an address.
 fn count_up_to(typed: &[Symbol], places: &[usize], addr: u64) -> usize
-    requires accepted { IsAccepted (map symbol_view typed.now) places.now }
+    requires accepted { IsSearchable (map symbol_view typed.now) places.now }
     ensures { SplitsAt (map symbol_view typed.now) places.now result addr }
 {
     let mut low = 0;
@@ -48,7 +43,7 @@ fn count_up_to(typed: &[Symbol], places: &[usize], addr: u64) -> usize
 
 /// How many places have a value below another.
 fn count_below(typed: &[Symbol], places: &[usize], value: u64) -> usize
-    requires accepted { IsAccepted (map symbol_view typed.now) places.now }
+    requires accepted { IsSearchable (map symbol_view typed.now) places.now }
     ensures { SplitsBelow (map symbol_view typed.now) places.now result value }
 {
     if value == 0 {
@@ -59,7 +54,7 @@ fn count_below(typed: &[Symbol], places: &[usize], value: u64) -> usize
 
 /// The symbol that answers a question, by an order.
 fn search(typed: &[Symbol], places: &[usize], question: &Question) -> Option<Symbol>
-    requires accepted { IsAccepted (map symbol_view typed.now) places.now }
+    requires accepted { IsSearchable (map symbol_view typed.now) places.now }
     requires typed { (i : ℕ) → i < length (map symbol_view typed.now) → is_typed (get_or (map symbol_view typed.now) i no_symbol) ≡ true }
     ensures { option_map symbol_view result ≡ covering question.now (map symbol_view typed.now) }
 {
@@ -123,13 +118,13 @@ fn order_of<O: Orders>(
     orders: &mut O,
     typed: &[Symbol],
 ) -> Result<Option<Vec<usize>>, AllocError>
-    ensures { IfOk result (λ o. IfSome o (λ o. IsAccepted (map symbol_view typed.now) o.items)) }
+    ensures { IfOk result (λ o. IfSome o (λ o. IsSearchable (map symbol_view typed.now) o.items)) }
 {
     let keys = keys_of(alloc, typed)?;
     let mut places = first_places(alloc, keys.len())?;
     orders.by_pair(&keys, &mut places);
     if check_pairs(&keys, &places) {
-        Ok(Some(places))
+        Ok(Some(needed_places(alloc, typed, &places)?))
     } else {
         Ok(None)
     }

@@ -135,4 +135,11 @@ impl<'b> SymInfos<'b> {
     {
         self.items.as_slice()
     }
+
+    /// The vector of the infos; takes no memory.
+    pub fn into_vec(self) -> Vec<SymInfo<'b>>
+        ensures { map info_view result.items ≡ self.entry }
+    {
+        self.items
+    }
 }

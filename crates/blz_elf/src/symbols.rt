@@ -1,12 +1,12 @@
 //! The symbols of a table, where they lie in the image.
-ghost use Rattle.std.specs.Prelude.{◌≡◌, ◌+◌, ◌≤◌, ◌<◌, length, filter};
+ghost use Rattle.std.specs.Prelude.{◌≡◌, ◌+◌, ◌≤◌, ◌<◌, ◌==◌, None, length, max, if◌then◌else◌};
 ghost use Rattle.std.specs.Option.{option_map};
 ghost use Rattle.std.specs.List.{HoldsAt};
 ghost use Rattle.blz_elf.specs.Formats.{symbol_size};
 ghost use Rattle.blz_elf.specs.Places.{RowsFit, symbols_in};
 ghost use Rattle.blz_elf.specs.SymbolTables as model;
 ghost use Rattle.blz_elf.specs.SymbolRule as rule;
-ghost use Rattle.blz_elf.specs.SymbolRule.{greatest, covering};
+ghost use Rattle.blz_elf.specs.SymbolRule.{covering};
 ghost use Rattle.blz_records.specs.SymbolTypes.{matches};
 ghost use Rattle.blz_elf.specs.NameRule.{type_of};
 ghost use Rattle.blz_elf.specs.Views.{symbol_view};
@@ -117,6 +117,24 @@ fn answers(symbol: &Symbol, question: &Question, greatest: u64) -> bool
         && question.may_be_answered(symbol)
 }
 
+/// The greatest value of the candidates so far, and of one more symbol.
+fn greater(greatest: u64, symbol: &Symbol, addr: u64) -> u64
+    ensures { result ≡ (if rule.is_candidate addr (symbol_view symbol.now) then max greatest symbol.now.value else greatest) }
+{
+    if is_candidate(symbol, addr) {
+        greatest.max(symbol.value)
+    } else {
+        greatest
+    }
+}
+
+/// The best symbol so far: none where the greatest value has risen.
+fn still_best(best: Option<Symbol>, before: u64, greatest: u64) -> Option<Symbol>
+    ensures { option_map symbol_view result ≡ (if greatest == before then option_map symbol_view best else None) }
+{
+    if greatest == before { best } else { None }
+}
+
 /// The larger, or the earlier where they are alike.
 fn larger(best: Option<Symbol>, symbol: Symbol) -> Option<Symbol>
     ensures { option_map symbol_view result ≡ rule.larger (option_map symbol_view best) (symbol_view symbol) }
@@ -154,29 +172,18 @@ impl<'b> Symbols<'b> {
         symbol_at(self.image, at, rows.format)
     }
 
-    /// The greatest value of the candidates, or 0.
-    fn greatest_value(&self, addr: u64) -> u64
-        ensures { result ≡ greatest (filter (rule.is_candidate addr) self.now) }
-    {
-        let mut greatest: u64 = 0;
-        for i in 0..self.len() {
-            let symbol = self.at(i);
-            if is_candidate(&symbol, addr) {
-                greatest = greatest.max(symbol.value);
-            }
-        }
-        greatest
-    }
-
     /// The symbol that answers a question, by a scan.
     #[tactic(auto, unfolding(crate::specs::SymbolRule::covering))]
     pub fn covering(&self, question: &Question) -> Option<Symbol>
         ensures { option_map symbol_view result ≡ covering question.now self.now }
     {
-        let greatest = self.greatest_value(question.addr);
+        let mut greatest = 0;
         let mut best: Option<Symbol> = None;
         for i in 0..self.len() {
             let symbol = self.at(i);
+            let before = greatest;
+            greatest = greater(before, &symbol, question.addr);
+            best = still_best(best, before, greatest);
             if answers(&symbol, question, greatest) {
                 best = larger(best, symbol);
             }

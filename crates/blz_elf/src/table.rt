@@ -30,6 +30,8 @@ pub struct Table {
     pub strings: Span,
     /// The symbols in order, once they were sorted.
     pub sorted: Option<Sorted>,
+    /// Whether a symbol of an address was asked.
+    pub asked: bool,
 }
 
 /// The place of the symbols of a section.
@@ -72,6 +74,7 @@ fn table_named(image: &Image<'_>, name: &str, strings_name: &str) -> Result<Tabl
         symbols,
         strings,
         sorted: None,
+        asked: false,
     })
 }
 
@@ -111,6 +114,26 @@ impl Table {
         if self.sorted.is_none() {
             self.sorted = Some(Sorted::read(alloc, orders, &Symbols::open(image, self.symbols))?);
         }
+        Ok(())
+    }
+
+    /// Sorts the symbols when a second one is asked: the first is found by a scan, which costs less than an order.
+    pub fn sort_from_second<O: Orders>(
+        &mut self,
+        alloc: Global,
+        orders: &mut O,
+        image: &[u8],
+    ) -> std::result::Result<(), AllocError>
+        requires { TableFits image.now self.old }
+        ensures symbols { self.new.symbols ≡ self.old.symbols }
+        ensures strings { self.new.strings ≡ self.old.strings }
+        ensures fits { TableFits image.now self.new }
+        ensures before { is_some self.old.sorted ≡ true → is_some self.new.sorted ≡ true }
+    {
+        if self.asked {
+            return self.sort(alloc, orders, image);
+        }
+        self.asked = true;
         Ok(())
     }
 

@@ -1,21 +1,14 @@
 //! To whom a listing is shown.
 ghost use Rattle.std.specs.Prelude.{◌≡◌, ◌≤◌, ◌++◌, ◌∷◌, [], List, Option, Bool, false, map, IfSome, OnOk, OnErr, ◌⊎◌, length};
+ghost use Rattle.blz_moves.specs.Flows.{is_break};
 ghost use Rattle.blz_elf.specs.Infos.{Info, info_view};
 ghost use Rattle.blz_elf.specs.OwnedInfos.{owned_view};
-ghost use Rattle.blz_elf.specs.Visits.{ShowsOne, is_break, is_last, told_unless, with_info, without_info};
+ghost use Rattle.blz_elf.specs.Visits.{ShowsOne, is_last, told_unless, with_info, without_info};
 
 use crate::sym_info::{SymInfo, SymInfoBuf};
+use blz_moves::Flow;
 use std::alloc::{AllocError, Global};
 use std::marker::Model;
-
-/// Whether a listing goes on.
-#[derive(Clone, Copy, Debug, PartialEq, Eq)]
-pub enum Flow {
-    /// With the next symbol.
-    Continue,
-    /// With none.
-    Break,
-}
 
 /// Is shown the symbols of a listing, one after the other, until it answers Break.
 pub trait Visit {

@@ -2,10 +2,10 @@
 use crate::header::Header;
 use crate::image::Frame;
 use crate::name_order::KeptNames;
-use crate::relocation::SectionRelocations;
 use crate::span::Rows;
 use crate::table::Table;
 use blz_model::Cache;
+use blz_moves::SectionRelocations;
 use std::alloc::Global;
 
 /// The parts of an image that were read, as places and numbers.

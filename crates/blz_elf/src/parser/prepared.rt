@@ -4,7 +4,7 @@ ghost use Rattle.std.specs.Option.{option_map};
 ghost use Rattle.blz_model.specs.Part.{Exactly};
 ghost use Rattle.blz_elf.specs.AnswerView.{answer_view};
 ghost use Rattle.blz_elf.specs.SymbolRule.{image_symbol};
-ghost use Rattle.blz_elf.specs.Warm.{Fits, warm_prepared};
+ghost use Rattle.blz_elf.specs.Warm.{Fits, warm_prepared, warm_relocated};
 
 use crate::answer::Answer;
 use crate::fill::{fill, look_both, sort_table};
@@ -28,6 +28,7 @@ impl<'b> ElfParser<'b> {
     ) -> std::result::Result<(), AllocError>
         ensures image { self.new.image ≡ self.old.image }
         ensures module_name { self.new.module_name ≡ self.old.module_name }
+        ensures relocated { self.new.relocated ≡ self.old.relocated }
         ensures prepared { IfOk result (λ _. self.new.prepared ≡ true) }
         ensures refused { IfErr result (λ _. self.new.prepared ≡ self.old.prepared) }
     {
@@ -85,6 +86,7 @@ impl<'b> ElfParser<'b> {
     pub fn into_warm(self) -> ElfWarm
         ensures fits { Fits self.entry.image result }
         ensures prepared { warm_prepared result ≡ self.entry.prepared }
+        ensures relocated { warm_relocated result ≡ self.entry.relocated }
     {
         self.warm
     }
@@ -95,6 +97,7 @@ impl<'b> ElfParser<'b> {
         ensures image { result.image ≡ image.now }
         ensures module_name { result.module_name ≡ option_map (λ m. m.now) «module».entry }
         ensures prepared { result.prepared ≡ warm_prepared warm }
+        ensures relocated { result.relocated ≡ warm_relocated warm }
     {
         ElfParser {
             image,

@@ -16,9 +16,9 @@ struct TwoPlaces {
 }
 
 impl Orders for TwoPlaces {
-    ghost pair_places = { λ _. None };
+    ghost pair_places = { None };
 
-    ghost name_places = { λ _. None };
+    ghost name_places = { None };
 
     fn by_pair(&mut self, keys: &[Key], places: &mut [usize]) {
         if keys.len() == 2 && places.len() == 2 {
@@ -42,6 +42,35 @@ fn write_function(out: &mut Writer, name: u32, value: u64, size: u64) -> Result<
     Ok(out.u64(size)?)
 }
 
+// the name of a symbol that answers
+fn name_of<'b>(answer: &Answer<'b>) -> &'b str {
+    match answer {
+        Answer::Sym(symbol) => symbol.name,
+        Answer::NoSym(_) => "none",
+    }
+}
+
+#[test]
+fn of_many_symbols_of_one_value_the_order_gives_the_covering_one(rt: HostRuntime) -> Result<()> {
+    let alloc = rt.alloc();
+    let image = Image::elf64(alloc)
+        .undefined_symbol("U", 30, 50)?
+        .symbol("small", 30, 2)?
+        .symbol("A", 30, 8)?
+        .symbol("same", 30, 8)?
+        .symbol("Z", 30, 0)?
+        .symbol("later", 30, 0)?
+        .bytes()?;
+    for (addr, name) in [(30, "A"), (37, "A"), (38, "Z"), (1000, "Z"), (29, "none")] {
+        let mut parser = ElfParser::from_mem(alloc, &image, None);
+        for _ in 0..2 {
+            let answer = parser.find_sym(alloc, &mut ByStdSort, addr, &FindSymOpts::Basic)?;
+            assert!(rt; name_of(&answer) == name);
+        }
+    }
+    Ok(())
+}
+
 #[test]
 fn symbols_are_asked_for_by_value_then_from_the_largest_down(rt: HostRuntime) -> Result<()> {
     let alloc = rt.alloc();
@@ -63,12 +92,11 @@ fn symbols_are_asked_for_by_value_then_from_the_largest_down(rt: HostRuntime) ->
             accepted: !accepted,
         };
         let mut parser = ElfParser::from_mem(alloc, &image, None);
-        let answer = parser.find_sym(alloc, &mut orders, 50, &FindSymOpts::Basic)?;
-        let name = match answer {
-            Answer::Sym(symbol) => symbol.name,
-            Answer::NoSym(_) => "none",
-        };
-        assert!(rt; name == "A");
+        // the first is found without an order
+        for _ in 0..2 {
+            let answer = parser.find_sym(alloc, &mut orders, 50, &FindSymOpts::Basic)?;
+            assert!(rt; name_of(&answer) == "A");
+        }
         assert_eq!(rt; orders.accepted, accepted);
         assert_eq!(rt; orders.keys[0].first, 0);
         assert_eq!(rt; orders.keys[0].second, u64::MAX - 100);
@@ -85,9 +113,9 @@ struct Everywhere {
 }
 
 impl Orders for Everywhere {
-    ghost pair_places = { λ _. None };
+    ghost pair_places = { None };
 
-    ghost name_places = { λ _. None };
+    ghost name_places = { None };
 
     fn by_pair(&mut self, _keys: &[Key], places: &mut [usize]) {
         places.fill(self.place);
@@ -106,9 +134,11 @@ fn addresses<O: Orders>(
     name: &str,
 ) -> Result<Vec<u64>> {
     let mut parser = ElfParser::from_mem(alloc, image, None);
-    let infos = parser.find_addr(alloc, orders, name, &FindAddrOpts::default())?;
+    let infos = parser
+        .find_addr(alloc, orders, name, &FindAddrOpts::default())?
+        .into_vec();
     let mut addresses = Vec::new(alloc);
-    for info in infos.as_slice() {
+    for info in &infos {
         addresses.push(info.addr)?;
     }
     Ok(addresses)

@@ -27,10 +27,10 @@ names_break texts sections i s kind low high here read broken =
     all_good_breaks (λ s. name_at texts s.name_offset) (name_in texts) (drop 1 sections) (i - 1) kind (omega (arith, length-drop 1 sections)) (λ k d lt. later texts sections i read k d (omega arith))
     (λ d. let at : 1 + (i - 1) ≡ i = omega arith in rw (get_or-drop, at, here d) broken)
 
-pub returns-in_err-name : goal.returns-in_err-name
-returns-in_err-name c =
+pub returns-in_err-next_name : goal.returns-in_err-next_name
+returns-in_err-next_name c =
     let p = err_from_is_err_and c.from_residual.result c.from_residual.ensures.1 in
-    rw (p.1, p.2) (names_break c.args.texts.now c.args.sections.now c.loop-i.i _ _ (omega arith) (omega (arith, c.len-i-end.ensures)) c.at.ensures c.loop-i.invariant c.in_err-name.ensures.0, c.in_err-name.ensures.1)
+    rw (p.1, p.2) (names_break c.args.texts.now c.args.sections.now c.loop-i.i _ _ (omega arith) (omega (arith, c.len-i-end.ensures)) c.at.ensures c.loop-i.invariant.read c.in_err-next_name.ensures.value.0, c.in_err-next_name.ensures.value.1)
 
 pub returns : goal.returns
-returns c = names_read c.args.texts.now c.args.sections.now c.loop-i.i (omega (arith, c.len-i-end.ensures)) c.loop-i.invariant
+returns c = names_read c.args.texts.now c.args.sections.now c.loop-i.i (omega (arith, c.len-i-end.ensures)) c.loop-i.invariant.read

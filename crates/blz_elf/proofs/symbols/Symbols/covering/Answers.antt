@@ -1,14 +1,27 @@
-use Rattle.std.proofs.Common.{None, ap, ◌∙◌, arith}
+use Rattle.std.proofs.Common.{◌≡◌, ◌<◌, None, take, filter, length, ap, ◌∙◌, arith}
 use Rattle.std.specs.Option.{option_map}
-use Rattle.blz_elf.specs.SymbolRule.{answers, larger}
+use Rattle.blz_elf.specs.SymbolRule.{answers, is_candidate, larger, largest}
 use Rattle.blz_elf.specs.Views.{symbol_view}
 use Rattle.blz_elf.proofs.Folds.{fold_takes, fold_keeps}
+use Rattle.blz_elf.proofs.Leading.{best_so_far, covering_is, greater_more, not_below}
 use Rattle.blz_elf.proofs.symbols.Symbols.covering.Goals.{then-answers, else-answers}
 use Rattle.blz_elf.proofs.symbols.Symbols.covering.Goals as goal
 
 pub loop-i-preserved : goal.loop-i-preserved
 loop-i-preserved c =
-    elim c.if-answers.branch [
-      | then-answers w ↦ fold_takes larger None (answers c.args.question.now c.greatest_value-greatest.result) c.args.self.now c.loop-i.i _ _ _ (omega (arith, c.len-i-end.ensures)) c.at-symbol.ensures w.if-answers.ensures c.loop-i.invariant (ap (option_map symbol_view) w.best-is ∙ w.larger-best.ensures)
-      | else-answers w ↦ fold_keeps larger None (answers c.args.question.now c.greatest_value-greatest.result) c.args.self.now c.loop-i.i _ _ _ (omega (arith, c.len-i-end.ensures)) c.at-symbol.ensures w.if-answers.ensures c.loop-i.invariant (ap (option_map symbol_view) w.best-is)
-    ]
+    let q = c.args.question.now in
+    let xs = c.args.self.now in
+    let lt : c.loop-i.i < length xs = omega (arith, c.len-i-end.ensures) in
+    let up = not_below (is_candidate q.addr (symbol_view c.at-symbol.result)) c.loop-i.greatest c.at-symbol.result.value c.greater-greatest.result c.greater-greatest.ensures in
+    let best : option_map symbol_view c.still_best-best.result ≡ largest (filter (answers q c.greater-greatest.result) (take c.loop-i.i xs)) =
+    best_so_far q (take c.loop-i.i xs) c.loop-i.greatest c.greater-greatest.result (option_map symbol_view c.loop-i.best) (option_map symbol_view c.still_best-best.result) c.loop-i.invariant.greatest up c.loop-i.invariant.best c.still_best-best.ensures in
+    record {
+      greatest = greater_more q.addr xs c.loop-i.i (symbol_view c.at-symbol.result) c.loop-i.greatest c.greater-greatest.result lt c.at-symbol.ensures c.loop-i.invariant.greatest c.greater-greatest.ensures;
+      best = elim c.if-answers.branch [
+        | then-answers w ↦ fold_takes larger None (answers q c.greater-greatest.result) xs c.loop-i.i _ _ _ lt c.at-symbol.ensures w.if-answers.ensures best (ap (option_map symbol_view) w.best-is ∙ w.larger-best.ensures)
+        | else-answers w ↦ fold_keeps larger None (answers q c.greater-greatest.result) xs c.loop-i.i _ _ _ lt c.at-symbol.ensures w.if-answers.ensures best (ap (option_map symbol_view) w.best-is)
+      ];
+    }
+
+pub returns : goal.returns
+returns c = covering_is c.args.question.now c.args.self.now c.loop-i.i _ _ (omega (arith, c.len-i-end.ensures)) c.loop-i.invariant.greatest c.loop-i.invariant.best

@@ -1,8 +1,11 @@
 use Rattle.std.proofs.Common.{◌≡◌, take, filter}
 use Rattle.std.specs.Option.{option_map}
-use Rattle.blz_elf.specs.SymbolRule.{largest, answers}
+use Rattle.blz_elf.specs.SymbolRule.{greatest, largest, is_candidate, answers}
 use Rattle.blz_elf.specs.Views.{symbol_view}
 use Rattle.blz_elf.proofs.symbols.Symbols.covering.Given as goal
 
 abbrev pub invariant-loop-i : goal.invariant-loop-i
-invariant-loop-i l = option_map symbol_view l.best ≡ largest (filter (answers l.question l.greatest) (take l.i l.self))
+invariant-loop-i l = record {
+  greatest : l.greatest ≡ greatest (filter (is_candidate l.question.addr) (take l.i l.self));
+  best : option_map symbol_view l.best ≡ largest (filter (answers l.question l.greatest) (take l.i l.self));
+}

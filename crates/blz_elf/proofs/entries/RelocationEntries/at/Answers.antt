@@ -1,6 +1,6 @@
 use Rattle.std.proofs.Common.{◌∙◌, refl, arith}
 use Rattle.blz_elf.proofs.Tables.{count_is, item_is}
-use Rattle.blz_elf.proofs.entries.Entries.at.Goals as goal
+use Rattle.blz_elf.proofs.entries.RelocationEntries.at.Goals as goal
 
 pub place_of-at-requires-clause-index : goal.place_of-at-requires-clause-index
 place_of-at-requires-clause-index c = omega (arith, count_is _ _ _ c.self.view_is)
