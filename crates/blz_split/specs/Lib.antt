@@ -2,4 +2,4 @@ pub mod Contributions
 pub mod TablesFit
 pub mod SectionNames
 pub mod PackageParts
-pub mod FileSections
+pub mod SplitSections

@@ -5,7 +5,8 @@ ghost use Rattle.blz_model.specs.Part.{Exactly, or_mark};
 ghost use Rattle.blz_elf.specs.Images.{image_order, image_data_named};
 ghost use Rattle.blz_entry.specs.Contents.{section_view};
 ghost use Rattle.blz_split.specs.Contributions.{index_tables, found_row, contribution};
-ghost use Rattle.blz_split.specs.FileSections.{sections_view, split_sections, piece_of};
+ghost use Rattle.blz_entry.specs.FileSections.{sections_view};
+ghost use Rattle.blz_split.specs.SplitSections.{split_sections, piece_of};
 ghost use Rattle.blz_split.specs.PackageParts.{package_view, package_of, row_pieces, unit_of_row, split_unit, PiecesFit, IfPiecesFit, Inside};
 ghost use Rattle.blz_split.specs.SectionNames.{name_of};
 ghost use Rattle.blz_split.specs.TablesFit.{TablesFit};
@@ -13,10 +14,11 @@ ghost use Rattle.blz_split.specs.TablesFit.{TablesFit};
 use crate::dwo_section::DwoSection;
 use crate::split_unit::{Piece, SplitUnit};
 use crate::tables::{Tables, index_tables};
-use blz_elf::{ElfParser, RelocationMap};
+use blz_elf::ElfParser;
 use blz_entry::{Section, Sections};
 use blz_error::{Error, ErrorKind, Result, Str};
 use blz_model::ByteOrder;
+use blz_moves::RelocationMap;
 
 /// The sections of a package, and its unit index.
 #[derive(Clone, Copy)]

@@ -1,45 +1,11 @@
--- The sections that a unit is read from, without where they lie in memory.
-use Rattle.std.specs.Prelude.{ℕ, ◌+◌, Bool, true, List, Option, option_map, slice_range}
-use Rattle.blz_elf.specs.Relocations.{OffsetMap}
-use Rattle.blz_entry.specs.Contents.{Contents, section_view}
-use Rattle.blz_entry.specs.declared.section.Sections.{Sections}
+-- The sections that a split unit is read from.
+use Rattle.std.specs.Prelude.{ℕ, ◌+◌, true, List, slice_range}
+use Rattle.blz_moves.specs.Relocations.{OffsetMap}
+use Rattle.blz_entry.specs.Contents.{Contents}
+use Rattle.blz_entry.specs.FileSections.{FileSections}
 use Rattle.blz_split.specs.declared.split_unit.Piece.{Piece}
 use Rattle.blz_split.specs.declared.split_unit.SplitUnit.{SplitUnit}
 use Rattle.blz_split.specs.PackageParts.{PackageParts}
-
-pub record FileSections : Type 0 where
-  pub «abbrev» : Contents
-  pub addr : Contents
-  pub aranges : Contents
-  pub info : Contents
-  pub line : Contents
-  pub line_str : Contents
-  pub ranges : Contents
-  pub rnglists : Contents
-  pub strings : Contents
-  pub str_offsets : Contents
-  pub sup_strings : Option Contents
-  pub shift : ℕ
-  pub split : Bool
-  pub sup : Bool
-
-abbrev pub sections_view : Sections → FileSections
-sections_view s = record {
-  «abbrev» = section_view s.«abbrev»;
-  addr = section_view s.addr;
-  aranges = section_view s.aranges;
-  info = section_view s.info;
-  line = section_view s.line;
-  line_str = section_view s.line_str;
-  ranges = section_view s.ranges;
-  rnglists = section_view s.rnglists;
-  strings = section_view s.strings;
-  str_offsets = section_view s.str_offsets;
-  sup_strings = option_map section_view s.sup_strings;
-  shift = s.shift;
-  split = s.split;
-  sup = s.sup;
-}
 
 -- a section of a package, which is never relocated
 abbrev pub packed : PackageParts → OffsetMap → List ℕ → Contents
