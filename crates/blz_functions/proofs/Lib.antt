@@ -1,0 +1,16 @@
+pub mod ChainPath
+pub mod ChainLoop
+pub mod Lying
+pub mod Broken
+pub mod MetEntries
+pub mod FunctionSteps
+pub mod DescriptionSteps
+pub mod Binds
+pub mod ListAdds
+pub mod Trees
+pub mod WithTrees
+pub mod CallSteps
+pub mod CallsTree
+pub mod CountedLevels
+pub mod CallEntry
+pub mod PassedEntries

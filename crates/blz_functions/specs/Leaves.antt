@@ -1,0 +1,57 @@
+-- What is read from the sections of a file, without where they lie in memory.
+use Rattle.std.specs.Prelude.{ℕ, List, Option, option_map}
+use Rattle.blz_entry.specs.Abbrevs.{Abbrev}
+use Rattle.blz_entry.specs.Contents.{Contents}
+use Rattle.blz_entry.specs.RangeLists.{range_step, ranges_of}
+use Rattle.blz_entry.specs.StringPlaces.{string_of}
+use Rattle.blz_entry.specs.Walks.{Source, source_of}
+use Rattle.blz_entry.specs.declared.ranges.RangeAttributes.{RangeAttributes}
+use Rattle.blz_entry.specs.declared.root.UnitRoot.{UnitRoot}
+use Rattle.blz_entry.specs.declared.section.Section.{Section}
+use Rattle.blz_entry.specs.declared.section.Sections.{Sections}
+use Rattle.blz_ranges.specs.declared.span.Span.{Span}
+use Rattle.blz_entry.specs.declared.text.StrPlace.{StrPlace}
+use Rattle.blz_entry.specs.declared.units.UnitHeader.{UnitHeader}
+use Rattle.blz_entry.specs.declared.value.AttrValue.{AttrValue}
+use Rattle.blz_entry.specs.FileSections.{FileSections}
+
+abbrev pub at_rest : Contents → Section
+at_rest c = record { bytes = record { ref_ptr = (0, 0); now = c.bytes }; moves = record { ref_ptr = (0, 0); now = c.moves }; order = c.order }
+
+-- sections that lie anywhere
+abbrev pub lying : FileSections → Sections
+lying f = record {
+  «abbrev» = at_rest f.«abbrev»;
+  addr = at_rest f.addr;
+  aranges = at_rest f.aranges;
+  info = at_rest f.info;
+  line = at_rest f.line;
+  line_str = at_rest f.line_str;
+  ranges = at_rest f.ranges;
+  rnglists = at_rest f.rnglists;
+  strings = at_rest f.strings;
+  str_offsets = at_rest f.str_offsets;
+  sup_strings = option_map at_rest f.sup_strings;
+  shift = f.shift;
+  split = f.split;
+  sup = f.sup;
+}
+
+-- A unit with what its entries are read by: its sections, its header, its abbreviations and its root.
+pub record UnitParts : Type 0 where
+  pub sections : FileSections
+  pub header : UnitHeader
+  pub table : List Abbrev
+  pub root : UnitRoot
+
+unfoldable pub string_in : UnitParts → AttrValue → Option StrPlace
+string_in u v = string_of (lying u.sections) u.header u.root v
+
+unfoldable pub range_step_in : UnitParts → RangeAttributes → ℕ × AttrValue → Option RangeAttributes
+range_step_in u r a = range_step (lying u.sections) u.header u.root r a
+
+unfoldable pub ranges_in : UnitParts → RangeAttributes → Option (List Span)
+ranges_in u r = ranges_of r (lying u.sections) u.header u.root
+
+abbrev pub source_in : UnitParts → Source
+source_in u = source_of (lying u.sections) u.header u.table

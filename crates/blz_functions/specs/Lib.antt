@@ -1,0 +1,10 @@
+pub mod Chain
+pub mod Leaves
+pub mod Opened
+pub mod Naming
+pub mod Describing
+pub mod FunctionList
+pub mod References
+pub mod CallTree
+pub mod CallWalk
+pub mod FunctionRanges

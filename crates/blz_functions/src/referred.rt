@@ -1,0 +1,139 @@
+//! An entry that another one refers to.
+ghost use Rattle.std.specs.Prelude.{◌≡◌, Option, None, Some, if◌then◌else◌};
+ghost use Rattle.blz_model.specs.Part.{Exactly};
+ghost use Rattle.blz_entry.specs.Marks.{or_invalid};
+ghost use Rattle.blz_functions.specs.Leaves.{source_in};
+ghost use Rattle.blz_functions.specs.Naming.{is_linkage_name, is_name, is_reference, or_else, linkage_of, name_behind, link_behind, visit_end, visit_from, visited};
+ghost use Rattle.blz_functions.specs.Opened.{open_view, CanBeOpened};
+
+use crate::open_unit::OpenUnit;
+use blz_entry::{AttrValue, Entries, StrPlace, invalid};
+use blz_error::Result;
+
+/// What an entry tells of a name.
+#[derive(Clone, Copy)]
+pub enum Visited {
+    /// Its name.
+    Named(StrPlace),
+    /// It has none, and refers to another entry.
+    Leads(AttrValue),
+    /// It has none.
+    Nameless,
+}
+
+/// `DW_AT_linkage_name` or `DW_AT_MIPS_linkage_name`.
+pub fn is_linkage_name(name: u64) -> bool
+    ensures { result ≡ is_linkage_name name }
+{
+    name == 0x6e || name == 0x2007
+}
+
+/// `DW_AT_name`.
+pub fn is_name(name: u64) -> bool
+    ensures { result ≡ is_name name }
+{
+    name == 0x03
+}
+
+/// `DW_AT_abstract_origin` or `DW_AT_specification`.
+pub fn is_reference(name: u64) -> bool
+    ensures { result ≡ is_reference name }
+{
+    name == 0x31 || name == 0x47
+}
+
+/// The first of two names that is known.
+pub fn or_else(first: Option<StrPlace>, second: Option<StrPlace>) -> Option<StrPlace>
+    ensures { result ≡ or_else first second }
+{
+    match first {
+        Some(_) => first,
+        None => second,
+    }
+}
+
+fn visit_end(name: Option<StrPlace>, link: Option<AttrValue>) -> Visited
+    ensures { result ≡ visit_end name link }
+{
+    match (name, link) {
+        (Some(name), _) => Visited::Named(name),
+        (None, Some(value)) => Visited::Leads(value),
+        (None, None) => Visited::Nameless,
+    }
+}
+
+fn linkage_of(unit: &OpenUnit<'_, '_>, name: u64, value: AttrValue) -> Option<StrPlace>
+    ensures { result ≡ linkage_of (open_view unit.now) name value }
+{
+    if is_linkage_name(name) {
+        unit.string(value)
+    } else {
+        None
+    }
+}
+
+fn name_behind(
+    unit: &OpenUnit<'_, '_>,
+    name: u64,
+    value: AttrValue,
+    old: Option<StrPlace>,
+) -> Option<StrPlace>
+    ensures { result ≡ name_behind (open_view unit.now) name value old }
+{
+    if is_name(name) {
+        or_else(unit.string(value), old)
+    } else {
+        old
+    }
+}
+
+fn link_behind(name: u64, value: AttrValue, old: Option<AttrValue>) -> Option<AttrValue>
+    ensures { result ≡ link_behind name value old }
+{
+    if is_reference(name) { Some(value) } else { old }
+}
+
+fn visit_attributes(unit: &OpenUnit<'_, '_>, entries: &mut Entries<'_, '_>) -> Result<Visited>
+    requires { entries.old.source ≡ source_in (open_view unit.now) }
+    ensures { Exactly (λ v. v) result (or_invalid (visit_from (open_view unit.now) entries.old.pending None None entries.old.place)) }
+{
+    let mut name = None;
+    let mut link = None;
+    loop {
+        let (attribute, value) = match entries.next_wanted() {
+            Ok(Some(found)) => found,
+            Ok(None) => return Ok(visit_end(name, link)),
+            Err(fault) => return Err(fault),
+        };
+        match linkage_of(unit, attribute, value) {
+            Some(linkage) => return Ok(Visited::Named(linkage)),
+            None => {
+                name = name_behind(unit, attribute, value, name);
+                link = link_behind(attribute, value, link);
+            }
+        }
+    }
+}
+
+/// What the entry at a place of a unit tells of a name: its first linkage name, else its last name, else where its last
+/// reference leads. InvalidDwarf exactly where no entry of the unit stands there, or one of its attributes up to its
+/// linkage name has no value.
+#[tactic(auto, unfolding(crate::specs::Naming::visited, blz_entry::specs::Walks::next_of, blz_entry::specs::Walks::entry_from, blz_entry::specs::Attributes::passed))]
+pub fn visit(unit: &OpenUnit<'_, '_>, place: usize) -> Result<Visited>
+    requires { CanBeOpened unit.now }
+    ensures { Exactly (λ v. v) result (or_invalid (visited (open_view unit.now) place)) }
+{
+    let mut entries = unit.entries(place)?;
+    let entry = match entries.next_entry() {
+        Ok(Some(entry)) => entry,
+        Ok(None) => return Err(invalid("a reference leads past the entries of a unit")),
+        Err(fault) => return Err(fault),
+    };
+    if entry.code == 0 {
+        return Err(invalid("a reference leads to no entry"));
+    }
+    let Some(_) = unit.abbreviations.get(entry.code) else {
+        return Err(invalid("a reference leads to an entry that no abbreviation has"));
+    };
+    visit_attributes(unit, &mut entries)
+}
