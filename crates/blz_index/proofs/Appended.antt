@@ -9,12 +9,12 @@ use Rattle.blz_model.specs.Part.{Good, Fails}
 use Rattle.blz_model.specs.Reads.{◌>>=◌}
 use Rattle.blz_entry.specs.Marks.{or_invalid}
 use Rattle.blz_entry.specs.RangeLists.{appended}
-use Rattle.blz_entry.specs.declared.span.Span.{Span}
+use Rattle.blz_ranges.specs.declared.span.Span.{Span}
 use Rattle.blz_entry.proofs.Marked.{good_some, marks_on}
 use Rattle.blz_line.specs.Lookups.{span_of, spans_of}
 use Rattle.blz_line.specs.Sequences.{Sequence}
 use Rattle.blz_line.specs.UnitLines.{LineTable}
-use Rattle.blz_index.specs.Leaves.{UnitParts, ranges_in}
+use Rattle.blz_functions.specs.Leaves.{UnitParts, ranges_in}
 use Rattle.blz_index.specs.UnitTables.{added, added_to, by_root, or_sequences, root_behind, root_spans, lines_in, sequences_of}
 
 -- A fault that is no want of memory is the mark of a part that is not there.

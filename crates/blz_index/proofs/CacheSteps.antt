@@ -15,7 +15,7 @@ use Rattle.blz_index.specs.BuiltUnits.{Files}
 use Rattle.blz_index.specs.Growing.{Told, Made, AreOrdered, LinesOrdered, CallsOrdered, CachesGrow, UnitsGrowTo}
 use Rattle.blz_index.specs.KeptParts.{call_cache, unit_root, lists_view, lines_view, calls_view, kept_root, kept_functions, kept_lines, kept_calls, is_empty, CachesFit, PartsFit}
 use Rattle.blz_index.specs.Putting.{HasCalls, PutsCalls}
-use Rattle.blz_index.specs.Ranges.{FunctionRanges, CallRanges}
+use Rattle.blz_functions.specs.FunctionRanges.{FunctionRanges, CallRanges}
 use Rattle.blz_index.specs.UnitAnswers.{unit_functions, unit_lines, function_calls}
 use Rattle.blz_index.specs.UnitTables.{UnitTable}
 use Rattle.blz_index.proofs.PutItems.{at_each, put_is}

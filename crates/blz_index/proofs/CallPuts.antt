@@ -7,7 +7,7 @@ use Rattle.blz_model.specs.declared.cache.Cache.{Cache}
 use Rattle.blz_index.specs.declared.unit_caches.UnitCaches.{UnitCaches}
 use Rattle.blz_index.specs.KeptParts.{call_cache}
 use Rattle.blz_index.specs.Putting.{HasCalls, PutsCalls}
-use Rattle.blz_index.specs.Ranges.{CallRanges}
+use Rattle.blz_functions.specs.FunctionRanges.{CallRanges}
 
 pub puts_in : {X E : Type 0} (r : Result X E) (units : List UnitCaches) (k n : ℕ) (old old' new : UnitCaches) (calls : Cache CallRanges) → old ≡ old' → MatchResult r (λ _. HasCalls old new n calls) (λ _. HasCalls old new n (call_cache old n))
     → MatchResult r (λ _. PutsCalls old' units (slice_set units k new) k n calls) (λ _. PutsCalls old' units (slice_set units k new) k n (call_cache old' n))

@@ -10,11 +10,12 @@ use Rattle.blz_entry.specs.declared.units.UnitHeader.{UnitHeader}
 use Rattle.blz_index.specs.declared.built_unit.BuiltUnit.{BuiltUnit}
 use Rattle.blz_index.specs.declared.built_units.Side.{Side}
 use Rattle.blz_index.specs.declared.built_units.Side.TheVariants.{File, Sup}
+use Rattle.blz_index.specs.declared.built_units.SideUnits.{SideUnits}
 use Rattle.blz_index.specs.declared.unit_caches.UnitCaches.{UnitCaches}
 use Rattle.blz_index.specs.declared.unit_caches.Caches.{Caches}
 use Rattle.blz_index.specs.BuiltUnits.{Files, built_view, BuiltFits}
 use Rattle.blz_index.specs.Cold.{NothingKept, HasNothing, IsCold}
-use Rattle.blz_index.specs.KeptParts.{or_empty, unit_root, unit_of, lists_view, lines_view, calls_view, kept_root, kept_functions, kept_lines, kept_calls, CachesFit, AllBuilt, AllFit}
+use Rattle.blz_index.specs.KeptParts.{or_empty, unit_root, unit_of, lists_view, lines_view, calls_view, kept_root, kept_functions, kept_lines, kept_calls, side_sections, CachesFit, AllBuilt, SideFits, AllFit}
 use Rattle.blz_index.specs.UnitAnswers.{unit_functions, unit_lines, function_calls}
 use Rattle.blz_index.specs.UnitTables.{UnitTable}
 
@@ -51,8 +52,11 @@ unit_cold f t k o cold = record {
   calls = λ n. any_kept (λ _. Unit {0}) calls_view (kept_calls o n) (or_invalid (function_calls f t k n)) (cold.calls n);
 }
 
-pub cold_fits : (f : Files) (t : UnitTable) (kept sups : ℕ) (c : Caches) → kept ≡ length t.kept → sups ≡ length t.sups → IsCold kept sups c → AllFit f t c
-cold_fits f t kept sups c k s cold = record {
-  built = record { kept = all_cold f File t.kept c.built.kept.items (cold.kept_count ∙ k) cold.kept_empty; sups = all_cold f Sup t.sups c.built.sups.items (cold.sup_count ∙ s) cold.sups_empty };
+pub cold_fits : (f : Files) (t : UnitTable) (kept : SideUnits) (count sups : ℕ) (c : Caches) → SideFits f File t.kept kept → count ≡ length t.kept → sups ≡ length t.sups → IsCold kept count sups c → AllFit f t c
+cold_fits f t kept count sups c fits k s cold = record {
+  built = record {
+    kept = rw cold.kept_is fits;
+    sups = record { all = all_cold f Sup t.sups c.built.sups.units.items (cold.sup_count ∙ s) cold.sups_empty; shared = cold.sups_share (side_sections f Sup) };
+  };
   units = record { same = cold.unit_count ∙ k; each = λ n. unit_cold f t n (slice_get c.units.items n) (cold.units_empty n) };
 }

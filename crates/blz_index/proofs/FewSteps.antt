@@ -4,12 +4,12 @@ use Rattle.blz_error.specs.Fault.{Fault}
 use Rattle.blz_model.specs.Part.{Good}
 use Rattle.blz_index.specs.declared.unit_caches.UnitCaches.{UnitCaches}
 use Rattle.blz_index.specs.KeptAnswers.{Repeats, first_kept}
-use Rattle.blz_index.specs.Owned.{items_of}
-use Rattle.blz_index.specs.Ranges.{OwnedRanges}
-use Rattle.blz_index.specs.Turns.{covering}
-use Rattle.blz_index.specs.UnitTables.{owners_of}
+use Rattle.blz_ranges.specs.Owned.{items_of}
+use Rattle.blz_ranges.specs.Ranges.{OwnedRanges}
+use Rattle.blz_ranges.specs.Turns.{covering}
+use Rattle.blz_ranges.specs.Owned.{owners_of}
 use Rattle.blz_index.specs.UnitsWarm.{FewLooks}
-use Rattle.blz_index.proofs.OneCovers.{none_left}
+use Rattle.blz_ranges.proofs.OneCovers.{none_left}
 
 nothing : (units : List UnitCaches) (a : ℕ) (ks : List ℕ) → ks ≡ [] → first_kept units a ks ≡ Good None
 unfolding first_kept

@@ -12,14 +12,14 @@ use Rattle.blz_index.specs.declared.references.Standing.{Standing}
 use Rattle.blz_index.specs.declared.references.Standing.TheVariants.{Own, Numbered}
 use Rattle.blz_index.specs.declared.references.Reference.{Reference}
 use Rattle.blz_index.specs.declared.references.Followed.TheVariants.{Name, On}
-use Rattle.blz_index.specs.declared.visit.Visited.{Visited}
-use Rattle.blz_index.specs.declared.visit.Visited.TheVariants.{Named, Leads, Nameless}
+use Rattle.blz_functions.specs.declared.referred.Visited.{Visited}
+use Rattle.blz_functions.specs.declared.referred.Visited.TheVariants.{Named, Leads, Nameless}
 use Rattle.blz_index.specs.Following.{unit_in, placed_in, own_side, target_in, seen, entry_seen, followed, step_of, going, name_over}
 use Rattle.blz_index.specs.KeptParts.{unit_of, headers_of}
 use Rattle.blz_index.specs.Linkage.{Linked, refer_in}
-use Rattle.blz_index.specs.Leaves.{UnitParts}
-use Rattle.blz_index.specs.Naming.{visited}
-use Rattle.blz_index.specs.References.{entry_in, in_main, in_sup, target, go_on, visit_then, unit_at, referenced}
+use Rattle.blz_functions.specs.Leaves.{UnitParts}
+use Rattle.blz_functions.specs.Naming.{visited}
+use Rattle.blz_functions.specs.References.{entry_in, in_main, in_sup, target, go_on, visit_then, unit_at, referenced}
 use Rattle.blz_index.specs.UnitTables.{reach_of}
 
 abbrev Names : Type 0
@@ -82,6 +82,7 @@ name_is (suc n) l at u Other e = refl
 
 -- the name that a value of the unit itself refers to
 pub name_in : (l : Linked) (v : AttrValue) → name_over 16 l (in_unit Own l.unit.sections.sup v) ≡ refer_in l v
+unfolding refer_in
 name_in l v = name_is 16 l Own l.unit v refl
 
 -- ---- the steps of a loop that follows a reference

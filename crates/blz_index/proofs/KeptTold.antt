@@ -13,13 +13,13 @@ use Rattle.blz_model.specs.declared.cache.Cache.TheVariants.{Empty, Value, Mark}
 use Rattle.blz_entry.specs.Marks.{or_invalid}
 use Rattle.blz_entry.specs.declared.root.UnitRoot.{UnitRoot}
 use Rattle.blz_entry.specs.declared.text.Texts.{Texts}
-use Rattle.blz_index.specs.declared.inlined_functions.InlinedFunction.{InlinedFunction}
+use Rattle.blz_functions.specs.declared.inlined_functions.InlinedFunction.{InlinedFunction}
 use Rattle.blz_index.specs.declared.unit_caches.UnitCaches.{UnitCaches}
 use Rattle.blz_index.specs.BuiltUnits.{Files}
 use Rattle.blz_index.specs.KeptAnswers.{Repeats, kept_part, language_by, kept_language, best_by_ranges, kept_best, place_by, kept_place, line_by, kept_line, chain_by, kept_chain, site_by, kept_site, or_later, first_kept, first_kept_line}
 use Rattle.blz_index.specs.KeptParts.{unit_root, lists_view, lines_view, calls_view, is_empty, call_cache, kept_root, kept_functions, kept_lines, kept_calls, root_at, functions_at, lines_at, calls_at, lacks_root, lacks_functions, lacks_lines, lacks_calls, PartsFit, AllFull}
-use Rattle.blz_index.specs.Leaves.{UnitParts}
-use Rattle.blz_index.specs.Ranges.{FunctionRanges}
+use Rattle.blz_functions.specs.Leaves.{UnitParts}
+use Rattle.blz_functions.specs.FunctionRanges.{FunctionRanges}
 use Rattle.blz_index.specs.UnitAnswers.{main_unit, read_unit, unit_language, unit_functions, unit_lines, function_place, function_calls, place_calls, place_in, best_of, best_function, found_or, first_function, chain_of, covering_calls}
 use Rattle.blz_index.specs.UnitSites.{line_of, line_in, first_line, site_of, call_site}
 use Rattle.blz_index.specs.UnitTables.{UnitTable}

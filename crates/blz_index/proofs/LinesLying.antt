@@ -12,9 +12,9 @@ use Rattle.blz_line.specs.FileNames.{files_of}
 use Rattle.blz_line.specs.Headers.{header_at}
 use Rattle.blz_line.specs.UnitLines.{LineTable, program_of, table_of, table_at, some_table, maybe_table}
 use Rattle.blz_line.specs.declared.header.LineHeader.{LineHeader}
-use Rattle.blz_split.specs.FileSections.{sections_view}
-use Rattle.blz_index.specs.Leaves.{lying}
-use Rattle.blz_index.proofs.Lying.{string_lying}
+use Rattle.blz_entry.specs.FileSections.{sections_view}
+use Rattle.blz_functions.specs.Leaves.{lying}
+use Rattle.blz_functions.proofs.Lying.{string_lying}
 use Rattle.blz_index.proofs.Rooted.{bind_same}
 
 table_lying : (s : Sections) (unit : UnitHeader) (root : UnitRoot) (h : LineHeader) → table_of s unit root h ≡ table_of (lying (sections_view s)) unit root h

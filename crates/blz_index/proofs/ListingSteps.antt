@@ -13,9 +13,9 @@ use Rattle.blz_entry.proofs.Marked.{good_some, marks_on}
 use Rattle.blz_entry.specs.declared.text.Texts.{Texts}
 use Rattle.blz_index.specs.declared.unit_caches.UnitCaches.{UnitCaches}
 use Rattle.blz_index.specs.BuiltUnits.{Files}
-use Rattle.blz_index.specs.FunctionList.{Lists}
+use Rattle.blz_functions.specs.FunctionList.{Lists}
 use Rattle.blz_index.specs.Growing.{Told, Made, AreOrdered, UnitsGrowTo}
-use Rattle.blz_index.specs.Ranges.{FunctionRanges}
+use Rattle.blz_functions.specs.FunctionRanges.{FunctionRanges}
 use Rattle.blz_index.specs.KeptAnswers.{Repeats, kept_part}
 use Rattle.blz_index.specs.KeptParts.{functions_at, lists_view, lacks_functions, PartsFit}
 use Rattle.blz_index.specs.ShownFunctions.{Numbered, ShowsMore, StopsWithin, IsAllShown, IsCutOff, IsWhole, shown_from, all_shown}
@@ -24,7 +24,7 @@ use Rattle.blz_index.specs.UnitNames.{called_in, called_by, kept_called, AllTher
 use Rattle.blz_index.specs.UnitTables.{UnitTable}
 use Rattle.blz_index.specs.UnitsWarm.{is_value}
 use Rattle.blz_index.proofs.KeptTold.{kept_on, no_functions, told_gives}
-use Rattle.blz_index.proofs.ListEnds.{last_or}
+use Rattle.blz_ranges.proofs.ListEnds.{last_or}
 use Rattle.blz_index.proofs.NameSteps.{Numbers, behind, called_behind, called_more, called_none, called_end, listed_behind, listed_more, listed_none, listed_end, shown_behind, shown_more, shown_none, shown_end}
 use Rattle.blz_index.proofs.ShownSteps.{shows_none, shows_then}
 

@@ -7,10 +7,10 @@ use Rattle.blz_entry.specs.Roots.{root_of}
 use Rattle.blz_entry.specs.declared.root.UnitRoot.{UnitRoot}
 use Rattle.blz_entry.specs.declared.units.UnitHeader.{UnitHeader}
 use Rattle.blz_line.specs.UnitLines.{maybe_table}
-use Rattle.blz_split.specs.FileSections.{FileSections}
+use Rattle.blz_entry.specs.FileSections.{FileSections}
 use Rattle.blz_index.specs.BuiltUnits.{Files, built, has_lines}
 use Rattle.blz_index.specs.KeptParts.{unit_root}
-use Rattle.blz_index.specs.Leaves.{UnitParts, lying}
+use Rattle.blz_functions.specs.Leaves.{UnitParts, lying}
 use Rattle.blz_index.specs.UnitAnswers.{main_unit, unit_lines}
 use Rattle.blz_index.specs.UnitTables.{UnitTable, lines_in}
 

@@ -4,7 +4,7 @@ use Rattle.std.proofs.lemmas.List.{append-nil}
 use Rattle.blz_model.specs.Reads.{◌>>=◌}
 use Rattle.blz_entry.specs.declared.text.Texts.{Texts}
 use Rattle.blz_index.specs.BuiltUnits.{Files}
-use Rattle.blz_index.specs.FunctionList.{Lists}
+use Rattle.blz_functions.specs.FunctionList.{Lists}
 use Rattle.blz_index.specs.ShownFunctions.{Numbered, shown_from}
 use Rattle.blz_index.specs.UnitAnswers.{first_called, with_called, called_from, in_unit, functions_from, unit_functions}
 use Rattle.blz_index.specs.UnitNames.{called_in}

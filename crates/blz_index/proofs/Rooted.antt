@@ -13,9 +13,9 @@ use Rattle.blz_entry.specs.declared.section.Sections.{Sections}
 use Rattle.blz_entry.specs.declared.text.StrPlace.{StrPlace}
 use Rattle.blz_entry.specs.declared.units.UnitHeader.{UnitHeader}
 use Rattle.blz_entry.specs.declared.value.AttrValue.{AttrValue}
-use Rattle.blz_split.specs.FileSections.{sections_view}
-use Rattle.blz_index.specs.Leaves.{lying}
-use Rattle.blz_index.proofs.Lying.{string_lying, range_step_lying}
+use Rattle.blz_entry.specs.FileSections.{sections_view}
+use Rattle.blz_functions.specs.Leaves.{lying}
+use Rattle.blz_functions.proofs.Lying.{string_lying, range_step_lying}
 
 pub bind_same : {A B : Type 0} (o : Option A) (f g : A → Option B) → ((x : A) → f x ≡ g x) → (o >>= f) ≡ (o >>= g)
 bind_same None f g h = refl

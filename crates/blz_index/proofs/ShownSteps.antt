@@ -1,7 +1,7 @@
 -- Functions that are shown one after another.
 use Rattle.std.proofs.Common.{◌≡◌, ℕ, ◌+◌, ◌<◌, Bool, true, List, [], ◌++◌, length, length-append, take, drop, get_or, Option, Some, None, sym, ap, subst, ◌∙◌, append_assoc, arith}
 use Rattle.std.proofs.lemmas.List.{append-nil, map-append, map_more, take-append-drop}
-use Rattle.blz_index.specs.declared.functions.Function.{Function}
+use Rattle.blz_functions.specs.declared.functions.Function.{Function}
 use Rattle.blz_index.specs.ShownFunctions.{Numbered, ShowsMore, StopsWithin, one_shown}
 use Rattle.blz_index.specs.UnitAnswers.{in_unit}
 

@@ -2,17 +2,17 @@
 use Rattle.std.proofs.Common.{◌≡◌, ℕ, zero, suc, ◌<◌, Bool, false, List, [], ◌∷◌, length, drop, Option, Some, None, refl, sym, ap, ◌∙◌, arith}
 use Rattle.std.specs.List.{slice_get}
 use Rattle.std.proofs.lemmas.Bool.{eq-eqb, ne_eqb}
-use Rattle.blz_entry.specs.declared.span.Span.{Span}
+use Rattle.blz_ranges.specs.declared.span.Span.{Span}
 use Rattle.blz_index.specs.Announced.{Announcing, behind, is_first, places_left, turn_of, IsCovering, IsTurn}
-use Rattle.blz_index.specs.Best.{best, next}
-use Rattle.blz_index.specs.Owned.{Owned, items_of, owner_at}
-use Rattle.blz_index.specs.Ranges.{OwnedRanges, owner_of}
-use Rattle.blz_index.specs.Turns.{covering}
-use Rattle.blz_index.specs.UnitTables.{owners_of}
+use Rattle.blz_ranges.specs.Best.{best, next}
+use Rattle.blz_ranges.specs.Owned.{Owned, items_of, owner_at}
+use Rattle.blz_ranges.specs.Ranges.{OwnedRanges, owner_of}
+use Rattle.blz_ranges.specs.Turns.{covering}
+use Rattle.blz_ranges.specs.Owned.{owners_of}
 use Rattle.blz_index.specs.declared.units_at.Turn.{Turn}
 use Rattle.blz_index.specs.declared.units_at.Turn.TheVariants.{First, After, Over}
 use Rattle.std.proofs.lemmas.List.{length-map}
-use Rattle.blz_index.proofs.InTurn.{turns, once, covering_within}
+use Rattle.blz_ranges.proofs.InTurn.{turns, once, covering_within}
 
 -- ---- lists in which no number stands twice
 

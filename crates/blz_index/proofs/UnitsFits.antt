@@ -10,7 +10,7 @@ use Rattle.blz_index.specs.declared.units.Units.{Units}
 use Rattle.blz_index.specs.BuiltUnits.{Files}
 use Rattle.blz_index.specs.Growing.{Told, Made, AreOrdered, LinesOrdered, CallsOrdered, CachesGrow, UnitsGrowTo}
 use Rattle.blz_index.specs.KeptParts.{is_empty, call_cache, kept_functions, functions_at, functions_count, lacks_root, lacks_functions, lacks_lines, lacks_calls, AllFit, AreFull}
-use Rattle.blz_index.specs.Ranges.{FunctionRanges}
+use Rattle.blz_functions.specs.FunctionRanges.{FunctionRanges}
 use Rattle.blz_index.specs.UnitsWarm.{units_table, UnitsFit}
 use Rattle.blz_index.proofs.PutItems.{none_both}
 

@@ -1,10 +1,10 @@
 -- The units that announce an address, one after the other.
 use Rattle.std.specs.Prelude.{◌≡◌, ℕ, ◌<◌, Bool, true, false, List, [], ◌∷◌, length, Option, Some, None, ◌==◌, if◌then◌else◌}
 use Rattle.std.specs.List.{slice_get}
-use Rattle.blz_entry.specs.declared.span.Span.{Span}
-use Rattle.blz_index.specs.Owned.{Owned, items_of}
-use Rattle.blz_index.specs.Ranges.{OwnedRanges}
-use Rattle.blz_index.specs.Turns.{covering}
+use Rattle.blz_ranges.specs.declared.span.Span.{Span}
+use Rattle.blz_ranges.specs.Owned.{Owned, items_of}
+use Rattle.blz_ranges.specs.Ranges.{OwnedRanges}
+use Rattle.blz_ranges.specs.Turns.{covering}
 use Rattle.blz_index.specs.UnitTables.{UnitTable, announcing}
 use Rattle.blz_index.specs.declared.units_at.Turn.{Turn}
 use Rattle.blz_index.specs.declared.units_at.Turn.TheVariants.{First, After, Over}

@@ -1,8 +1,9 @@
 -- Units that are built, and the unit that a unit is read from (DWARF 5 sections 3.1 and 7.3.5).
 use Rattle.std.specs.Prelude.{◌≡◌, ℕ, ◌+◌, ◌^◌, ◌<◌, ◌≤◌, Bool, true, false, List, [], length, Option, Some, None, IfSome, option_map, ◌==◌, if◌then◌else◌}
+use Rattle.std.specs.Arc.{arc_value}
 use Rattle.std.specs.FinMap as map
 use Rattle.blz_model.specs.Reads.{◌>>=◌}
-use Rattle.blz_elf.specs.Relocations.{OffsetMap}
+use Rattle.blz_moves.specs.Relocations.{OffsetMap}
 use Rattle.blz_entry.specs.AbbreviationTables.{abbreviations}
 use Rattle.blz_entry.specs.Abbrevs.{Abbrev}
 use Rattle.blz_entry.specs.Headers.{next_unit}
@@ -15,7 +16,8 @@ use Rattle.blz_entry.specs.declared.units.UnitHeader.{UnitHeader}
 use Rattle.blz_entry.specs.declared.units.UnitKind.{UnitKind}
 use Rattle.blz_entry.specs.declared.units.UnitKind.TheVariants.{Compile, TypeUnit, Partial, Skeleton, SplitCompile, SplitType}
 use Rattle.blz_line.specs.Headers.{header_at}
-use Rattle.blz_split.specs.FileSections.{FileSections, sections_view, split_sections}
+use Rattle.blz_entry.specs.FileSections.{FileSections, sections_view}
+use Rattle.blz_split.specs.SplitSections.{split_sections}
 use Rattle.blz_split.specs.PackageParts.{PackageParts, package_view, split_unit, PiecesFit}
 use Rattle.blz_split.specs.declared.package.Package.{Package}
 use Rattle.blz_split.specs.declared.split_unit.SplitUnit.{SplitUnit}
@@ -23,7 +25,7 @@ use Rattle.blz_index.specs.declared.built_unit.BuiltUnit.{BuiltUnit}
 use Rattle.blz_index.specs.declared.dwarf.Dwarf.{Dwarf}
 use Rattle.blz_index.specs.declared.dwarf.Origin.{Origin}
 use Rattle.blz_index.specs.declared.dwarf.Origin.TheVariants.{Main, Split, Sup}
-use Rattle.blz_index.specs.Leaves.{UnitParts, lying}
+use Rattle.blz_functions.specs.Leaves.{UnitParts, lying}
 
 -- the files that units are read from, without where they lie in memory
 pub record Files : Type 0 where
@@ -85,9 +87,12 @@ pub record IsReadable (d : Dwarf) : Type 0 where
 -- ---- units that are built
 
 -- A line program has to have a header.
+abbrev pub line_header : FileSections → ℕ → ℕ → Option (Unit {0})
+line_header s at address_size = header_at s.line at address_size >>= λ _. Some tt
+
 abbrev pub has_lines : FileSections → UnitHeader → Option ℕ → Option (Unit {0})
 has_lines s h None = Some tt
-has_lines s h (Some at) = header_at s.line at h.address_size >>= λ _. Some tt
+has_lines s h (Some at) = line_header s at h.address_size
 
 -- a unit with its abbreviations and its root
 unfoldable pub built : FileSections → UnitHeader → Option UnitParts
@@ -96,6 +101,10 @@ built s h = do
   root ← root_of (lying s) h table
   lines ← has_lines s h root.line
   Some (record { sections = s; header = h; table = table; root = root })
+
+-- the root of a unit of the main file itself
+abbrev pub root_in : Files → UnitHeader → Option UnitRoot
+root_in f h = built f.main h >>= λ u. Some u.root
 
 -- a skeleton, or a split unit of the main file, whose id may lead to a split unit of the package
 abbrev pub has_id : UnitKind → Bool
@@ -183,7 +192,7 @@ parts_of s h read = record { sections = s; header = h; table = read.0; root = re
 
 -- what a built unit stands for
 abbrev pub built_view : Files → BuiltUnit → UnitParts
-built_view f u = record { sections = sections_from f u.origin; header = u.header; table = u.abbreviations; root = u.root }
+built_view f u = record { sections = sections_from f u.origin; header = u.header; table = arc_value u.abbreviations; root = u.root }
 
 -- A unit belongs to files.
 pub record BuiltFits (f : Files) (u : BuiltUnit) : Type 0 where

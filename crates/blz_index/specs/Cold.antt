@@ -3,10 +3,13 @@ use Rattle.std.specs.Prelude.{◌≡◌, ℕ, List, length, Option}
 use Rattle.std.specs.List.{slice_get}
 use Rattle.blz_model.specs.declared.cache.Cache.{Cache}
 use Rattle.blz_model.specs.declared.cache.Cache.TheVariants.{Empty}
+use Rattle.blz_entry.specs.FileSections.{FileSections}
 use Rattle.blz_index.specs.declared.built_unit.BuiltUnit.{BuiltUnit}
+use Rattle.blz_index.specs.declared.built_units.SideUnits.{SideUnits}
 use Rattle.blz_index.specs.declared.unit_caches.UnitCaches.{UnitCaches}
 use Rattle.blz_index.specs.declared.unit_caches.Caches.{Caches}
 use Rattle.blz_index.specs.KeptParts.{or_empty, kept_root, kept_functions, kept_lines, kept_calls}
+use Rattle.blz_index.specs.Sharing.{AreShared}
 
 abbrev pub NothingKept : List (Cache BuiltUnit) → Type 0
 NothingKept caches = (k : ℕ) → or_empty (slice_get caches k) ≡ Empty
@@ -20,11 +23,11 @@ pub record HasNothing (o : Option UnitCaches) : Type 0 where
 abbrev pub AreEmpty : List UnitCaches → Type 0
 AreEmpty units = (k : ℕ) → HasNothing (slice_get units k)
 
--- for so many kept units and units of the supplementary file
-pub record IsCold (kept sups : ℕ) (c : Caches) : Type 0 where
-  pub kept_count : length c.built.kept.items ≡ kept
-  pub sup_count : length c.built.sups.items ≡ sups
-  pub unit_count : length c.units.items ≡ kept
-  pub kept_empty : NothingKept c.built.kept.items
-  pub sups_empty : NothingKept c.built.sups.items
+-- for so many kept units, some of which are built, and units of the supplementary file
+pub record IsCold (kept : SideUnits) (count sups : ℕ) (c : Caches) : Type 0 where
+  pub kept_is : c.built.kept ≡ kept
+  pub sup_count : length c.built.sups.units.items ≡ sups
+  pub unit_count : length c.units.items ≡ count
+  pub sups_empty : NothingKept c.built.sups.units.items
+  pub sups_share : (s : FileSections) → AreShared s c.built.sups.shared
   pub units_empty : AreEmpty c.units.items

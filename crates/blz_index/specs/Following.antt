@@ -3,7 +3,7 @@ use Rattle.std.specs.Prelude.{ℕ, zero, suc, ◌+◌, Bool, Option, Some, None,
 use Rattle.std.specs.Coded.{Coded, coded_ℕ}
 use Rattle.std.specs.FinMap as map
 use Rattle.std.specs.Option.{option_map}
-use Rattle.blz_elf.specs.Relocations.{OffsetMap, relocation_code}
+use Rattle.blz_moves.specs.Relocations.{OffsetMap, relocation_code}
 use Rattle.blz_model.specs.Reads.{◌>>=◌}
 use Rattle.blz_entry.specs.declared.text.StrPlace.{StrPlace}
 use Rattle.blz_entry.specs.declared.value.AttrValue.{AttrValue}
@@ -15,14 +15,14 @@ use Rattle.blz_index.specs.declared.references.Standing.TheVariants.{Own, Number
 use Rattle.blz_index.specs.declared.references.Reference.{Reference}
 use Rattle.blz_index.specs.declared.references.Followed.{Followed}
 use Rattle.blz_index.specs.declared.references.Followed.TheVariants.{Name, On}
-use Rattle.blz_index.specs.declared.visit.Visited.{Visited}
-use Rattle.blz_index.specs.declared.visit.Visited.TheVariants.{Named, Leads, Nameless}
+use Rattle.blz_functions.specs.declared.referred.Visited.{Visited}
+use Rattle.blz_functions.specs.declared.referred.Visited.TheVariants.{Named, Leads, Nameless}
 use Rattle.blz_index.specs.BuiltUnits.{Files}
 use Rattle.blz_index.specs.KeptParts.{unit_of, headers_of}
-use Rattle.blz_index.specs.Leaves.{UnitParts}
-use Rattle.blz_index.specs.Naming.{visited}
+use Rattle.blz_functions.specs.Leaves.{UnitParts}
+use Rattle.blz_functions.specs.Naming.{visited}
 use Rattle.blz_index.specs.Linkage.{Linked}
-use Rattle.blz_index.specs.References.{unit_at}
+use Rattle.blz_functions.specs.References.{unit_at}
 use Rattle.blz_index.specs.UnitTables.{UnitTable}
 
 -- by which proofs tell maps of relocations apart

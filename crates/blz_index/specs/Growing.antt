@@ -4,14 +4,13 @@ use Rattle.std.specs.List.{slice_get}
 use Rattle.blz_model.specs.declared.cache.Cache.{Cache}
 use Rattle.blz_model.specs.declared.cache.Cache.TheVariants.{Empty, Value, Mark}
 use Rattle.blz_bytes.specs.declared.orders.Key.{Key}
-use Rattle.blz_line.specs.Lookups as lookups
-use Rattle.blz_line.specs.RunningEnds as ends
+use Rattle.blz_line.specs.Lookups.{spans_of}
 use Rattle.blz_line.specs.UnitLines.{OrderedLines}
 use Rattle.blz_index.specs.declared.unit_caches.UnitCaches.{UnitCaches}
 use Rattle.blz_index.specs.KeptParts.{kept_root, kept_functions, kept_lines, kept_calls}
-use Rattle.blz_index.specs.Keyed.{IsAccepted, begin_key, group_key}
-use Rattle.blz_index.specs.Owned.{items_of}
-use Rattle.blz_index.specs.Ranges.{FunctionRanges, CallRanges}
+use Rattle.blz_ranges.specs.Keyed.{IsAccepted, begin_key, group_key}
+use Rattle.blz_ranges.specs.Owned.{items_of}
+use Rattle.blz_functions.specs.FunctionRanges.{FunctionRanges, CallRanges}
 
 -- ---- orders
 
@@ -25,7 +24,7 @@ AreOrdered told x = IsAccepted told (map begin_key (items_of x.ranges)) x.ordere
 
 abbrev pub LinesOrdered : Told → Option OrderedLines → Type 0
 LinesOrdered told None = ⊤
-LinesOrdered told (Some l) = ends.IsAccepted told (lookups.spans_of l.table.sequences) l.ordered
+LinesOrdered told (Some l) = IsAccepted told (map begin_key (spans_of l.table.sequences)) l.ordered
 
 abbrev pub CallsOrdered : Told → CallRanges → Type 0
 CallsOrdered told x = IsAccepted told (map group_key (items_of x.ranges)) x.ordered

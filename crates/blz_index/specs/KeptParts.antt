@@ -11,17 +11,20 @@ use Rattle.blz_entry.specs.Marks.{or_invalid}
 use Rattle.blz_entry.specs.declared.root.UnitRoot.{UnitRoot}
 use Rattle.blz_entry.specs.declared.units.UnitHeader.{UnitHeader}
 use Rattle.blz_line.specs.UnitLines.{LineTable, OrderedLines}
+use Rattle.blz_entry.specs.FileSections.{FileSections}
 use Rattle.blz_index.specs.declared.built_unit.BuiltUnit.{BuiltUnit}
 use Rattle.blz_index.specs.declared.built_units.BuiltUnits as built
 use Rattle.blz_index.specs.declared.built_units.Side.{Side}
+use Rattle.blz_index.specs.declared.built_units.SideUnits.{SideUnits}
 use Rattle.blz_index.specs.declared.built_units.Side.TheVariants.{File, Sup}
 use Rattle.blz_index.specs.declared.unit_caches.Caches.{Caches}
 use Rattle.blz_index.specs.declared.unit_caches.UnitCaches.{UnitCaches}
-use Rattle.blz_index.specs.BuiltUnits.{Files, reading, sup_built, built_view, BuiltFits}
-use Rattle.blz_index.specs.CallTree.{CallLists}
-use Rattle.blz_index.specs.FunctionList.{Lists}
-use Rattle.blz_index.specs.Leaves.{UnitParts}
-use Rattle.blz_index.specs.Ranges.{FunctionRanges, CallRanges}
+use Rattle.blz_index.specs.BuiltUnits.{Files, reading, sup_built, built_view, or_main, BuiltFits}
+use Rattle.blz_functions.specs.CallTree.{CallLists}
+use Rattle.blz_functions.specs.FunctionList.{Lists}
+use Rattle.blz_functions.specs.Leaves.{UnitParts}
+use Rattle.blz_functions.specs.FunctionRanges.{FunctionRanges, CallRanges}
+use Rattle.blz_index.specs.Sharing.{AreShared}
 use Rattle.blz_index.specs.UnitAnswers.{main_unit, unit_functions, unit_lines, function_calls}
 use Rattle.blz_index.specs.UnitTables.{UnitTable}
 
@@ -64,14 +67,28 @@ pub record AllBuilt (f : Files) (side : Side) (headers : List UnitHeader) (cache
   pub same : length caches ≡ length headers
   pub each : (k : ℕ) → Kept (BuiltFits f) (built_view f) (or_empty (slice_get caches k)) (or_invalid (unit_of f side headers k))
 
+-- what is kept of the unit of a header
+abbrev pub IsPartOf : Files → UnitHeader → Cache BuiltUnit → Type 0
+IsPartOf f h c = Kept (BuiltFits f) (built_view f) c (or_invalid (reading f h))
+
+-- the sections that the units of a file share
+abbrev pub side_sections : Files → Side → FileSections
+side_sections f File = f.main
+side_sections f Sup = or_main f f.sup
+
+-- the same with what they share
+pub record SideFits (f : Files) (side : Side) (headers : List UnitHeader) (b : SideUnits) : Type 0 where
+  pub all : AllBuilt f side headers b.units.items
+  pub shared : AreShared (side_sections f side) b.shared
+
 -- the kept units, and those of the supplementary file
 pub record BuiltFit (f : Files) (t : UnitTable) (b : built.BuiltUnits) : Type 0 where
-  pub kept : AllBuilt f File t.kept b.kept.items
-  pub sups : AllBuilt f Sup t.sups b.sups.items
+  pub kept : SideFits f File t.kept b.kept
+  pub sups : SideFits f Sup t.sups b.sups
 
 abbrev pub caches_of : Side → built.BuiltUnits → List (Cache BuiltUnit)
-caches_of File b = b.kept.items
-caches_of Sup b = b.sups.items
+caches_of File b = b.kept.units.items
+caches_of Sup b = b.sups.units.items
 
 abbrev pub headers_of : Side → UnitTable → List UnitHeader
 headers_of File t = t.kept

@@ -3,7 +3,7 @@ use Rattle.blz_index.specs.declared.references.References.TheInside.{Inside}
 use Rattle.blz_index.specs.BuiltUnits.{files_view, IsReadable}
 use Rattle.blz_index.specs.Linkage.{Linked}
 use Rattle.blz_index.specs.KeptParts.{BuiltFit}
-use Rattle.blz_index.specs.Opened.{open_view, CanBeOpened}
+use Rattle.blz_functions.specs.Opened.{open_view, CanBeOpened}
 use Rattle.blz_index.specs.TableViews.{table_view}
 
 abbrev pub linked_view : Inside → Linked

@@ -4,7 +4,7 @@ use Rattle.std.specs.List.{slice_set}
 use Rattle.blz_model.specs.declared.cache.Cache.{Cache}
 use Rattle.blz_index.specs.declared.unit_caches.UnitCaches.{UnitCaches}
 use Rattle.blz_index.specs.KeptParts.{call_cache}
-use Rattle.blz_index.specs.Ranges.{CallRanges}
+use Rattle.blz_functions.specs.FunctionRanges.{CallRanges}
 
 -- A unit has the calls of a function besides; all else is as before.
 pub record HasCalls (old new : UnitCaches) (n : ℕ) (calls : Cache CallRanges) : Type 0 where

@@ -5,7 +5,7 @@ use Rattle.blz_model.specs.Reads.{◌>>=◌}
 use Rattle.blz_entry.specs.AddressSets.{set_at, pairs_of}
 use Rattle.blz_entry.specs.Contents.{Contents}
 use Rattle.blz_entry.specs.declared.aranges.ArangeSet.{ArangeSet}
-use Rattle.blz_entry.specs.declared.span.Span.{Span}
+use Rattle.blz_ranges.specs.declared.span.Span.{Span}
 
 -- the sets of a section from a place up to its end, in at most n steps
 unfoldable pub sets_in : ℕ → Contents → ℕ → Option (List ArangeSet)

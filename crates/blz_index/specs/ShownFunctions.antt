@@ -3,11 +3,11 @@ use Rattle.std.specs.Prelude.{◌≡◌, ◌≢◌, ℕ, ◌+◌, ◌<◌, zero,
 use Rattle.blz_error.specs.Fault.{Fault}
 use Rattle.blz_error.specs.declared.kind.ErrorKind.{ErrorKind}
 use Rattle.blz_error.specs.declared.kind.ErrorKind.TheVariants.{OutOfMemory, InvalidDwarf}
-use Rattle.blz_elf.specs.declared.visit.Flow.{Flow}
-use Rattle.blz_elf.specs.declared.visit.Flow.TheVariants.{Continue, Break}
-use Rattle.blz_index.specs.declared.functions.Function.{Function}
+use Rattle.blz_moves.specs.declared.flow.Flow.{Flow}
+use Rattle.blz_moves.specs.declared.flow.Flow.TheVariants.{Continue, Break}
+use Rattle.blz_functions.specs.declared.functions.Function.{Function}
 use Rattle.blz_index.specs.BuiltUnits.{Files}
-use Rattle.blz_index.specs.FunctionList.{Lists}
+use Rattle.blz_functions.specs.FunctionList.{Lists}
 use Rattle.blz_index.specs.UnitAnswers.{in_unit, unit_functions}
 use Rattle.blz_index.specs.UnitTables.{UnitTable}
 

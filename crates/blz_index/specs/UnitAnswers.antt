@@ -9,15 +9,15 @@ use Rattle.blz_entry.specs.TextParts.{text_of}
 use Rattle.blz_entry.specs.declared.text.StrPlace.{StrPlace}
 use Rattle.blz_entry.specs.declared.text.Texts.{Texts}
 use Rattle.blz_line.specs.UnitLines.{LineTable}
-use Rattle.blz_index.specs.declared.functions.Function.{Function}
-use Rattle.blz_index.specs.declared.inlined_functions.InlinedFunction.{InlinedFunction}
+use Rattle.blz_functions.specs.declared.functions.Function.{Function}
+use Rattle.blz_functions.specs.declared.inlined_functions.InlinedFunction.{InlinedFunction}
 use Rattle.blz_index.specs.BuiltUnits.{Files, built, reading}
-use Rattle.blz_index.specs.CallTree.{CallLists, unit_calls}
-use Rattle.blz_index.specs.Chain.{chain}
-use Rattle.blz_index.specs.FunctionList.{Lists, unit_lists}
-use Rattle.blz_index.specs.Leaves.{UnitParts}
-use Rattle.blz_index.specs.Ranges.{best_owner}
-use Rattle.blz_index.specs.References.{refer_from}
+use Rattle.blz_functions.specs.CallTree.{CallLists, unit_calls}
+use Rattle.blz_functions.specs.Chain.{chain}
+use Rattle.blz_functions.specs.FunctionList.{Lists, unit_lists}
+use Rattle.blz_functions.specs.Leaves.{UnitParts}
+use Rattle.blz_ranges.specs.Ranges.{best_owner}
+use Rattle.blz_functions.specs.References.{refer_from}
 use Rattle.blz_index.specs.UnitTables.{UnitTable, reach_of, announcing, lines_in}
 
 -- ---- one unit

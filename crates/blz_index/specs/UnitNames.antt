@@ -7,14 +7,14 @@ use Rattle.blz_model.specs.declared.cache.Cache.{Cache}
 use Rattle.blz_model.specs.declared.cache.Cache.TheVariants.{Empty, Value, Mark}
 use Rattle.blz_entry.specs.Marks.{or_invalid}
 use Rattle.blz_entry.specs.declared.text.Texts.{Texts}
-use Rattle.blz_elf.specs.declared.visit.Flow.{Flow}
-use Rattle.blz_index.specs.declared.functions.Function.{Function}
+use Rattle.blz_moves.specs.declared.flow.Flow.{Flow}
+use Rattle.blz_functions.specs.declared.functions.Function.{Function}
 use Rattle.blz_index.specs.declared.unit_caches.UnitCaches.{UnitCaches}
 use Rattle.blz_index.specs.declared.units.Units.{Units}
-use Rattle.blz_index.specs.FunctionList.{Lists}
+use Rattle.blz_functions.specs.FunctionList.{Lists}
 use Rattle.blz_index.specs.KeptAnswers.{kept_part}
 use Rattle.blz_index.specs.KeptParts.{functions_at, lists_view}
-use Rattle.blz_index.specs.Ranges.{FunctionRanges}
+use Rattle.blz_functions.specs.FunctionRanges.{FunctionRanges}
 use Rattle.blz_index.specs.ShownFunctions.{Numbered, ShowsUnit}
 use Rattle.blz_index.specs.UnitAnswers.{first_called, in_unit}
 use Rattle.blz_index.specs.UnitsWarm.{functions_cache, functions_kept, is_value}

@@ -12,7 +12,7 @@ use Rattle.blz_entry.specs.declared.text.Texts.{Texts}
 use Rattle.blz_line.specs.FileNames.{file_text}
 use Rattle.blz_line.specs.Lookups.{line_at}
 use Rattle.blz_line.specs.UnitLines.{LineTable}
-use Rattle.blz_index.specs.declared.inlined_functions.InlinedFunction.{InlinedFunction}
+use Rattle.blz_functions.specs.declared.inlined_functions.InlinedFunction.{InlinedFunction}
 use Rattle.blz_index.specs.BuiltUnits.{Files}
 use Rattle.blz_index.specs.UnitAnswers.{unit_lines, covering_calls}
 use Rattle.blz_index.specs.UnitTables.{UnitTable, announcing}

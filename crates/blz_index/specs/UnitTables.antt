@@ -1,25 +1,24 @@
 -- The units of a file, and the addresses that they announce (DWARF 5 sections 6.1.2, 7.5.1 and 3.1.1).
 use Rattle.std.specs.Prelude.{ℕ, Bool, true, false, not, List, [], ◌∷◌, ◌++◌, length, Option, Some, None, filter, is_some, if◌then◌else◌}
 use Rattle.std.specs.List.{slice_get}
-use Rattle.std.specs.Option.{option_to_list}
 use Rattle.blz_model.specs.Reads.{◌>>=◌}
 use Rattle.blz_entry.specs.Contents.{Contents}
 use Rattle.blz_entry.specs.Folds.{fold_maybe}
 use Rattle.blz_entry.specs.Headers.{headers_from}
 use Rattle.blz_entry.specs.declared.aranges.ArangeSet.{ArangeSet}
-use Rattle.blz_entry.specs.declared.span.Span.{Span}
+use Rattle.blz_ranges.specs.declared.span.Span.{Span}
 use Rattle.blz_entry.specs.declared.units.UnitHeader.{UnitHeader}
 use Rattle.blz_entry.specs.declared.units.UnitKind.{UnitKind}
 use Rattle.blz_entry.specs.declared.units.UnitKind.TheVariants.{Compile, TypeUnit, Partial, Skeleton, SplitCompile, SplitType}
 use Rattle.blz_line.specs.Lookups.{spans_of}
 use Rattle.blz_line.specs.UnitLines.{LineTable, maybe_table}
-use Rattle.blz_split.specs.FileSections.{FileSections}
+use Rattle.blz_entry.specs.FileSections.{FileSections}
 use Rattle.blz_index.specs.BuiltUnits.{Files, built, reading, sup_built}
-use Rattle.blz_index.specs.Leaves.{UnitParts, lying, ranges_in}
-use Rattle.blz_index.specs.Owned.{Owned, items_of, owner_at, own_all}
-use Rattle.blz_index.specs.References.{Reach}
+use Rattle.blz_functions.specs.Leaves.{UnitParts, lying, ranges_in}
+use Rattle.blz_ranges.specs.Owned.{Owned, items_of, own_all, owners_of}
+use Rattle.blz_functions.specs.References.{Reach}
 use Rattle.blz_index.specs.Sets.{sets_from, named}
-use Rattle.blz_index.specs.Turns.{covering}
+use Rattle.blz_ranges.specs.Turns.{covering}
 
 -- ---- what a unit announces
 
@@ -120,6 +119,10 @@ unfoldable pub sup_units : Option FileSections → Option (List UnitHeader)
 sup_units None = Some []
 sup_units (Some s) = units_in s.info
 
+-- Their headers have to have a value.
+abbrev pub sups_checked : Option FileSections → Option (Unit {0})
+sups_checked s = sup_units s >>= λ _. Some tt
+
 -- The units that are kept, what they announce, and the units of the supplementary file.
 pub record UnitTable : Type 0 where
   pub kept : List UnitHeader
@@ -145,11 +148,6 @@ reach_of f t = record {
   sups = t.sups;
   sup = λ k. slice_get t.sups k >>= sup_built f.sup;
 }
-
--- the owners of the ranges at some places
-abbrev pub owners_of : List (Owned Span) → List ℕ → List ℕ
-owners_of ranges [] = []
-owners_of ranges (p ∷ places) = option_to_list (owner_at ranges p) ++ owners_of ranges places
 
 -- The units that announce an address, by the ranges that cover it: the greatest begin first, then the earlier place. A
 -- unit may stand there more than once.

@@ -5,16 +5,19 @@ use Rattle.blz_error.specs.Fault.{Fault}
 use Rattle.blz_model.specs.Kept.{is_kept}
 use Rattle.blz_model.specs.declared.cache.Cache.{Cache}
 use Rattle.blz_model.specs.declared.cache.Cache.TheVariants.{Empty, Value, Mark}
-use Rattle.blz_entry.specs.declared.span.Span.{Span}
-use Rattle.blz_index.specs.declared.functions.Function.{Function}
+use Rattle.blz_ranges.specs.declared.span.Span.{Span}
+use Rattle.blz_line.specs.UnitLines.{OrderedLines}
+use Rattle.blz_functions.specs.declared.functions.Function.{Function}
 use Rattle.blz_index.specs.declared.unit_caches.UnitCaches.{UnitCaches}
 use Rattle.blz_index.specs.declared.units.Units.{Units}
 use Rattle.blz_index.specs.BuiltUnits.{Files}
-use Rattle.blz_index.specs.Groups.{AreApart}
+use Rattle.blz_functions.specs.CallTree.{CallLists}
+use Rattle.blz_ranges.specs.Groups.{AreApart}
 use Rattle.blz_index.specs.Growing.{Told, UnitsGrowTo}
-use Rattle.blz_index.specs.KeptParts.{AllFit, AllFull, functions_at, lines_at, calls_at}
-use Rattle.blz_index.specs.Owned.{Owned, items_of}
-use Rattle.blz_index.specs.Ranges.{FunctionRanges, OwnedRanges}
+use Rattle.blz_index.specs.KeptParts.{AllFit, AllFull, functions_at, lines_at, calls_at, calls_view}
+use Rattle.blz_ranges.specs.Owned.{Owned, items_of}
+use Rattle.blz_functions.specs.FunctionRanges.{FunctionRanges, CallRanges}
+use Rattle.blz_ranges.specs.Ranges.{OwnedRanges}
 use Rattle.blz_index.specs.TableViews.{table_view}
 use Rattle.blz_index.specs.UnitTables.{UnitTable, units_of}
 
@@ -35,6 +38,16 @@ units_prepared u = u.prepared
 -- the functions of a unit that are kept
 abbrev pub functions_cache : Units → ℕ → Cache FunctionRanges
 functions_cache u k = functions_at u.caches.units.items k
+
+-- the inlined calls of a function of a unit that are kept
+abbrev pub calls_cache : Units → ℕ → ℕ → Cache CallRanges
+calls_cache u k n = calls_at u.caches.units.items k n
+
+-- the value that is kept, where one is
+abbrev pub value_in : {X : Type 0} → Cache X → Option X
+value_in Empty = None
+value_in (Value x) = Some x
+value_in (Mark k) = None
 
 abbrev pub is_value : {X : Type 0} → Cache X → Bool
 is_value Empty = false
@@ -60,6 +73,10 @@ ranges_in (Mark k) = []
 abbrev pub functions_kept : Units → ℕ → Bool
 functions_kept u k = is_value (functions_cache u k)
 
+-- whether the inlined calls of a function of a unit are there
+abbrev pub calls_kept : Units → ℕ → ℕ → Bool
+calls_kept u k n = is_value (calls_cache u k n)
+
 -- whether they are there, and their order was accepted
 abbrev pub functions_ordered : Units → ℕ → Bool
 functions_ordered u k = has_order (functions_cache u k)
@@ -68,9 +85,24 @@ functions_ordered u k = has_order (functions_cache u k)
 abbrev pub kept_function : Units → ℕ → ℕ → Option Function
 kept_function u k n = function_in (functions_cache u k) n
 
--- whether the lines of a unit were read, as their value or their mark
+-- the lines of a unit that are kept
+abbrev pub lines_cache : Units → ℕ → Cache (Option OrderedLines)
+lines_cache u k = lines_at u.caches.units.items k
+
+-- whether they were read, as their value or their mark
 abbrev pub lines_kept : Units → ℕ → Bool
-lines_kept u k = is_kept (lines_at u.caches.units.items k)
+lines_kept u k = is_kept (lines_cache u k)
+
+-- inlined calls by what is kept of them
+abbrev pub calls_told : Cache CallRanges → Option CallLists
+calls_told Empty = None
+calls_told (Value x) = Some (calls_view x)
+calls_told (Mark k) = None
+
+-- the same by the file
+abbrev pub calls_listed : Option CallLists → Option (Option CallLists)
+calls_listed None = None
+calls_listed (Some l) = Some (Some l)
 
 -- ---- the file that they fit
 

@@ -1,23 +1,28 @@
 //! What a unit announces.
-ghost use Rattle.std.specs.Prelude.{◌≡◌, ◌≢◌, ◌++◌, Option, Some, MatchResult, OnOk, option_map};
+ghost use Rattle.std.specs.Prelude.{◌≡◌, ◌≢◌, ◌++◌, Option, Some, is_some, IfOk, IfSome, MatchResult, OnOk, option_map};
 ghost use Rattle.blz_error.specs.declared.kind.ErrorKind.TheVariants.{OutOfMemory};
-ghost use Rattle.blz_model.specs.Part.{Gives};
+ghost use Rattle.blz_model.specs.Part.{Good, Gives};
 ghost use Rattle.blz_entry.specs.Marks.{or_invalid};
 ghost use Rattle.blz_line.specs.Lookups.{span_of, spans_of};
 ghost use Rattle.blz_line.specs.UnitLines.{OrderedLines};
-ghost use Rattle.blz_index.specs.BuiltUnits.{built, files_view, IsReadable};
-ghost use Rattle.blz_index.specs.Opened.{open_view};
+ghost use Rattle.blz_index.specs.BuiltUnits.{built, built_view, files_view, BuiltFits, IsReadable};
+ghost use Rattle.blz_index.specs.KeptParts.{IsPartOf};
+ghost use Rattle.blz_functions.specs.Opened.{open_view};
+ghost use Rattle.blz_index.specs.Sharing.{AreShared};
 ghost use Rattle.blz_index.specs.UnitLists.{IsInPlace};
 ghost use Rattle.blz_index.specs.UnitTables.{added_to, announces, by_root, is_type, is_partial, lines_in, root_behind, sequences_of};
 
 use crate::address_sets::AddressSets;
 use crate::built_unit::BuiltUnit;
 use crate::dwarf::{Dwarf, Origin};
-use crate::open_unit::OpenUnit;
+use crate::shared_parts::SharedParts;
+use crate::unit_parts::may_be_split;
 use blz_bytes::AsTheyStand;
 use blz_entry::{Span, UnitHeader, UnitKind};
 use blz_error::{Error, ErrorKind, Result};
+use blz_functions::OpenUnit;
 use blz_line::{LineSequence, Lines};
+use blz_model::Cache;
 use std::alloc::{AllocError, Global};
 
 /// Whether a unit is a type unit.
@@ -114,52 +119,87 @@ fn append_root(alloc: Global, unit: &OpenUnit<'_, '_>, out: &mut Vec<Span>) -> R
     append_lines(alloc, unit, out)
 }
 
-/// Appends what a unit that no set names announces, and says whether it is kept: it is where it can be built.
+/// The same of a unit that is built.
+fn append_unit(
+    alloc: Global,
+    dwarf: &Dwarf<'_, '_>,
+    unit: &BuiltUnit,
+    out: &mut Vec<Span>,
+) -> Result<()>
+    requires readable { IsReadable dwarf.now }
+    requires fits { BuiltFits (files_view dwarf.now) unit.now }
+    ensures { Gives (λ _. out.new.items) result (or_invalid (root_behind (built_view (files_view dwarf.now) unit.now) out.old.items)) }
+{
+    append_root(alloc, &unit.open(dwarf), out)
+}
+
+/// What is kept of a unit that was built: nothing where its functions may stand in a package.
+fn kept_of(dwarf: &Dwarf<'_, '_>, header: &UnitHeader, unit: BuiltUnit) -> Cache<BuiltUnit>
+    requires fits { BuiltFits (files_view dwarf.now) unit }
+    requires is { or_invalid (built (files_view dwarf.now).main header.now) ≡ Good (built_view (files_view dwarf.now) unit) }
+    ensures { IsPartOf (files_view dwarf.now) header.now result }
+{
+    if may_be_split(dwarf, header) {
+        return Cache::Empty;
+    }
+    Cache::Value(unit)
+}
+
+/// Appends what a unit that no set names announces, and gives what is kept of it; None where it is not kept, as it cannot
+/// be built.
 fn append_built(
     alloc: Global,
     dwarf: &Dwarf<'_, '_>,
+    shared: &mut SharedParts,
     header: &UnitHeader,
     out: &mut Vec<Span>,
-) -> Result<bool>
+) -> Result<Option<Cache<BuiltUnit>>>
     requires readable { IsReadable dwarf.now }
     requires in_place { IsInPlace header.now }
-    ensures { Gives (λ kept. (out.new.items, kept)) result (or_invalid (added_to out.old.items (by_root (built (files_view dwarf.now).main header.now)))) }
+    requires shared { AreShared (files_view dwarf.now).main shared.old }
+    ensures value { Gives (λ kept. (out.new.items, is_some kept)) result (or_invalid (added_to out.old.items (by_root (built (files_view dwarf.now).main header.now)))) }
+    ensures part { IfOk result (λ kept. IfSome kept (IsPartOf (files_view dwarf.now) header.now)) }
+    ensures shared { AreShared (files_view dwarf.now).main shared.new }
 {
-    let unit = match BuiltUnit::of_file(alloc, dwarf, Origin::Main, header) {
+    let unit = match BuiltUnit::of_file(alloc, dwarf, shared, Origin::Main, header) {
         Ok(unit) => unit,
         Err(fault) => {
             unless_memory(fault)?;
-            return Ok(false);
+            return Ok(None);
         }
     };
-    append_root(alloc, &unit.open(dwarf), out)?;
-    Ok(true)
+    append_unit(alloc, dwarf, &unit, out)?;
+    Ok(Some(kept_of(dwarf, header, unit)))
 }
 
-/// Appends what a unit announces, and says whether it is kept. InvalidDwarf exactly where the list of ranges of its root
-/// is needed and has no value.
+/// Appends what a unit announces, and gives what is kept of it: the unit itself where it had to be built; None where the
+/// unit is not kept. InvalidDwarf exactly where the list of ranges of its root is needed and has no value.
 #[tactic(auto, unfolding(crate::specs::UnitTables::announces))]
 pub fn append_announced(
     alloc: Global,
     dwarf: &Dwarf<'_, '_>,
     sets: &AddressSets,
+    shared: &mut SharedParts,
     header: &UnitHeader,
     out: &mut Vec<Span>,
-) -> Result<bool>
+) -> Result<Option<Cache<BuiltUnit>>>
     requires readable { IsReadable dwarf.now }
     requires in_place { IsInPlace header.now }
-    ensures { Gives (λ kept. (out.new.items, kept)) result (or_invalid (added_to out.old.items (announces (files_view dwarf.now).main sets.now header.now))) }
+    requires shared { AreShared (files_view dwarf.now).main shared.old }
+    ensures value { Gives (λ kept. (out.new.items, is_some kept)) result (or_invalid (added_to out.old.items (announces (files_view dwarf.now).main sets.now header.now))) }
+    ensures part { IfOk result (λ kept. IfSome kept (IsPartOf (files_view dwarf.now) header.now)) }
+    ensures shared { AreShared (files_view dwarf.now).main shared.new }
 {
     if is_type(header.kind) {
-        return Ok(false);
+        return Ok(None);
     }
     if is_partial(header.kind) {
-        return Ok(true);
+        return Ok(Some(Cache::Empty));
     }
     let before = out.len();
     sets.append_ranges(&dwarf.main.aranges, header.start, out)?;
     if out.len() > before {
-        return Ok(true);
+        return Ok(Some(Cache::Empty));
     }
-    append_built(alloc, dwarf, header, out)
+    append_built(alloc, dwarf, shared, header, out)
 }

@@ -1,28 +1,32 @@
 //! Units that are built, as places and numbers.
 ghost use Rattle.std.specs.Prelude.{◌≡◌, ◌≤◌, ◌<◌, ◌+◌, ◌^◌, length, IfOk, IfSome, Option};
+ghost use Rattle.std.specs.Arc.{arc_value};
 ghost use Rattle.blz_model.specs.Part.{Gives, Exactly};
 ghost use Rattle.blz_entry.specs.Marks.{or_invalid};
 ghost use Rattle.blz_entry.specs.Roots.{root_of};
 ghost use Rattle.blz_index.specs.BuiltUnits.{built, built_view, first_unit, has_lines, has_id, not_empty, parts_of, pieces_of, reading, rooted_on, sections_from, split_built, files_view, BuiltFits, IsInside, IsReadable};
-ghost use Rattle.blz_index.specs.Leaves.{lying};
+ghost use Rattle.blz_functions.specs.Leaves.{lying};
 ghost use Rattle.blz_index.specs.declared.dwarf.Origin.TheVariants.{Split};
-ghost use Rattle.blz_index.specs.Opened.{open_view, CanBeOpened};
-ghost use Rattle.blz_split.specs.FileSections.{sections_view};
+ghost use Rattle.blz_functions.specs.Opened.{open_view, CanBeOpened};
+ghost use Rattle.blz_index.specs.Sharing.{AreShared};
+ghost use Rattle.blz_entry.specs.FileSections.{sections_view};
 
 use crate::dwarf::{Dwarf, Origin};
-use crate::fault::invalid;
-use crate::open_unit::OpenUnit;
-use blz_entry::{Abbreviations, Sections, UnitHeader, UnitHeaders, UnitKind, UnitRoot};
+use crate::shared_parts::SharedParts;
+use blz_entry::{Abbreviations, Sections, UnitHeader, UnitHeaders, UnitKind, UnitRoot, invalid};
 use blz_error::Result;
-use blz_line::LineHeader;
+use blz_functions::OpenUnit;
 use blz_split::SplitUnit;
 use std::alloc::Global;
+use std::ops::Deref;
+use std::sync::Arc;
 
-/// A unit that is built: its abbreviations and its root are read, and its line program has a header.
+/// A unit that is built: its abbreviations and its root are read, and its line program has a header. Units with one table
+/// of abbreviations share it.
 #[derive(Drop)]
 pub struct BuiltUnit {
     pub header: UnitHeader,
-    pub abbreviations: Abbreviations,
+    pub abbreviations: Arc<Abbreviations>,
     pub root: UnitRoot,
     pub origin: Origin,
 }
@@ -41,15 +45,18 @@ fn has_id(kind: UnitKind) -> bool
 fn check_lines(
     alloc: Global,
     sections: &Sections<'_, '_>,
+    shared: &mut SharedParts,
     header: &UnitHeader,
     line: Option<u64>,
 ) -> Result<()>
-    ensures { Gives (λ _. tt) result (or_invalid (has_lines (sections_view sections.now) header.now line)) }
+    requires { AreShared (sections_view sections.now) shared.old }
+    ensures value { Gives (λ _. tt) result (or_invalid (has_lines (sections_view sections.now) header.now line)) }
+    ensures shared { AreShared (sections_view sections.now) shared.new }
 {
-    if let Some(at) = line {
-        LineHeader::parse(alloc, sections, at, header.address_size)?;
+    match line {
+        Some(at) => shared.check_header(alloc, sections, at, header.address_size),
+        None => Ok(()),
     }
-    Ok(())
 }
 
 /// The header of the first unit of a section, which has to be there.
@@ -82,14 +89,17 @@ fn root_of(
 fn read(
     alloc: Global,
     sections: &Sections<'_, '_>,
+    shared: &mut SharedParts,
     header: &UnitHeader,
-) -> Result<(Abbreviations, UnitRoot)>
-    requires { sections.now.shift + length sections.now.info.bytes.now < 2 ^ 64 }
-    ensures { Gives (λ r. parts_of (sections_view sections.now) header.now r) result (or_invalid (built (sections_view sections.now) header.now)) }
+) -> Result<(Arc<Abbreviations>, UnitRoot)>
+    requires fits { sections.now.shift + length sections.now.info.bytes.now < 2 ^ 64 }
+    requires shared { AreShared (sections_view sections.now) shared.old }
+    ensures value { Gives (λ r. parts_of (sections_view sections.now) header.now (arc_value r.0, r.1)) result (or_invalid (built (sections_view sections.now) header.now)) }
+    ensures shared { AreShared (sections_view sections.now) shared.new }
 {
-    let abbreviations = Abbreviations::parse(alloc, sections.abbrev.bytes, header.abbrev)?;
-    let root = root_of(sections, header, &abbreviations)?;
-    check_lines(alloc, sections, header, root.line)?;
+    let abbreviations = shared.table(alloc, sections, header)?;
+    let root = root_of(sections, header, abbreviations.deref())?;
+    check_lines(alloc, sections, shared, header, root.line)?;
     Ok((abbreviations, root))
 }
 
@@ -122,21 +132,25 @@ fn not_empty(pieces: Option<SplitUnit>) -> Option<SplitUnit>
 impl BuiltUnit {
     /// Builds a unit of an origin. InvalidDwarf exactly where its abbreviations, its root or the header of its line
     /// program have no value.
+    #[tactic(auto, using(crate::proofs::Shared::shared_to, crate::proofs::Shared::shared_from))]
     pub fn of_file(
         alloc: Global,
         dwarf: &Dwarf<'_, '_>,
+        shared: &mut SharedParts,
         origin: Origin,
         header: &UnitHeader,
     ) -> Result<BuiltUnit>
         requires readable { IsReadable dwarf.now }
         requires inside { IsInside (files_view dwarf.now).«package» origin }
         requires ordered { header.now.entries ≤ header.now.end }
+        requires shared { AreShared (sections_from (files_view dwarf.now) origin) shared.old }
         ensures value { Gives (built_view (files_view dwarf.now)) result (or_invalid (built (sections_from (files_view dwarf.now) origin) header.now)) }
         ensures fits { IfOk result (BuiltFits (files_view dwarf.now)) }
         ensures origin { IfOk result (λ u. u.origin ≡ origin) }
+        ensures shared { AreShared (sections_from (files_view dwarf.now) origin) shared.new }
     {
         let sections = dwarf.sections(&origin);
-        let (abbreviations, root) = read(alloc, &sections, header)?;
+        let (abbreviations, root) = read(alloc, &sections, shared, header)?;
         Ok(BuiltUnit {
             header: *header,
             abbreviations,
@@ -157,7 +171,7 @@ impl BuiltUnit {
         BuiltUnit { root, ..self }
     }
 
-    /// The unit of the pieces of a package, based on the main unit that has its id.
+    /// The unit of the pieces of a package, based on the main unit that has its id. It shares nothing with others.
     #[tactic(auto, unfolding(crate::specs::BuiltUnits::split_built))]
     fn of_pieces(
         alloc: Global,
@@ -172,7 +186,8 @@ impl BuiltUnit {
     {
         let origin = Origin::Split(pieces);
         let header = first_header(&dwarf.sections(&origin))?;
-        let unit = BuiltUnit::of_file(alloc, dwarf, origin, &header)?;
+        let mut shared = SharedParts::new(alloc);
+        let unit = BuiltUnit::of_file(alloc, dwarf, &mut shared, origin, &header)?;
         Ok(unit.based_on(main))
     }
 
@@ -180,16 +195,23 @@ impl BuiltUnit {
     /// has one that is not empty, and else the unit itself. InvalidDwarf exactly where that cannot be built, or the index
     /// of the package has no value for the id.
     #[tactic(auto, unfolding(crate::specs::BuiltUnits::reading))]
-    pub fn reading(alloc: Global, dwarf: &Dwarf<'_, '_>, header: &UnitHeader) -> Result<BuiltUnit>
+    pub fn reading(
+        alloc: Global,
+        dwarf: &Dwarf<'_, '_>,
+        shared: &mut SharedParts,
+        header: &UnitHeader,
+    ) -> Result<BuiltUnit>
         requires readable { IsReadable dwarf.now }
         requires ordered { header.now.entries ≤ header.now.end }
+        requires shared { AreShared (files_view dwarf.now).main shared.old }
         ensures value { Gives (built_view (files_view dwarf.now)) result (or_invalid (reading (files_view dwarf.now) header.now)) }
         ensures fits { IfOk result (BuiltFits (files_view dwarf.now)) }
+        ensures shared { AreShared (files_view dwarf.now).main shared.new }
     {
         let Some(pieces) = pieces_of(dwarf, header)? else {
-            return BuiltUnit::of_file(alloc, dwarf, Origin::Main, header);
+            return BuiltUnit::of_file(alloc, dwarf, shared, Origin::Main, header);
         };
-        let main = BuiltUnit::of_file(alloc, dwarf, Origin::Main, header)?;
+        let main = BuiltUnit::of_file(alloc, dwarf, shared, Origin::Main, header)?;
         BuiltUnit::of_pieces(alloc, dwarf, pieces, &main.root)
     }
 
@@ -203,7 +225,7 @@ impl BuiltUnit {
         OpenUnit {
             sections: dwarf.sections(&self.origin),
             header: self.header,
-            abbreviations: &self.abbreviations,
+            abbreviations: self.abbreviations.deref(),
             root: self.root,
         }
     }

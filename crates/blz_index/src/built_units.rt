@@ -1,25 +1,27 @@
 //! Units that are built, where they are kept.
-ghost use Rattle.std.specs.Prelude.{◌≡◌, ◌≤◌, true, List, Option, IfOk};
+ghost use Rattle.std.specs.Prelude.{◌≡◌, ◌≤◌, true, List, [], Option, IfOk};
 ghost use Rattle.std.specs.List.{slice_get, slice_set};
 ghost use Rattle.blz_model.specs.Part.{Gives, Exactly};
 ghost use Rattle.blz_model.specs.Kept.{Kept, is_kept};
 ghost use Rattle.blz_model.specs.declared.cache.Cache.TheVariants.{Empty};
 ghost use Rattle.blz_entry.specs.Marks.{or_invalid};
 ghost use Rattle.blz_index.specs.BuiltUnits.{files_view, built_view, BuiltFits, IsReadable};
-ghost use Rattle.blz_index.specs.KeptParts.{or_empty, is_missing, caches_of, side_unit, unit_of, IsFilled, AllBuilt, BuiltFit};
-ghost use Rattle.blz_index.specs.Opened.{open_view, CanBeOpened};
+ghost use Rattle.blz_index.specs.KeptParts.{or_empty, is_missing, caches_of, side_sections, side_unit, unit_of, IsFilled, AllBuilt, SideFits, BuiltFit};
+ghost use Rattle.blz_functions.specs.Opened.{open_view, CanBeOpened};
 ghost use Rattle.blz_index.specs.Readers.{reader_files, reader_table};
+ghost use Rattle.blz_index.specs.Sharing.{AreShared};
+ghost use Rattle.blz_entry.specs.FileSections.{FileSections};
 
 use crate::built_unit::BuiltUnit;
 use crate::dwarf::{Dwarf, Origin};
-use crate::fault::invalid;
-use crate::open_unit::OpenUnit;
 use crate::reader::Reader;
+use crate::shared_parts::SharedParts;
 use crate::unit_list::UnitList;
-use blz_entry::UnitHeader;
+use blz_entry::{UnitHeader, invalid};
 use blz_error::{Error, ErrorKind, Result, Str};
+use blz_functions::OpenUnit;
 use blz_model::Cache;
-use std::alloc::AllocError;
+use std::alloc::{AllocError, Global};
 use std::mem;
 
 /// Which file a unit stands in.
@@ -31,11 +33,31 @@ pub enum Side {
     Sup,
 }
 
+/// The units of a file that were built, and what they share.
+#[derive(Drop)]
+pub struct SideUnits {
+    pub units: Vec<Cache<BuiltUnit>>,
+    pub shared: SharedParts,
+}
+
 /// The units that were built: the kept ones of the file itself, and those of the supplementary file.
 #[derive(Drop)]
 pub struct BuiltUnits {
-    pub kept: Vec<Cache<BuiltUnit>>,
-    pub sups: Vec<Cache<BuiltUnit>>,
+    pub kept: SideUnits,
+    pub sups: SideUnits,
+}
+
+impl SideUnits {
+    /// No units; takes no memory.
+    pub fn new(alloc: Global) -> SideUnits
+        ensures units { result.units.items ≡ [] }
+        ensures shared { (s : FileSections) → AreShared s result.shared }
+    {
+        SideUnits {
+            units: Vec::new(alloc),
+            shared: SharedParts::new(alloc),
+        }
+    }
 }
 
 /// Whether nothing is kept at a number of a list.
@@ -91,15 +113,19 @@ pub fn look<'u, 'b>(
 }
 
 impl<'r, 's, 'b> Reader<'r, 's, 'b> {
-    fn build(&self, side: Side, header: &UnitHeader) -> Result<BuiltUnit>
+    fn build(&self, side: Side, shared: &mut SharedParts, header: &UnitHeader) -> Result<BuiltUnit>
         requires readable { IsReadable self.now.dwarf.now }
         requires ordered { header.now.entries ≤ header.now.end }
+        requires shared { AreShared (side_sections (reader_files self.now) side) shared.old }
         ensures value { Gives (built_view (reader_files self.now)) result (or_invalid (side_unit (reader_files self.now) side header.now)) }
         ensures fits { IfOk result (BuiltFits (reader_files self.now)) }
+        ensures shared { AreShared (side_sections (reader_files self.now) side) shared.new }
     {
         match (side, &self.dwarf.sup) {
-            (Side::File, _) => BuiltUnit::reading(self.alloc, self.dwarf, header),
-            (Side::Sup, Some(_)) => BuiltUnit::of_file(self.alloc, self.dwarf, Origin::Sup, header),
+            (Side::File, _) => BuiltUnit::reading(self.alloc, self.dwarf, shared, header),
+            (Side::Sup, Some(_)) => {
+                BuiltUnit::of_file(self.alloc, self.dwarf, shared, Origin::Sup, header)
+            },
             (Side::Sup, None) => Err(invalid("there is no supplementary file")),
         }
     }
@@ -108,14 +134,17 @@ impl<'r, 's, 'b> Reader<'r, 's, 'b> {
     fn part(
         &self,
         side: Side,
+        shared: &mut SharedParts,
         header: &UnitHeader,
     ) -> std::result::Result<Cache<BuiltUnit>, AllocError>
         requires readable { IsReadable self.now.dwarf.now }
         requires ordered { header.now.entries ≤ header.now.end }
+        requires shared { AreShared (side_sections (reader_files self.now) side) shared.old }
         ensures kept { IfOk result (λ c. Kept (BuiltFits (reader_files self.now)) (built_view (reader_files self.now)) c (or_invalid (side_unit (reader_files self.now) side header.now))) }
         ensures full { IfOk result (λ c. is_kept c ≡ true) }
+        ensures shared { AreShared (side_sections (reader_files self.now) side) shared.new }
     {
-        match self.build(side, header) {
+        match self.build(side, shared, header) {
             Ok(unit) => Ok(Cache::Value(unit)),
             Err(e) if e.kind() == ErrorKind::OutOfMemory => Err(AllocError),
             Err(e) => Ok(Cache::Mark(e.kind())),
@@ -128,18 +157,18 @@ impl<'r, 's, 'b> Reader<'r, 's, 'b> {
         &self,
         side: Side,
         units: &UnitList,
-        caches: &mut Vec<Cache<BuiltUnit>>,
+        built: &mut SideUnits,
         number: usize,
     ) -> std::result::Result<(), AllocError>
         requires readable { IsReadable self.now.dwarf.now }
-        requires fits { AllBuilt (reader_files self.now) side units.now caches.old.items }
-        ensures fits { AllBuilt (reader_files self.now) side units.now caches.new.items }
-        ensures filled { IfOk result (λ _. IsFilled (slice_get caches.new.items number)) }
+        requires fits { SideFits (reader_files self.now) side units.now built.old }
+        ensures fits { SideFits (reader_files self.now) side units.now built.new }
+        ensures filled { IfOk result (λ _. IsFilled (slice_get built.new.units.items number)) }
     {
-        if !is_missing(caches.as_slice(), number) {
+        if !is_missing(built.units.as_slice(), number) {
             return Ok(());
         }
-        self.fill_missing(side, units, caches, number)
+        self.fill_missing(side, units, built, number)
     }
 
     /// Builds a unit of which nothing is kept.
@@ -147,21 +176,21 @@ impl<'r, 's, 'b> Reader<'r, 's, 'b> {
         &self,
         side: Side,
         units: &UnitList,
-        caches: &mut Vec<Cache<BuiltUnit>>,
+        built: &mut SideUnits,
         number: usize,
     ) -> std::result::Result<(), AllocError>
         requires readable { IsReadable self.now.dwarf.now }
-        requires fits { AllBuilt (reader_files self.now) side units.now caches.old.items }
-        requires missing { is_missing (slice_get caches.old.items number) ≡ true }
-        ensures fits { AllBuilt (reader_files self.now) side units.now caches.new.items }
-        ensures filled { IfOk result (λ _. IsFilled (slice_get caches.new.items number)) }
+        requires fits { SideFits (reader_files self.now) side units.now built.old }
+        requires missing { is_missing (slice_get built.old.units.items number) ≡ true }
+        ensures fits { SideFits (reader_files self.now) side units.now built.new }
+        ensures filled { IfOk result (λ _. IsFilled (slice_get built.new.units.items number)) }
     {
         let header = match units.get(number) {
             Some(header) => header,
             None => return Ok(()),
         };
-        let made = self.part(side, &header)?;
-        put(caches, number, made);
+        let made = self.part(side, &mut built.shared, &header)?;
+        put(&mut built.units, number, made);
         Ok(())
     }
 

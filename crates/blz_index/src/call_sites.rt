@@ -11,15 +11,14 @@ ghost use Rattle.blz_index.specs.SiteViews.{inlined_view};
 ghost use Rattle.blz_index.specs.UnitAnswers.{unit_lines, covering_calls};
 ghost use Rattle.blz_index.specs.UnitSites.{call_name, call_site, inlined_by, inlined_at};
 
-use crate::fault::invalid;
-use crate::inlined_functions::InlinedFunction;
 use crate::reader::Reader;
 use crate::sites::{InlinedSite, InlinedSites};
 use crate::unit_caches::Caches;
 use crate::unit_looks::{chain_at, site_at};
 use blz_bytes::Orders;
-use blz_entry::{StrPlace, Texts};
+use blz_entry::{StrPlace, Texts, invalid};
 use blz_error::Result;
+use blz_functions::InlinedFunction;
 use blz_line::Location;
 
 /// The name of a call, empty where it has none.
@@ -50,9 +49,7 @@ impl<'r, 's, 'b> Reader<'r, 's, 'b> {
         requires fits { AllFit (reader_files self.now) (reader_table self.now) caches.old }
         ensures value { Gives (λ v. v.items) result (or_invalid (covering_calls (reader_files self.now) (reader_table self.now) probe number function)) }
         ensures fits { AllFit (reader_files self.now) (reader_table self.now) caches.new }
-        ensures grows { UnitsGrowTo (O.pair_places orders.old) caches.old.units.items caches.new.units.items }
-        ensures pairs_stay { O.pair_places orders.new ≡ O.pair_places orders.old }
-        ensures names_stay { O.name_places orders.new ≡ O.name_places orders.old }
+        ensures grows { UnitsGrowTo O.pair_places caches.old.units.items caches.new.units.items }
     {
         self.fill_calls(orders, caches, number, function)?;
         chain_at(self.alloc, caches.units.as_slice(), number, function, probe)
@@ -71,9 +68,7 @@ impl<'r, 's, 'b> Reader<'r, 's, 'b> {
         requires fits { AllFit (reader_files self.now) (reader_table self.now) caches.old }
         ensures value { Gives (λ o. option_map location_view o) result (call_site self.now.dwarf.now.texts (unit_lines (reader_files self.now) (reader_table self.now) number) call.now (Some file)) }
         ensures fits { AllFit (reader_files self.now) (reader_table self.now) caches.new }
-        ensures grows { UnitsGrowTo (O.pair_places orders.old) caches.old.units.items caches.new.units.items }
-        ensures pairs_stay { O.pair_places orders.new ≡ O.pair_places orders.old }
-        ensures names_stay { O.name_places orders.new ≡ O.name_places orders.old }
+        ensures grows { UnitsGrowTo O.pair_places caches.old.units.items caches.new.units.items }
     {
         self.fill_lines(orders, caches, number)?;
         site_at(
@@ -98,9 +93,7 @@ impl<'r, 's, 'b> Reader<'r, 's, 'b> {
         requires fits { AllFit (reader_files self.now) (reader_table self.now) caches.old }
         ensures value { Gives (λ o. option_map location_view o) result (call_site self.now.dwarf.now.texts (unit_lines (reader_files self.now) (reader_table self.now) number) call.now call.now.call_file) }
         ensures fits { AllFit (reader_files self.now) (reader_table self.now) caches.new }
-        ensures grows { UnitsGrowTo (O.pair_places orders.old) caches.old.units.items caches.new.units.items }
-        ensures pairs_stay { O.pair_places orders.new ≡ O.pair_places orders.old }
-        ensures names_stay { O.name_places orders.new ≡ O.name_places orders.old }
+        ensures grows { UnitsGrowTo O.pair_places caches.old.units.items caches.new.units.items }
     {
         match call.call_file {
             Some(file) => self.site_in(orders, caches, number, call, file),
@@ -121,9 +114,7 @@ impl<'r, 's, 'b> Reader<'r, 's, 'b> {
         requires fits { AllFit (reader_files self.now) (reader_table self.now) caches.old }
         ensures value { Gives inlined_view result (inlined_by self.now.dwarf.now.texts (unit_lines (reader_files self.now) (reader_table self.now) number) call.now) }
         ensures fits { AllFit (reader_files self.now) (reader_table self.now) caches.new }
-        ensures grows { UnitsGrowTo (O.pair_places orders.old) caches.old.units.items caches.new.units.items }
-        ensures pairs_stay { O.pair_places orders.new ≡ O.pair_places orders.old }
-        ensures names_stay { O.name_places orders.new ≡ O.name_places orders.old }
+        ensures grows { UnitsGrowTo O.pair_places caches.old.units.items caches.new.units.items }
     {
         let name = match call_name(&self.dwarf.texts, call.name) {
             Ok(name) => name,
@@ -147,9 +138,7 @@ impl<'r, 's, 'b> Reader<'r, 's, 'b> {
         requires fits { AllFit (reader_files self.now) (reader_table self.now) caches.old }
         ensures value { Gives (λ s. s) result (all_good (map (inlined_by self.now.dwarf.now.texts (unit_lines (reader_files self.now) (reader_table self.now) number)) calls.now)) }
         ensures fits { AllFit (reader_files self.now) (reader_table self.now) caches.new }
-        ensures grows { UnitsGrowTo (O.pair_places orders.old) caches.old.units.items caches.new.units.items }
-        ensures pairs_stay { O.pair_places orders.new ≡ O.pair_places orders.old }
-        ensures names_stay { O.name_places orders.new ≡ O.name_places orders.old }
+        ensures grows { UnitsGrowTo O.pair_places caches.old.units.items caches.new.units.items }
     {
         let mut sites = Vec::new(self.alloc);
         for call in calls {
@@ -175,9 +164,7 @@ impl<'r, 's, 'b> Reader<'r, 's, 'b> {
         requires fits { AllFit (reader_files self.now) (reader_table self.now) caches.old }
         ensures value { Gives (λ s. s) result (inlined_at self.now.dwarf.now.texts (reader_files self.now) (reader_table self.now) probe number function) }
         ensures fits { AllFit (reader_files self.now) (reader_table self.now) caches.new }
-        ensures grows { UnitsGrowTo (O.pair_places orders.old) caches.old.units.items caches.new.units.items }
-        ensures pairs_stay { O.pair_places orders.new ≡ O.pair_places orders.old }
-        ensures names_stay { O.name_places orders.new ≡ O.name_places orders.old }
+        ensures grows { UnitsGrowTo O.pair_places caches.old.units.items caches.new.units.items }
     {
         let calls = self.chain_in(orders, caches, number, function, probe)?;
         self.inlined_each(orders, caches, number, calls.as_slice())

@@ -1,9 +1,12 @@
 //! Caches of units of which nothing is kept yet.
 ghost use Rattle.std.specs.Prelude.{◌≡◌, length, IfOk};
 ghost use Rattle.blz_index.specs.Cold.{NothingKept, AreEmpty, IsCold};
+ghost use Rattle.blz_index.specs.Sharing.{AreShared};
+ghost use Rattle.blz_entry.specs.FileSections.{FileSections};
 
 use crate::built_unit::BuiltUnit;
-use crate::built_units::BuiltUnits;
+use crate::built_units::{BuiltUnits, SideUnits};
+use crate::shared_parts::SharedParts;
 use crate::unit_caches::{Caches, UnitCaches};
 use blz_model::Cache;
 use std::alloc::{AllocError, Global};
@@ -35,14 +38,30 @@ fn empty_caches(alloc: Global, count: usize) -> Result<Vec<UnitCaches>, AllocErr
     Ok(units)
 }
 
-/// For so many kept units and units of the supplementary file.
-pub fn cold_caches(alloc: Global, kept: usize, sups: usize) -> Result<Caches, AllocError>
-    ensures { IfOk result (IsCold kept sups) }
+/// Units of the supplementary file, of which nothing is built.
+fn empty_sups(alloc: Global, count: usize) -> Result<SideUnits, AllocError>
+    ensures count { IfOk result (λ b. length b.units.items ≡ count) }
+    ensures empty { IfOk result (λ b. NothingKept b.units.items) }
+    ensures shared { IfOk result (λ b. (s : FileSections) → AreShared s b.shared) }
 {
-    let built = BuiltUnits {
-        kept: empty_units(alloc, kept)?,
-        sups: empty_units(alloc, sups)?,
-    };
-    let units = empty_caches(alloc, kept)?;
+    let units = empty_units(alloc, count)?;
+    Ok(SideUnits {
+        units,
+        shared: SharedParts::new(alloc),
+    })
+}
+
+/// For so many kept units, some of which are built, and units of the supplementary file.
+pub fn cold_caches(
+    alloc: Global,
+    kept: SideUnits,
+    count: usize,
+    sups: usize,
+) -> Result<Caches, AllocError>
+    ensures { IfOk result (IsCold kept count sups) }
+{
+    let sups = empty_sups(alloc, sups)?;
+    let units = empty_caches(alloc, count)?;
+    let built = BuiltUnits { kept, sups };
     Ok(Caches { built, units })
 }

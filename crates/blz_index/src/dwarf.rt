@@ -2,11 +2,12 @@
 ghost use Rattle.std.specs.Prelude.{◌≡◌, ◌+◌, ◌<◌, ◌^◌, length, option_map};
 ghost use Rattle.blz_entry.specs.Contents.{section_view};
 ghost use Rattle.blz_index.specs.BuiltUnits.{files_view, sections_from, IsInside, IsReadable};
-ghost use Rattle.blz_split.specs.FileSections.{sections_view, split_sections};
+ghost use Rattle.blz_entry.specs.FileSections.{sections_view};
+ghost use Rattle.blz_split.specs.SplitSections.{split_sections};
 ghost use Rattle.blz_split.specs.PackageParts.{package_view, PiecesFit};
 
-use blz_elf::RelocationMap;
 use blz_entry::{Section, Sections, Texts};
+use blz_moves::RelocationMap;
 use blz_split::{Package, SplitUnit};
 
 /// The sections of a file with what they refer to: a package of split units, and a supplementary file.

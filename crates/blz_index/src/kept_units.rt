@@ -3,17 +3,20 @@ ghost use Rattle.std.specs.Prelude.{◌≡◌, ◌≤◌, ◌++◌, ◌∷◌, [
 ghost use Rattle.blz_model.specs.Part.{Gives};
 ghost use Rattle.blz_entry.specs.Marks.{or_invalid};
 ghost use Rattle.blz_index.specs.BuiltUnits.{files_view, IsReadable};
-ghost use Rattle.blz_index.specs.Owned.{owned, filled_up};
+ghost use Rattle.blz_index.specs.KeptParts.{SideFits};
+ghost use Rattle.blz_index.specs.declared.built_units.Side.TheVariants.{File};
+ghost use Rattle.blz_ranges.specs.Owned.{owned, filled_up};
 ghost use Rattle.blz_index.specs.UnitLists.{EndBefore, IsInPlace};
 ghost use Rattle.blz_index.specs.UnitTables.{with_unit, no_units, units_kept};
 
 use crate::address_sets::AddressSets;
 use crate::announcing::append_announced;
+use crate::built_units::SideUnits;
 use crate::dwarf::Dwarf;
-use crate::owners::own;
 use crate::unit_list::UnitList;
 use blz_entry::{Span, UnitHeader, UnitHeaders};
 use blz_error::Result;
+use blz_ranges::own;
 use std::alloc::{AllocError, Global};
 use std::marker::Model;
 
@@ -27,7 +30,7 @@ pub struct KeptUnits {
 
 impl Model for KeptUnits {
     ghost use Rattle.std.specs.Prelude.{◌≡◌, length};
-    ghost use Rattle.blz_index.specs.Owned.{owned};
+    ghost use Rattle.blz_ranges.specs.Owned.{owned};
     ghost use Rattle.blz_index.specs.UnitTables.{KeptUnits};
 
     ghost Value = { KeptUnits };
@@ -75,41 +78,55 @@ impl KeptUnits {
         alloc: Global,
         dwarf: &Dwarf<'_, '_>,
         sets: &AddressSets,
+        built: &mut SideUnits,
         header: UnitHeader,
     ) -> Result<KeptUnits>
         requires readable { IsReadable dwarf.now }
         requires in_place { IsInPlace header }
         requires behind { EndBefore self.kept header.start }
+        requires fits { SideFits (files_view dwarf.now) File self.kept built.old }
         ensures value { Gives (λ k. k) result (or_invalid (with_unit (files_view dwarf.now).main sets.now self header)) }
         ensures behind { IfOk result (λ k. EndBefore k.kept header.end) }
+        ensures fits { IfOk result (λ k. SideFits (files_view dwarf.now) File k.kept built.new) }
     {
         let KeptUnits {
             kept,
             mut spans,
             owners,
         } = self;
-        if append_announced(alloc, dwarf, sets, &header, &mut spans)? {
-            let units = keep(kept, spans, owners, header)?;
-            return Ok(units);
+        let part = append_announced(alloc, dwarf, sets, &mut built.shared, &header, &mut spans)?;
+        match part {
+            Some(unit) => {
+                let units = keep(kept, spans, owners, header)?;
+                built.units.push(unit)?;
+                Ok(units)
+            },
+            None => Ok(KeptUnits {
+                kept,
+                spans,
+                owners,
+            }),
         }
-        Ok(KeptUnits {
-            kept,
-            spans,
-            owners,
-        })
     }
 
-    /// Reads the headers of all units, each with what it announces.
-    pub fn read(alloc: Global, dwarf: &Dwarf<'_, '_>, sets: &AddressSets) -> Result<KeptUnits>
+    /// Reads the headers of all units, each with what it announces. Those that had to be built for that are given too.
+    #[tactic(auto, using(crate::proofs::BuiltSteps::none_built))]
+    pub fn read(
+        alloc: Global,
+        dwarf: &Dwarf<'_, '_>,
+        sets: &AddressSets,
+    ) -> Result<(KeptUnits, SideUnits)>
         requires { IsReadable dwarf.now }
-        ensures { Gives (λ k. k) result (or_invalid (units_kept (files_view dwarf.now).main sets.now)) }
+        ensures value { Gives (λ r. r.0) result (or_invalid (units_kept (files_view dwarf.now).main sets.now)) }
+        ensures fits { IfOk result (λ r. SideFits (files_view dwarf.now) File r.0.kept r.1) }
     {
         let mut headers = UnitHeaders::new(dwarf.main.info);
         let mut units = KeptUnits::new(alloc);
+        let mut built = SideUnits::new(alloc);
         while let Some(header) = headers.next_header()? {
-            units = units.with_unit(alloc, dwarf, sets, header)?;
+            units = units.with_unit(alloc, dwarf, sets, &mut built, header)?;
         }
-        Ok(units)
+        Ok((units, built))
     }
 
     /// The units, the ranges that they announce, and for each range the number of its unit.

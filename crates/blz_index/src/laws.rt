@@ -1,20 +1,19 @@
-//! Laws on the definitions.
-ghost use Rattle.std.specs.Prelude.{◌≡◌, ℕ, List, Some, map, length};
-ghost use Rattle.blz_entry.specs.declared.span.Span.{Span};
-ghost use Rattle.blz_index.specs.CallTree.{RangedCall, IsTreeOf, calls_of, calls_with, no_calls, tree_call};
-ghost use Rattle.blz_index.specs.Chain.{IsNested, IsPath, chain};
-ghost use Rattle.blz_index.specs.Describing.{Refer};
-ghost use Rattle.blz_index.specs.Leaves.{UnitParts};
-ghost use Rattle.blz_index.specs.Turns.{IsTurns, covering};
+//! What holds of the definitions, as callers use it.
+ghost use Rattle.std.specs.Prelude.{◌≡◌, ℕ, List, Some, length};
+ghost use Rattle.blz_functions.specs.CallTree.{CallLists, IsTreeOf};
+ghost use Rattle.blz_functions.specs.Chain.{IsNested, IsPath, TreeCall, chain};
+ghost use Rattle.blz_index.specs.BuiltUnits.{Files};
+ghost use Rattle.blz_index.specs.FunctionTrees.{HasTree};
+ghost use Rattle.blz_index.specs.UnitAnswers.{function_calls};
+ghost use Rattle.blz_index.specs.UnitTables.{UnitTable};
 
-/// Asking for the best range, and then for the next one, gives all ranges that cover an address, in their order.
-pub fn best_and_next_give_all()
-    ensures { (spans : List Span) (a : ℕ) → IsTurns spans a (covering spans a) }
-{}
+pub use blz_functions::laws::calls_are_tree;
+pub use blz_ranges::laws::best_and_next_give_all;
 
-/// The calls of a function make a tree. So where each call lies within its parent, and apart from those beside it, the
-/// chain of an address is the path of all calls that cover it, each the parent of the next.
-pub fn calls_are_tree()
-    ensures tree { (refer : Refer) (u : UnitParts) (place : ℕ) (calls : List RangedCall) → calls_of refer u place ≡ Some calls → IsTreeOf (calls_with no_calls calls) (map tree_call calls) }
-    ensures path { (refer : Refer) (u : UnitParts) (place : ℕ) (calls : List RangedCall) (a : ℕ) → calls_of refer u place ≡ Some calls → IsNested (map tree_call calls) → IsPath (map tree_call calls) a (chain (calls_with no_calls calls).ranges (length (calls_with no_calls calls).calls) a) }
+/// The calls of a function, by its number in a unit, make a tree, from which their lists are made. So where each call lies
+/// within its parent, and apart from those beside it, the chain of an address is the path of all calls that cover it, each
+/// the parent of the next.
+pub fn function_calls_are_tree()
+    ensures tree { (f : Files) (t : UnitTable) (k n : ℕ) (lists : CallLists) → function_calls f t k n ≡ Some lists → HasTree lists }
+    ensures path { (lists : CallLists) (tree : List TreeCall) (a : ℕ) → IsTreeOf lists tree → IsNested tree → IsPath tree a (chain lists.ranges (length lists.calls) a) }
 {}

@@ -6,24 +6,22 @@ ghost use Rattle.blz_entry.specs.Marks.{or_invalid};
 ghost use Rattle.blz_index.specs.BuiltUnits.{built_view, files_view, BuiltFits, IsReadable};
 ghost use Rattle.blz_index.specs.Following.{target_in, target_of, seen, seen_from, numbered_seen, entry_seen, step_of, name_over, own_side};
 ghost use Rattle.blz_index.specs.KeptParts.{caches_of, IsFilled, BuiltFit};
-ghost use Rattle.blz_index.specs.Naming.{visited};
-ghost use Rattle.blz_index.specs.Opened.{open_view, CanBeOpened};
+ghost use Rattle.blz_functions.specs.Naming.{visited};
+ghost use Rattle.blz_functions.specs.Opened.{open_view, CanBeOpened};
 ghost use Rattle.blz_index.specs.Readers.{reader_files, reader_table};
 ghost use Rattle.blz_index.specs.TableViews.{table_view};
 
 use crate::built_unit::BuiltUnit;
 use crate::built_units::{BuiltUnits, Side, look};
 use crate::dwarf::Dwarf;
-use crate::fault::invalid;
-use crate::links::Links;
-use crate::open_unit::OpenUnit;
 use crate::reader::Reader;
 use crate::unit_table::UnitTable;
-use crate::visit::{Visited, visit};
-use blz_entry::{AttrValue, StrPlace};
+use blz_entry::{AttrValue, StrPlace, invalid};
 use blz_error::Result;
+use blz_functions::{Links, OpenUnit, Visited, visit};
 use std::alloc::Global;
 use std::marker::Model;
+use std::ops::Deref;
 
 /// How many entries a name is looked for over.
 const MOST_ENTRIES: usize = 16;
@@ -91,7 +89,7 @@ pub fn open_in<'u>(unit: &'u BuiltUnit, dwarf: &Dwarf<'u, 'u>) -> OpenUnit<'u, '
     OpenUnit {
         sections: dwarf.whole_sections(&unit.origin),
         header: unit.header,
-        abbreviations: &unit.abbreviations,
+        abbreviations: unit.abbreviations.deref(),
         root: unit.root,
     }
 }
@@ -104,7 +102,7 @@ fn own_side(sup: bool) -> Side
 }
 
 /// What an entry tells of a name, by its distance from the start of its unit.
-#[tactic(auto, unfolding(crate::specs::Naming::visited))]
+#[tactic(auto, unfolding(blz_functions::specs::Naming::visited))]
 fn visit_at(unit: &OpenUnit<'_, '_>, distance: u64) -> Result<Visited>
     requires { CanBeOpened unit.now }
     ensures { Exactly (λ v. v) result (or_invalid (visited (open_view unit.now) (unit.now.header.start + distance))) }
@@ -154,11 +152,23 @@ fn seen_in(
     let standing = Standing::Numbered(side, number);
     match side {
         Side::File => {
-            let unit = look(reader.dwarf, side, &reader.table.kept, &built.kept, number)?;
+            let unit = look(
+                reader.dwarf,
+                side,
+                &reader.table.kept,
+                &built.kept.units,
+                number,
+            )?;
             seen_from(standing, &unit, distance)
         },
         Side::Sup => {
-            let unit = look(reader.dwarf, side, &reader.table.sups, &built.sups, number)?;
+            let unit = look(
+                reader.dwarf,
+                side,
+                &reader.table.sups,
+                &built.sups.units,
+                number,
+            )?;
             seen_from(standing, &unit, distance)
         },
     }
@@ -298,9 +308,13 @@ impl<'u> References<'u> {
 }
 
 impl<'u> Links for References<'u> {
-    ghost use Rattle.blz_index.specs.Linkage.{Among};
+    ghost use Rattle.blz_index.specs.Linkage.{Linked, refer_in};
 
-    ghost linkage = { λ r. Among r };
+    ghost Among = { Linked };
+
+    ghost linkage = { λ r. r };
+
+    ghost refer = { refer_in };
 
     fn follow(&mut self, value: AttrValue) -> Result<Option<StrPlace>> {
         let sup = self.is_sup();

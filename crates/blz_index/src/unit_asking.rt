@@ -13,16 +13,15 @@ ghost use Rattle.blz_index.specs.UnitAnswers.{unit_language, unit_lines, best_fu
 ghost use Rattle.blz_index.specs.UnitSites.{line_in, location_at, call_name, call_site, inlined_by};
 ghost use Rattle.blz_index.specs.UnitsWarm.{is_value};
 
-use crate::fault::invalid;
-use crate::inlined_functions::InlinedFunction;
 use crate::reader::Reader;
 use crate::sites::InlinedSite;
 use crate::unit_caches::Caches;
 use crate::unit_looks;
 use crate::units_at::UnitsAt;
 use blz_bytes::{Orders, Steps};
-use blz_entry::{StrPlace, Texts};
+use blz_entry::{StrPlace, Texts, invalid};
 use blz_error::Result;
+use blz_functions::InlinedFunction;
 use blz_line::Location;
 use blz_model::SrcLang;
 use std::sync::ledger::{Blank, Ledger};
@@ -54,9 +53,7 @@ impl<'r, 's, 'b> Reader<'r, 's, 'b> {
         ensures value { Gives (λ n. n) result (or_invalid (best_function (reader_files self.now) (reader_table self.now) probe number)) }
         ensures there { IfOk result (λ _. is_value (functions_at caches.new.units.items number) ≡ true) }
         ensures fits { AllFit (reader_files self.now) (reader_table self.now) caches.new }
-        ensures grows { UnitsGrowTo (O.pair_places orders.old) caches.old.units.items caches.new.units.items }
-        ensures pairs_stay { O.pair_places orders.new ≡ O.pair_places orders.old }
-        ensures names_stay { O.name_places orders.new ≡ O.name_places orders.old }
+        ensures grows { UnitsGrowTo O.pair_places caches.old.units.items caches.new.units.items }
     {
         self.fill_functions(orders, caches, number)?;
         unit_looks::function_at(caches.units.as_slice(), number, probe, steps)
@@ -78,9 +75,7 @@ impl<'r, 's, 'b> Reader<'r, 's, 'b> {
         ensures value { Gives (λ r. r) result (or_invalid (function_at (reader_files self.now) (reader_table self.now) probe)) }
         ensures there { IfOk result (λ r. IfSome r (λ r. is_value (functions_at caches.new.units.items r.0) ≡ true)) }
         ensures fits { AllFit (reader_files self.now) (reader_table self.now) caches.new }
-        ensures grows { UnitsGrowTo (O.pair_places orders.old) caches.old.units.items caches.new.units.items }
-        ensures pairs_stay { O.pair_places orders.new ≡ O.pair_places orders.old }
-        ensures names_stay { O.name_places orders.new ≡ O.name_places orders.old }
+        ensures grows { UnitsGrowTo O.pair_places caches.old.units.items caches.new.units.items }
     {
         let mut steps: Steps<L> = Steps::new(blank);
         let mut units = UnitsAt::new(&self.table.announced, probe);
@@ -109,9 +104,7 @@ impl<'r, 's, 'b> Reader<'r, 's, 'b> {
         requires fits { AllFit (reader_files self.now) (reader_table self.now) caches.old }
         ensures value { Gives (λ o. option_map location_view o) result (line_in self.now.dwarf.now.texts (reader_files self.now) (reader_table self.now) probe number) }
         ensures fits { AllFit (reader_files self.now) (reader_table self.now) caches.new }
-        ensures grows { UnitsGrowTo (O.pair_places orders.old) caches.old.units.items caches.new.units.items }
-        ensures pairs_stay { O.pair_places orders.new ≡ O.pair_places orders.old }
-        ensures names_stay { O.name_places orders.new ≡ O.name_places orders.old }
+        ensures grows { UnitsGrowTo O.pair_places caches.old.units.items caches.new.units.items }
     {
         self.fill_lines(orders, caches, number)?;
         unit_looks::location_at(caches.units.as_slice(), &self.dwarf.texts, number, probe)
@@ -132,9 +125,7 @@ impl<'r, 's, 'b> Reader<'r, 's, 'b> {
         requires fits { AllFit (reader_files self.now) (reader_table self.now) caches.old }
         ensures value { Gives (λ o. option_map location_view o) result (location_at self.now.dwarf.now.texts (reader_files self.now) (reader_table self.now) probe) }
         ensures fits { AllFit (reader_files self.now) (reader_table self.now) caches.new }
-        ensures grows { UnitsGrowTo (O.pair_places orders.old) caches.old.units.items caches.new.units.items }
-        ensures pairs_stay { O.pair_places orders.new ≡ O.pair_places orders.old }
-        ensures names_stay { O.name_places orders.new ≡ O.name_places orders.old }
+        ensures grows { UnitsGrowTo O.pair_places caches.old.units.items caches.new.units.items }
     {
         let mut steps: Steps<L> = Steps::new(blank);
         let mut units = UnitsAt::new(&self.table.announced, probe);

@@ -6,9 +6,8 @@ ghost use Rattle.blz_index.specs.KeptParts.{or_empty, call_cache, is_empty, lack
 ghost use Rattle.blz_index.specs.Putting.{HasCalls, PutsCalls};
 
 use crate::built_units::BuiltUnits;
-use crate::functions::Functions;
-use crate::inlined_functions::InlinedFunctions;
 use blz_entry::UnitRoot;
+use blz_functions::{Functions, InlinedFunctions};
 use blz_line::Lines;
 use blz_model::Cache;
 use std::alloc::AllocError;

@@ -12,9 +12,6 @@ ghost use Rattle.blz_index.specs.Readers.{reader_files, reader_table};
 ghost use Rattle.blz_index.specs.UnitAnswers.{unit_functions, unit_lines, function_calls};
 
 use crate::built_units::BuiltUnits;
-use crate::call_lists::CallLists;
-use crate::functions::Functions;
-use crate::inlined_functions::InlinedFunctions;
 use crate::reader::Reader;
 use crate::unit_caches::{
     Caches, UnitCaches, lacks_calls, lacks_functions, lacks_lines, lacks_root, put_calls,
@@ -24,6 +21,7 @@ use crate::unit_looks::{function_place, root_of};
 use blz_bytes::Orders;
 use blz_entry::UnitRoot;
 use blz_error::ErrorKind;
+use blz_functions::{CallLists, Functions, InlinedFunctions};
 use blz_line::Lines;
 use blz_model::Cache;
 use std::alloc::AllocError;
@@ -89,10 +87,8 @@ impl<'r, 's, 'b> Reader<'r, 's, 'b> {
         requires fits { BuiltFit (reader_files self.now) (reader_table self.now) built.old }
         ensures kept { IfOk result (λ c. Kept (λ _. Unit {0}) lists_view c (or_invalid (unit_functions (reader_files self.now) (reader_table self.now) number))) }
         ensures full { IfOk result (λ c. is_kept c ≡ true) }
-        ensures ordered { IfOk result (λ c. Made (AreOrdered (O.pair_places orders.old)) Empty c) }
+        ensures ordered { IfOk result (λ c. Made (AreOrdered O.pair_places) Empty c) }
         ensures fits { BuiltFit (reader_files self.now) (reader_table self.now) built.new }
-        ensures pairs_stay { O.pair_places orders.new ≡ O.pair_places orders.old }
-        ensures names_stay { O.name_places orders.new ≡ O.name_places orders.old }
     {
         match self.read_functions(built, number) {
             Ok(lists) => {
@@ -116,9 +112,7 @@ impl<'r, 's, 'b> Reader<'r, 's, 'b> {
         requires fits { AllFit (reader_files self.now) (reader_table self.now) caches.old }
         ensures filled { IfOk result (λ _. lacks_functions (slice_get caches.new.units.items number) ≡ false) }
         ensures fits { AllFit (reader_files self.now) (reader_table self.now) caches.new }
-        ensures grows { UnitsGrowTo (O.pair_places orders.old) caches.old.units.items caches.new.units.items }
-        ensures pairs_stay { O.pair_places orders.new ≡ O.pair_places orders.old }
-        ensures names_stay { O.name_places orders.new ≡ O.name_places orders.old }
+        ensures grows { UnitsGrowTo O.pair_places caches.old.units.items caches.new.units.items }
     {
         if !lacks_functions(caches.units.as_slice(), number) {
             return Ok(());
@@ -139,9 +133,7 @@ impl<'r, 's, 'b> Reader<'r, 's, 'b> {
         requires lacks { lacks_functions (slice_get caches.old.units.items number) ≡ true }
         ensures filled { IfOk result (λ _. lacks_functions (slice_get caches.new.units.items number) ≡ false) }
         ensures fits { AllFit (reader_files self.now) (reader_table self.now) caches.new }
-        ensures grows { UnitsGrowTo (O.pair_places orders.old) caches.old.units.items caches.new.units.items }
-        ensures pairs_stay { O.pair_places orders.new ≡ O.pair_places orders.old }
-        ensures names_stay { O.name_places orders.new ≡ O.name_places orders.old }
+        ensures grows { UnitsGrowTo O.pair_places caches.old.units.items caches.new.units.items }
     {
         let functions = self.functions_part(orders, &mut caches.built, number)?;
         put_functions(&mut caches.units, number, functions);
@@ -159,9 +151,7 @@ impl<'r, 's, 'b> Reader<'r, 's, 'b> {
         requires filled { lacks_root (slice_get units.now number) ≡ false }
         ensures kept { IfOk result (λ c. Kept (λ _. Unit {0}) lines_view c (or_invalid (unit_lines (reader_files self.now) (reader_table self.now) number))) }
         ensures full { IfOk result (λ c. is_kept c ≡ true) }
-        ensures ordered { IfOk result (λ c. Made (LinesOrdered (O.pair_places orders.old)) Empty c) }
-        ensures pairs_stay { O.pair_places orders.new ≡ O.pair_places orders.old }
-        ensures names_stay { O.name_places orders.new ≡ O.name_places orders.old }
+        ensures ordered { IfOk result (λ c. Made (LinesOrdered O.pair_places) Empty c) }
     {
         let root = match root_of(units, number) {
             Ok(root) => root,
@@ -186,9 +176,7 @@ impl<'r, 's, 'b> Reader<'r, 's, 'b> {
         requires fits { AllFit (reader_files self.now) (reader_table self.now) caches.old }
         ensures filled { IfOk result (λ _. lacks_lines (slice_get caches.new.units.items number) ≡ false) }
         ensures fits { AllFit (reader_files self.now) (reader_table self.now) caches.new }
-        ensures grows { UnitsGrowTo (O.pair_places orders.old) caches.old.units.items caches.new.units.items }
-        ensures pairs_stay { O.pair_places orders.new ≡ O.pair_places orders.old }
-        ensures names_stay { O.name_places orders.new ≡ O.name_places orders.old }
+        ensures grows { UnitsGrowTo O.pair_places caches.old.units.items caches.new.units.items }
     {
         self.fill_root(caches, number)?;
         if !lacks_lines(caches.units.as_slice(), number) {
@@ -210,9 +198,7 @@ impl<'r, 's, 'b> Reader<'r, 's, 'b> {
         requires lacks { lacks_lines (slice_get units.old.items number) ≡ true }
         ensures filled { IfOk result (λ _. lacks_lines (slice_get units.new.items number) ≡ false) }
         ensures fits { PartsFit (reader_files self.now) (reader_table self.now) units.new.items }
-        ensures grows { UnitsGrowTo (O.pair_places orders.old) units.old.items units.new.items }
-        ensures pairs_stay { O.pair_places orders.new ≡ O.pair_places orders.old }
-        ensures names_stay { O.name_places orders.new ≡ O.name_places orders.old }
+        ensures grows { UnitsGrowTo O.pair_places units.old.items units.new.items }
     {
         let lines = self.lines_part(orders, units.as_slice(), number)?;
         put_lines(units, number, lines);
@@ -256,10 +242,8 @@ impl<'r, 's, 'b> Reader<'r, 's, 'b> {
         requires filled { lacks_functions (slice_get units.now number) ≡ false }
         ensures kept { IfOk result (λ c. Kept (λ _. Unit {0}) calls_view c (or_invalid (function_calls (reader_files self.now) (reader_table self.now) number function))) }
         ensures full { IfOk result (λ c. is_kept c ≡ true) }
-        ensures ordered { IfOk result (λ c. Made (CallsOrdered (O.pair_places orders.old)) Empty c) }
+        ensures ordered { IfOk result (λ c. Made (CallsOrdered O.pair_places) Empty c) }
         ensures built { BuiltFit (reader_files self.now) (reader_table self.now) built.new }
-        ensures pairs_stay { O.pair_places orders.new ≡ O.pair_places orders.old }
-        ensures names_stay { O.name_places orders.new ≡ O.name_places orders.old }
     {
         match self.calls_by_number(built, units, number, function) {
             Ok(lists) => {
@@ -286,9 +270,7 @@ impl<'r, 's, 'b> Reader<'r, 's, 'b> {
         requires lacks { lacks_calls (slice_get caches.old.units.items number) function ≡ true }
         ensures filled { IfOk result (λ _. lacks_calls (slice_get caches.new.units.items number) function ≡ false) }
         ensures fits { AllFit (reader_files self.now) (reader_table self.now) caches.new }
-        ensures grows { UnitsGrowTo (O.pair_places orders.old) caches.old.units.items caches.new.units.items }
-        ensures pairs_stay { O.pair_places orders.new ≡ O.pair_places orders.old }
-        ensures names_stay { O.name_places orders.new ≡ O.name_places orders.old }
+        ensures grows { UnitsGrowTo O.pair_places caches.old.units.items caches.new.units.items }
     {
         let calls = self.calls_part(
             orders,
@@ -313,9 +295,7 @@ impl<'r, 's, 'b> Reader<'r, 's, 'b> {
         requires fits { AllFit (reader_files self.now) (reader_table self.now) caches.old }
         ensures filled { IfOk result (λ _. lacks_calls (slice_get caches.new.units.items number) function ≡ false) }
         ensures fits { AllFit (reader_files self.now) (reader_table self.now) caches.new }
-        ensures grows { UnitsGrowTo (O.pair_places orders.old) caches.old.units.items caches.new.units.items }
-        ensures pairs_stay { O.pair_places orders.new ≡ O.pair_places orders.old }
-        ensures names_stay { O.name_places orders.new ≡ O.name_places orders.old }
+        ensures grows { UnitsGrowTo O.pair_places caches.old.units.items caches.new.units.items }
     {
         self.fill_functions(orders, caches, number)?;
         if !lacks_calls(caches.units.as_slice(), number, function) {

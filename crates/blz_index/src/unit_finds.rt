@@ -3,7 +3,7 @@ ghost use Rattle.std.specs.Prelude.{◌≡◌};
 ghost use Rattle.blz_model.specs.Part.{Exactly};
 ghost use Rattle.blz_entry.specs.Marks.{or_invalid};
 ghost use Rattle.blz_index.specs.Announced.{announced_at};
-ghost use Rattle.blz_index.specs.References.{unit_at};
+ghost use Rattle.blz_functions.specs.References.{unit_at};
 ghost use Rattle.blz_index.specs.UnitsWarm.{announced_ordered, units_table};
 
 use crate::units::Units;

@@ -1,23 +1,83 @@
-//! The lines of a unit, read first and lent after.
-ghost use Rattle.std.specs.Prelude.{◌≡◌, ◌<◌, true, length, IfOk};
+//! Parts of a unit, read first and lent after.
+ghost use Rattle.std.specs.Prelude.{◌≡◌, ◌<◌, true, length, Option, Some, IfOk, IfSome};
 ghost use Rattle.std.specs.Option.{option_map};
-ghost use Rattle.blz_model.specs.Part.{Exactly};
+ghost use Rattle.blz_model.specs.Part.{Gives, Exactly};
 ghost use Rattle.blz_entry.specs.Marks.{or_invalid};
 ghost use Rattle.blz_line.specs.UnitLines.{OrderedLines};
 ghost use Rattle.blz_index.specs.BuiltUnits.{Files, files_view, IsReadable};
-ghost use Rattle.blz_index.specs.UnitAnswers.{unit_lines};
-ghost use Rattle.blz_index.specs.UnitsWarm.{units_table, lines_kept, units_prepared, UnitsFit, UnitsGrow};
+ghost use Rattle.blz_index.specs.Growing.{UnitsGrowTo};
+ghost use Rattle.blz_index.specs.KeptAnswers.{Repeats, kept_part};
+ghost use Rattle.blz_index.specs.KeptParts.{lists_view, calls_view, calls_at, AllFit};
+ghost use Rattle.blz_index.specs.Readers.{reader_files, reader_table};
+ghost use Rattle.blz_index.specs.UnitAnswers.{unit_functions, unit_lines, function_calls};
+ghost use Rattle.blz_index.specs.UnitsWarm.{units_table, lines_kept, units_prepared, functions_cache, lines_cache, calls_cache, calls_kept, calls_listed, calls_told, is_value, value_in, UnitsFit, UnitsGrow};
 
 use crate::dwarf::Dwarf;
 use crate::reader::Reader;
+use crate::unit_caches::Caches;
 use crate::unit_looks;
 use crate::units::Units;
 use blz_bytes::Orders;
 use blz_error::Result;
+use blz_functions::{Functions, InlinedFunctions};
 use blz_line::Lines;
 use std::alloc::{AllocError, Global};
 
+impl<'r, 's, 'b> Reader<'r, 's, 'b> {
+    /// Reads the calls of a function of a unit where they are not kept; refused where they have no value.
+    fn list_calls<O: Orders>(
+        &self,
+        orders: &mut O,
+        caches: &mut Caches,
+        number: usize,
+        function: usize,
+    ) -> Result<()>
+        requires readable { IsReadable self.now.dwarf.now }
+        requires fits { AllFit (reader_files self.now) (reader_table self.now) caches.old }
+        ensures value { Gives (λ _. calls_told (calls_at caches.new.units.items number function)) result (or_invalid (calls_listed (function_calls (reader_files self.now) (reader_table self.now) number function))) }
+        ensures there { IfOk result (λ _. is_value (calls_at caches.new.units.items number function) ≡ true) }
+        ensures fits { AllFit (reader_files self.now) (reader_table self.now) caches.new }
+        ensures grows { UnitsGrowTo O.pair_places caches.old.units.items caches.new.units.items }
+    {
+        self.fill_calls(orders, caches, number, function)?;
+        match unit_looks::calls_of(caches.units.as_slice(), number, function) {
+            Ok(_) => Ok(()),
+            Err(fault) => Err(fault),
+        }
+    }
+}
+
 impl Units {
+    /// The functions of a unit, with their ranges; Some exactly where they are kept.
+    pub fn unit_functions(&self, unit: usize) -> Option<&Functions>
+        ensures kept { option_map (λ x. x.now) result ≡ value_in (functions_cache self.now unit) }
+        ensures value { IfSome result (λ x. (f : Files) → UnitsFit f self.now → unit_functions f (units_table self.now) unit ≡ Some (lists_view x.now)) }
+    {
+        unit_looks::functions_there(self.caches.units.as_slice(), unit)
+    }
+
+    /// The functions of a unit. InvalidDwarf exactly where the unit they are read from cannot be built, or one of its
+    /// entries, or the name or the ranges of one of its functions, has no value. It is `fill_functions`, which says what
+    /// is kept after, and `unit_functions`.
+    pub fn parse_functions<O: Orders>(
+        &mut self,
+        alloc: Global,
+        orders: &mut O,
+        dwarf: &Dwarf<'_, '_>,
+        unit: usize,
+    ) -> Result<&Functions>
+        requires readable { IsReadable dwarf.now }
+        requires fits { UnitsFit (files_view dwarf.now) self.old }
+        requires there { unit < length (units_table self.old).kept }
+        ensures { Gives (λ x. lists_view x.now) result (or_invalid (unit_functions (files_view dwarf.now) (units_table self.old) unit)) }
+    {
+        self.fill_functions(alloc, orders, dwarf, unit)?;
+        match self.unit_functions(unit) {
+            Some(functions) => Ok(functions),
+            None => unreachable!(),
+        }
+    }
+
     /// Reads the lines of a unit where they are not kept, as far as they can be read; `lines` then tells them. Only want
     /// of memory is refused.
     pub fn fill_lines<O: Orders>(
@@ -33,9 +93,7 @@ impl Units {
         ensures there { IfOk result (λ _. lines_kept self.new unit ≡ true) }
         ensures fits { UnitsFit (files_view dwarf.now) self.new }
         ensures prepared { units_prepared self.new ≡ units_prepared self.old }
-        ensures grows { UnitsGrow (O.pair_places orders.old) self.old self.new }
-        ensures pairs_stay { O.pair_places orders.new ≡ O.pair_places orders.old }
-        ensures names_stay { O.name_places orders.new ≡ O.name_places orders.old }
+        ensures grows { UnitsGrow O.pair_places self.old self.new }
     {
         let reader = Reader {
             alloc,
@@ -49,12 +107,89 @@ impl Units {
     /// have no value; takes no memory.
     pub fn lines(&self, unit: usize) -> Result<Option<&Lines>>
         requires { lines_kept self.now unit ≡ true }
-        ensures { (f : Files) → UnitsFit f self.now → Exactly (λ o. option_map (λ l. l.now.table) o) result (or_invalid (unit_lines f (units_table self.now) unit)) }
+        ensures value { (f : Files) → UnitsFit f self.now → Exactly (λ o. option_map (λ l. l.now.table) o) result (or_invalid (unit_lines f (units_table self.now) unit)) }
+        ensures kept { Repeats (λ o. option_map (λ l. l.now) o) result (kept_part (lines_cache self.now unit)) }
     {
         match unit_looks::lines_of(self.caches.units.as_slice(), unit) {
             Ok(Some(lines)) => Ok(Some(lines)),
             Ok(None) => Ok(None),
             Err(fault) => Err(fault),
+        }
+    }
+
+    /// The lines of a unit; None exactly where it has no line program. InvalidDwarf exactly where the unit cannot be
+    /// built, or its line program or the string of one of its files has no value. It is `fill_lines`, which says what is
+    /// kept after, and `lines`.
+    pub fn parse_lines<O: Orders>(
+        &mut self,
+        alloc: Global,
+        orders: &mut O,
+        dwarf: &Dwarf<'_, '_>,
+        unit: usize,
+    ) -> Result<Option<&Lines>>
+        requires readable { IsReadable dwarf.now }
+        requires fits { UnitsFit (files_view dwarf.now) self.old }
+        requires there { unit < length (units_table self.old).kept }
+        ensures { Gives (λ o. option_map (λ l. l.now.table) o) result (or_invalid (unit_lines (files_view dwarf.now) (units_table self.old) unit)) }
+    {
+        self.fill_lines(alloc, orders, dwarf, unit)?;
+        self.lines(unit)
+    }
+
+    /// Reads the inlined calls of a function of a unit where they are not kept; `inlined_functions` then has them.
+    /// InvalidDwarf exactly where they have no value, or there is no such function.
+    pub fn fill_inlined_functions<O: Orders>(
+        &mut self,
+        alloc: Global,
+        orders: &mut O,
+        dwarf: &Dwarf<'_, '_>,
+        unit: usize,
+        function: usize,
+    ) -> Result<()>
+        requires readable { IsReadable dwarf.now }
+        requires fits { UnitsFit (files_view dwarf.now) self.old }
+        ensures value { Gives (λ _. calls_told (calls_cache self.new unit function)) result (or_invalid (calls_listed (function_calls (files_view dwarf.now) (units_table self.old) unit function))) }
+        ensures there { IfOk result (λ _. calls_kept self.new unit function ≡ true) }
+        ensures fits { UnitsFit (files_view dwarf.now) self.new }
+        ensures prepared { units_prepared self.new ≡ units_prepared self.old }
+        ensures grows { UnitsGrow O.pair_places self.old self.new }
+    {
+        let reader = Reader {
+            alloc,
+            dwarf,
+            table: &self.table,
+        };
+        reader.list_calls(orders, &mut self.caches, unit, function)
+    }
+
+    /// The inlined calls of a function of a unit; Some exactly where they are kept.
+    pub fn inlined_functions(&self, unit: usize, function: usize) -> Option<&InlinedFunctions>
+        ensures kept { option_map (λ x. x.now) result ≡ value_in (calls_cache self.now unit function) }
+        ensures value { IfSome result (λ x. (f : Files) → UnitsFit f self.now → function_calls f (units_table self.now) unit function ≡ Some (calls_view x.now)) }
+    {
+        unit_looks::calls_there(self.caches.units.as_slice(), unit, function)
+    }
+
+    /// The inlined calls of a function of a unit. InvalidDwarf exactly where the functions of the unit have no value,
+    /// none has this number, an entry below the function is not closed or not whole, or the name or the ranges of one of
+    /// the calls has no value. It is `fill_inlined_functions`, which says what is kept after, and `inlined_functions`.
+    pub fn parse_inlined_functions<O: Orders>(
+        &mut self,
+        alloc: Global,
+        orders: &mut O,
+        dwarf: &Dwarf<'_, '_>,
+        unit: usize,
+        function: usize,
+    ) -> Result<&InlinedFunctions>
+        requires readable { IsReadable dwarf.now }
+        requires fits { UnitsFit (files_view dwarf.now) self.old }
+        requires there { unit < length (units_table self.old).kept }
+        ensures { Gives (λ x. calls_view x.now) result (or_invalid (function_calls (files_view dwarf.now) (units_table self.old) unit function)) }
+    {
+        self.fill_inlined_functions(alloc, orders, dwarf, unit, function)?;
+        match self.inlined_functions(unit, function) {
+            Some(calls) => Ok(calls),
+            None => unreachable!(),
         }
     }
 }

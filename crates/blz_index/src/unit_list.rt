@@ -2,7 +2,7 @@
 ghost use Rattle.std.specs.Prelude.{◌≡◌, ◌<◌, ◌++◌, ◌∷◌, [], List, length, Option, IfSome, MatchResult, OnOk, Some};
 ghost use Rattle.std.specs.List.{slice_get};
 ghost use Rattle.blz_entry.specs.declared.units.UnitHeader.{UnitHeader};
-ghost use Rattle.blz_index.specs.References.{distance_in, unit_at};
+ghost use Rattle.blz_functions.specs.References.{distance_in, unit_at};
 ghost use Rattle.blz_index.specs.UnitLists.{AreUnits, EndBefore, IsInPlace};
 ghost use Rattle.blz_index.specs.UnitTables.{no_types};
 

@@ -9,10 +9,9 @@ ghost use Rattle.blz_index.specs.Readers.{reader_files, reader_table};
 ghost use Rattle.blz_index.specs.ShownFunctions.{ShowsUnits, all_shown};
 ghost use Rattle.blz_index.specs.UnitAnswers.{unit_functions, functions_named, all_functions, with_called};
 ghost use Rattle.blz_index.specs.UnitNames.{called_in, listed, list_in, kept_list, AllThere, AllKept, ShowsIn};
-ghost use Rattle.blz_index.specs.UnitsWarm.{units_table, units_prepared, is_value, UnitsFit, UnitsGrow};
+ghost use Rattle.blz_index.specs.UnitsWarm.{units_table, units_prepared, functions_kept, is_value, UnitsFit, UnitsGrow};
 
 use crate::dwarf::Dwarf;
-use crate::functions::Function;
 use crate::reader::Reader;
 use crate::unit_caches::{Caches, UnitCaches};
 use crate::unit_looks::functions_of;
@@ -20,9 +19,10 @@ use crate::unit_names::called_in;
 use crate::units::Units;
 use crate::visit_function::{VisitFunction, show_functions};
 use blz_bytes::Orders;
-use blz_elf::Flow;
 use blz_error::Result;
+use blz_functions::Function;
 use blz_model::Cache;
+use blz_moves::Flow;
 use std::alloc::{AllocError, Global};
 
 /// The functions of a unit that are kept.
@@ -69,9 +69,7 @@ impl<'r, 's, 'b> Reader<'r, 's, 'b> {
         ensures value { Gives (λ n. n) result (or_invalid (called_in self.now.dwarf.now.texts name.now (unit_functions (reader_files self.now) (reader_table self.now) number))) }
         ensures there { IfOk result (λ _. is_value (functions_at caches.new.units.items number) ≡ true) }
         ensures fits { AllFit (reader_files self.now) (reader_table self.now) caches.new }
-        ensures grows { UnitsGrowTo (O.pair_places orders.old) caches.old.units.items caches.new.units.items }
-        ensures pairs_stay { O.pair_places orders.new ≡ O.pair_places orders.old }
-        ensures names_stay { O.name_places orders.new ≡ O.name_places orders.old }
+        ensures grows { UnitsGrowTo O.pair_places caches.old.units.items caches.new.units.items }
     {
         self.fill_functions(orders, caches, number)?;
         called_in(caches.units.as_slice(), &self.dwarf.texts, number, name)
@@ -89,9 +87,7 @@ impl<'r, 's, 'b> Reader<'r, 's, 'b> {
         ensures value { Gives (λ v. v.items) result (or_invalid (functions_named self.now.dwarf.now.texts (reader_files self.now) (reader_table self.now) name.now)) }
         ensures there { IfOk result (λ v. AllThere caches.new.units.items v.items) }
         ensures fits { AllFit (reader_files self.now) (reader_table self.now) caches.new }
-        ensures grows { UnitsGrowTo (O.pair_places orders.old) caches.old.units.items caches.new.units.items }
-        ensures pairs_stay { O.pair_places orders.new ≡ O.pair_places orders.old }
-        ensures names_stay { O.name_places orders.new ≡ O.name_places orders.old }
+        ensures grows { UnitsGrowTo O.pair_places caches.old.units.items caches.new.units.items }
     {
         let mut found = Vec::new(self.alloc);
         for number in 0..self.table.kept.len() {
@@ -114,10 +110,9 @@ impl<'r, 's, 'b> Reader<'r, 's, 'b> {
         requires readable { IsReadable self.now.dwarf.now }
         requires fits { AllFit (reader_files self.now) (reader_table self.now) caches.old }
         ensures value { Gives (λ _. list_in (functions_at caches.new.units.items number)) result (or_invalid (listed (unit_functions (reader_files self.now) (reader_table self.now) number))) }
+        ensures there { IfOk result (λ _. is_value (functions_at caches.new.units.items number) ≡ true) }
         ensures fits { AllFit (reader_files self.now) (reader_table self.now) caches.new }
-        ensures grows { UnitsGrowTo (O.pair_places orders.old) caches.old.units.items caches.new.units.items }
-        ensures pairs_stay { O.pair_places orders.new ≡ O.pair_places orders.old }
-        ensures names_stay { O.name_places orders.new ≡ O.name_places orders.old }
+        ensures grows { UnitsGrowTo O.pair_places caches.old.units.items caches.new.units.items }
     {
         self.fill_functions(orders, caches, number)?;
         match functions_of(caches.units.as_slice(), number) {
@@ -139,9 +134,7 @@ impl<'r, 's, 'b> Reader<'r, 's, 'b> {
         requires goes_on { W.stopped visit.old ≡ false }
         ensures shows { ShowsIn (unit_functions (reader_files self.now) (reader_table self.now) number) number (W.shown visit.old) (W.shown visit.new) (W.stopped visit.new) result }
         ensures fits { AllFit (reader_files self.now) (reader_table self.now) caches.new }
-        ensures grows { UnitsGrowTo (O.pair_places orders.old) caches.old.units.items caches.new.units.items }
-        ensures pairs_stay { O.pair_places orders.new ≡ O.pair_places orders.old }
-        ensures names_stay { O.name_places orders.new ≡ O.name_places orders.old }
+        ensures grows { UnitsGrowTo O.pair_places caches.old.units.items caches.new.units.items }
     {
         self.fill_functions(orders, caches, number)?;
         match functions_of(caches.units.as_slice(), number) {
@@ -162,9 +155,7 @@ impl<'r, 's, 'b> Reader<'r, 's, 'b> {
         requires goes_on { W.stopped visit.old ≡ false }
         ensures shows { ShowsUnits (all_functions (reader_files self.now) (reader_table self.now)) (all_shown (reader_files self.now) (reader_table self.now)) (W.shown visit.old) (W.shown visit.new) (W.stopped visit.new) result }
         ensures fits { AllFit (reader_files self.now) (reader_table self.now) caches.new }
-        ensures grows { UnitsGrowTo (O.pair_places orders.old) caches.old.units.items caches.new.units.items }
-        ensures pairs_stay { O.pair_places orders.new ≡ O.pair_places orders.old }
-        ensures names_stay { O.name_places orders.new ≡ O.name_places orders.old }
+        ensures grows { UnitsGrowTo O.pair_places caches.old.units.items caches.new.units.items }
     {
         for number in 0..self.table.kept.len() {
             match self.show_unit(orders, caches, number, visit) {
@@ -178,8 +169,8 @@ impl<'r, 's, 'b> Reader<'r, 's, 'b> {
 }
 
 impl Units {
-    /// Reads the functions of a unit where they are not kept; `functions` then has them. InvalidDwarf exactly where they
-    /// have no value.
+    /// Reads the functions of a unit where they are not kept; `functions` and `unit_functions` then have them.
+    /// InvalidDwarf exactly where they have no value.
     pub fn fill_functions<O: Orders>(
         &mut self,
         alloc: Global,
@@ -190,11 +181,10 @@ impl Units {
         requires readable { IsReadable dwarf.now }
         requires fits { UnitsFit (files_view dwarf.now) self.old }
         ensures value { Gives (λ _. kept_list self.new unit) result (or_invalid (listed (unit_functions (files_view dwarf.now) (units_table self.old) unit))) }
+        ensures there { IfOk result (λ _. functions_kept self.new unit ≡ true) }
         ensures fits { UnitsFit (files_view dwarf.now) self.new }
         ensures prepared { units_prepared self.new ≡ units_prepared self.old }
-        ensures grows { UnitsGrow (O.pair_places orders.old) self.old self.new }
-        ensures pairs_stay { O.pair_places orders.new ≡ O.pair_places orders.old }
-        ensures names_stay { O.name_places orders.new ≡ O.name_places orders.old }
+        ensures grows { UnitsGrow O.pair_places self.old self.new }
     {
         let reader = Reader {
             alloc,
@@ -226,9 +216,7 @@ impl Units {
         ensures there { IfOk result (λ v. AllKept self.new v.items) }
         ensures fits { UnitsFit (files_view dwarf.now) self.new }
         ensures prepared { units_prepared self.new ≡ units_prepared self.old }
-        ensures grows { UnitsGrow (O.pair_places orders.old) self.old self.new }
-        ensures pairs_stay { O.pair_places orders.new ≡ O.pair_places orders.old }
-        ensures names_stay { O.name_places orders.new ≡ O.name_places orders.old }
+        ensures grows { UnitsGrow O.pair_places self.old self.new }
     {
         let reader = Reader {
             alloc,
@@ -254,9 +242,7 @@ impl Units {
         ensures shows { ShowsUnits (all_functions (files_view dwarf.now) (units_table self.old)) (all_shown (files_view dwarf.now) (units_table self.old)) (W.shown visit.old) (W.shown visit.new) (W.stopped visit.new) result }
         ensures fits { UnitsFit (files_view dwarf.now) self.new }
         ensures prepared { units_prepared self.new ≡ units_prepared self.old }
-        ensures grows { UnitsGrow (O.pair_places orders.old) self.old self.new }
-        ensures pairs_stay { O.pair_places orders.new ≡ O.pair_places orders.old }
-        ensures names_stay { O.name_places orders.new ≡ O.name_places orders.old }
+        ensures grows { UnitsGrow O.pair_places self.old self.new }
     {
         let reader = Reader {
             alloc,

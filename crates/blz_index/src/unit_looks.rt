@@ -4,22 +4,20 @@ ghost use Rattle.std.specs.List.{slice_get};
 ghost use Rattle.blz_model.specs.Part.{Gives};
 ghost use Rattle.blz_entry.specs.Marks.{or_invalid};
 ghost use Rattle.blz_line.specs.Lookups.{location_view};
-ghost use Rattle.blz_index.specs.Groups.{AreApart};
+ghost use Rattle.blz_ranges.specs.Groups.{AreApart};
 ghost use Rattle.blz_index.specs.KeptAnswers.{Repeats, kept_part, kept_language, kept_best, kept_place, kept_line, kept_chain, kept_site};
 ghost use Rattle.blz_index.specs.KeptParts.{root_at, functions_at, lines_at, calls_at};
-ghost use Rattle.blz_index.specs.Owned.{items_of};
-ghost use Rattle.blz_index.specs.Ranges.{best_owner};
+ghost use Rattle.blz_ranges.specs.Owned.{items_of};
+ghost use Rattle.blz_ranges.specs.Ranges.{best_owner};
 ghost use Rattle.blz_index.specs.UnitAnswers.{chosen};
 ghost use Rattle.blz_index.specs.UnitSites.{site_in};
-ghost use Rattle.blz_index.specs.UnitsWarm.{has_order, ranges_in};
+ghost use Rattle.blz_index.specs.UnitsWarm.{has_order, ranges_in, value_in};
 
-use crate::fault::invalid;
-use crate::functions::Functions;
-use crate::inlined_functions::{InlinedFunction, InlinedFunctions};
 use crate::unit_caches::UnitCaches;
 use blz_bytes::{DirPath, Steps};
-use blz_entry::{Texts, UnitRoot};
+use blz_entry::{Texts, UnitRoot, invalid};
 use blz_error::{Error, Result, Str};
+use blz_functions::{Functions, InlinedFunction, InlinedFunctions};
 use blz_line::{Lines, Location};
 use blz_model::{Cache, SrcLang};
 use std::alloc::Global;
@@ -33,6 +31,43 @@ fn kept<T>(cache: &Cache<T>) -> Result<&T>
         Cache::Value(part) => Ok(part),
         Cache::Mark(kind) => Err(Error::new(*kind, Str::fixed("unit"))),
         Cache::Empty => Err(invalid("a unit has no such number")),
+    }
+}
+
+/// The value that is kept, where one is.
+fn value_of<T>(cache: &Cache<T>) -> Option<&T>
+    ensures { option_map (λ x. x.now) result ≡ value_in cache.now }
+{
+    match cache {
+        Cache::Value(part) => Some(part),
+        Cache::Mark(_) | Cache::Empty => None,
+    }
+}
+
+/// The functions of a unit, where they are kept as a value.
+pub fn functions_there(units: &[UnitCaches], number: usize) -> Option<&Functions>
+    ensures { option_map (λ x. x.now) result ≡ value_in (functions_at units.now number) }
+{
+    match units.get(number) {
+        Some(unit) => value_of(&unit.functions),
+        None => None,
+    }
+}
+
+/// The calls of a function of a unit, where they are kept as a value.
+pub fn calls_there(
+    units: &[UnitCaches],
+    number: usize,
+    function: usize,
+) -> Option<&InlinedFunctions>
+    ensures { option_map (λ x. x.now) result ≡ value_in (calls_at units.now number function) }
+{
+    let Some(unit) = units.get(number) else {
+        return None;
+    };
+    match unit.calls.get(function) {
+        Some(calls) => value_of(calls),
+        None => None,
     }
 }
 

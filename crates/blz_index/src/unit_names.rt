@@ -3,13 +3,13 @@ ghost use Rattle.std.specs.Prelude.{◌≡◌, position};
 ghost use Rattle.blz_index.specs.KeptAnswers.{Repeats};
 ghost use Rattle.blz_index.specs.UnitAnswers.{is_called};
 ghost use Rattle.blz_index.specs.UnitNames.{kept_called};
-ghost use Rattle.blz_index.specs.declared.functions.Function.{Function};
+ghost use Rattle.blz_functions.specs.declared.functions.Function.{Function};
 
-use crate::functions::Function;
 use crate::unit_caches::UnitCaches;
 use crate::unit_looks::functions_of;
 use blz_entry::{StrPlace, Texts};
 use blz_error::Result;
+use blz_functions::Function;
 
 fn is_called(texts: &Texts<'_>, name: &str, place: Option<StrPlace>) -> bool
     ensures { result ≡ is_called texts.now name.now place }

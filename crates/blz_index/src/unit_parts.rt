@@ -5,31 +5,31 @@ ghost use Rattle.blz_model.specs.Part.{Gives};
 ghost use Rattle.blz_model.specs.Kept.{Kept, is_kept};
 ghost use Rattle.blz_model.specs.declared.cache.Cache.TheVariants.{Empty};
 ghost use Rattle.blz_entry.specs.Marks.{or_invalid};
-ghost use Rattle.blz_index.specs.BuiltUnits.{built, built_view, has_id, reading, files_view, BuiltFits, IsReadable};
+ghost use Rattle.blz_index.specs.BuiltUnits.{built, built_view, has_id, reading, root_in, files_view, BuiltFits, IsReadable};
 ghost use Rattle.blz_index.specs.Growing.{LinesOrdered};
 ghost use Rattle.blz_index.specs.KeptParts.{lines_view, unit_root, BuiltFit, IsBuilt, IsFilled};
 ghost use Rattle.blz_index.specs.Readers.{reader_files, reader_table};
+ghost use Rattle.blz_index.specs.Sharing.{AreShared};
 ghost use Rattle.blz_index.specs.UnitAnswers.{read_unit, lists_in, calls_in, place_calls, unit_functions, unit_lines};
 
 use crate::built_unit::BuiltUnit;
-use crate::built_units::{BuiltUnits, Side, look, put, take};
-use crate::call_lists::CallLists;
+use crate::built_units::{BuiltUnits, Side, SideUnits, look, put, take};
 use crate::dwarf::{Dwarf, Origin};
-use crate::fault::invalid;
-use crate::function_lists::FunctionLists;
 use crate::lent::lent;
 use crate::reader::Reader;
 use crate::references::{References, open_in};
+use crate::shared_parts::SharedParts;
 use blz_bytes::Orders;
-use blz_entry::{UnitHeader, UnitKind, UnitRoot};
+use blz_entry::{UnitHeader, UnitKind, UnitRoot, invalid};
 use blz_error::{Error, Result, Str};
+use blz_functions::{CallLists, FunctionLists};
 use blz_line::Lines;
 use blz_model::Cache;
 use std::mem;
 
 /// Whether the functions of a unit may stand in a package.
 #[tactic(auto, unfolding(crate::specs::BuiltUnits::reading, crate::specs::BuiltUnits::pieces_of))]
-fn may_be_split(dwarf: &Dwarf<'_, '_>, header: &UnitHeader) -> bool
+pub fn may_be_split(dwarf: &Dwarf<'_, '_>, header: &UnitHeader) -> bool
     ensures { result ≡ false → reading (files_view dwarf.now) header.now ≡ built (files_view dwarf.now).main header.now }
 {
     match header.kind {
@@ -42,11 +42,11 @@ impl<'r, 's, 'b> Reader<'r, 's, 'b> {
     /// Takes a unit out of those that are built.
     fn take_unit(&self, built: &mut BuiltUnits, number: usize) -> Cache<BuiltUnit>
         requires fits { BuiltFit (reader_files self.now) (reader_table self.now) built.old }
-        requires filled { IsFilled (slice_get built.old.kept.items number) }
+        requires filled { IsFilled (slice_get built.old.kept.units.items number) }
         ensures fits { BuiltFit (reader_files self.now) (reader_table self.now) built.new }
         ensures taken { IsBuilt (reader_files self.now) result (read_unit (reader_files self.now) (reader_table self.now) number) }
     {
-        take(&mut built.kept, number)
+        take(&mut built.kept.units, number)
     }
 
     /// Puts a unit, or its mark, back among those that are built.
@@ -55,14 +55,14 @@ impl<'r, 's, 'b> Reader<'r, 's, 'b> {
         requires unit { IsBuilt (reader_files self.now) unit (read_unit (reader_files self.now) (reader_table self.now) number) }
         ensures { BuiltFit (reader_files self.now) (reader_table self.now) built.new }
     {
-        put(&mut built.kept, number, unit);
+        put(&mut built.kept.units, number, unit);
     }
 
     /// No units; takes no memory.
     fn no_units(&self) -> BuiltUnits {
         BuiltUnits {
-            kept: Vec::new(self.alloc),
-            sups: Vec::new(self.alloc),
+            kept: SideUnits::new(self.alloc),
+            sups: SideUnits::new(self.alloc),
         }
     }
 
@@ -151,8 +151,20 @@ impl<'r, 's, 'b> Reader<'r, 's, 'b> {
         }
     }
 
+    /// The root of a unit itself, which is not the one that its functions are read from.
+    fn own_root(&self, shared: &mut SharedParts, header: &UnitHeader) -> Result<UnitRoot>
+        requires readable { IsReadable self.now.dwarf.now }
+        requires ordered { header.now.entries ≤ header.now.end }
+        requires shared { AreShared (reader_files self.now).main shared.old }
+        ensures value { Gives (λ r. r) result (or_invalid (root_in (reader_files self.now) header.now)) }
+        ensures shared { AreShared (reader_files self.now).main shared.new }
+    {
+        let unit = BuiltUnit::of_file(self.alloc, self.dwarf, shared, Origin::Main, header)?;
+        Ok(unit.root)
+    }
+
     /// The root of a kept unit itself.
-    #[tactic(auto, unfolding(crate::specs::UnitAnswers::main_unit))]
+    #[tactic(auto, using(crate::proofs::BuiltSteps::shared_again), unfolding(crate::specs::UnitAnswers::main_unit))]
     pub fn read_root(&self, built: &mut BuiltUnits, number: usize) -> Result<UnitRoot>
         requires readable { IsReadable self.now.dwarf.now }
         requires fits { BuiltFit (reader_files self.now) (reader_table self.now) built.old }
@@ -163,15 +175,14 @@ impl<'r, 's, 'b> Reader<'r, 's, 'b> {
             return Err(invalid("a unit has no such number"));
         };
         if may_be_split(self.dwarf, &header) {
-            let unit = BuiltUnit::of_file(self.alloc, self.dwarf, Origin::Main, &header)?;
-            return Ok(unit.root);
+            return self.own_root(&mut built.kept.shared, &header);
         }
         self.fill_unit(Side::File, built, number)?;
         let unit = look(
             self.dwarf,
             Side::File,
             &self.table.kept,
-            &built.kept,
+            &built.kept.units,
             number,
         )?;
         Ok(unit.root)
@@ -186,9 +197,7 @@ impl<'r, 's, 'b> Reader<'r, 's, 'b> {
     ) -> Result<Option<Lines>>
         requires { unit_root (reader_files self.now) (reader_table self.now) number ≡ Some root.now }
         ensures value { Gives lines_view result (or_invalid (unit_lines (reader_files self.now) (reader_table self.now) number)) }
-        ensures ordered { IfOk result (LinesOrdered (O.pair_places orders.old)) }
-        ensures pairs_stay { O.pair_places orders.new ≡ O.pair_places orders.old }
-        ensures names_stay { O.name_places orders.new ≡ O.name_places orders.old }
+        ensures ordered { IfOk result (LinesOrdered O.pair_places) }
     {
         match self.table.kept.get(number) {
             Some(header) => Lines::parse(self.alloc, orders, &self.dwarf.main, &header, root),

@@ -38,9 +38,7 @@ impl<'r, 's, 'b> Reader<'r, 's, 'b> {
         requires fits { AllFit (reader_files self.now) (reader_table self.now) caches.old }
         ensures filled { IfOk result (λ _. (n : ℕ) → n < count → lacks_calls (slice_get caches.new.units.items number) n ≡ false) }
         ensures fits { AllFit (reader_files self.now) (reader_table self.now) caches.new }
-        ensures grows { UnitsGrowTo (O.pair_places orders.old) caches.old.units.items caches.new.units.items }
-        ensures pairs_stay { O.pair_places orders.new ≡ O.pair_places orders.old }
-        ensures names_stay { O.name_places orders.new ≡ O.name_places orders.old }
+        ensures grows { UnitsGrowTo O.pair_places caches.old.units.items caches.new.units.items }
     {
         for function in 0..count {
             self.fill_calls(orders, caches, number, function)?;
@@ -59,9 +57,7 @@ impl<'r, 's, 'b> Reader<'r, 's, 'b> {
         requires fits { AllFit (reader_files self.now) (reader_table self.now) caches.old }
         ensures filled { IfOk result (λ _. AreFull (slice_get caches.new.units.items number)) }
         ensures fits { AllFit (reader_files self.now) (reader_table self.now) caches.new }
-        ensures grows { UnitsGrowTo (O.pair_places orders.old) caches.old.units.items caches.new.units.items }
-        ensures pairs_stay { O.pair_places orders.new ≡ O.pair_places orders.old }
-        ensures names_stay { O.name_places orders.new ≡ O.name_places orders.old }
+        ensures grows { UnitsGrowTo O.pair_places caches.old.units.items caches.new.units.items }
     {
         self.fill_root(caches, number)?;
         self.fill_lines(orders, caches, number)?;
@@ -77,9 +73,7 @@ impl<'r, 's, 'b> Reader<'r, 's, 'b> {
         requires fits { AllFit (reader_files self.now) (reader_table self.now) caches.old }
         ensures filled { IfOk result (λ _. AllFull caches.new.units.items) }
         ensures fits { AllFit (reader_files self.now) (reader_table self.now) caches.new }
-        ensures grows { UnitsGrowTo (O.pair_places orders.old) caches.old.units.items caches.new.units.items }
-        ensures pairs_stay { O.pair_places orders.new ≡ O.pair_places orders.old }
-        ensures names_stay { O.name_places orders.new ≡ O.name_places orders.old }
+        ensures grows { UnitsGrowTo O.pair_places caches.old.units.items caches.new.units.items }
     {
         for number in 0..self.table.kept.len() {
             self.fill_parts(orders, caches, number)?;

@@ -5,23 +5,25 @@ ghost use Rattle.blz_entry.specs.Contents.{section_view};
 ghost use Rattle.blz_entry.specs.Marks.{or_invalid};
 ghost use Rattle.blz_index.specs.Announced.{announced_at};
 ghost use Rattle.blz_index.specs.BuiltUnits.{files_view, IsReadable};
-ghost use Rattle.blz_index.specs.Keyed.{IsAccepted, begin_key};
-ghost use Rattle.blz_index.specs.Owned.{items_of};
-ghost use Rattle.blz_index.specs.References.{unit_at};
+ghost use Rattle.blz_index.specs.KeptParts.{SideFits};
+ghost use Rattle.blz_index.specs.declared.built_units.Side.TheVariants.{File};
+ghost use Rattle.blz_ranges.specs.Keyed.{IsAccepted, begin_key};
+ghost use Rattle.blz_ranges.specs.Owned.{items_of};
+ghost use Rattle.blz_functions.specs.References.{unit_at};
 ghost use Rattle.blz_index.specs.TableViews.{table_view};
-ghost use Rattle.blz_index.specs.UnitTables.{sup_units, units_in, units_of};
-ghost use Rattle.blz_split.specs.FileSections.{sections_view};
+ghost use Rattle.blz_index.specs.UnitTables.{sup_units, sups_checked, units_in, units_of};
+ghost use Rattle.blz_entry.specs.FileSections.{sections_view};
 
 use crate::address_sets::AddressSets;
+use crate::built_units::SideUnits;
 use crate::dwarf::Dwarf;
-use crate::fault::invalid;
 use crate::kept_units::KeptUnits;
-use crate::owned_ranges::OwnedRanges;
 use crate::unit_list::UnitList;
 use crate::units_at::UnitsAt;
 use blz_bytes::Orders;
-use blz_entry::{Section, Sections, UnitHeaders};
+use blz_entry::{Section, Sections, UnitHeaders, invalid};
 use blz_error::Result;
+use blz_ranges::OwnedRanges;
 use std::alloc::Global;
 
 /// The units that are kept, the ranges that they announce, each with the number of its unit, and the units of the
@@ -47,7 +49,7 @@ fn units_in(alloc: Global, info: Section<'_, '_>) -> Result<UnitList>
 
 /// The units of a supplementary file, and none without one. InvalidDwarf exactly where their headers have no value.
 #[tactic(auto, unfolding(crate::specs::UnitTables::sup_units))]
-pub fn sup_units(alloc: Global, sup: &Option<Sections<'_, '_>>) -> Result<UnitList>
+fn sup_units(alloc: Global, sup: &Option<Sections<'_, '_>>) -> Result<UnitList>
     ensures { Gives (λ l. l) result (or_invalid (sup_units (option_map sections_view sup.now))) }
 {
     match sup {
@@ -56,32 +58,40 @@ pub fn sup_units(alloc: Global, sup: &Option<Sections<'_, '_>>) -> Result<UnitLi
     }
 }
 
+/// Asks for the units of a supplementary file. InvalidDwarf exactly where their headers have no value.
+pub fn check_sup_units(alloc: Global, sup: &Option<Sections<'_, '_>>) -> Result<()>
+    ensures { Gives (λ _. tt) result (or_invalid (sups_checked (option_map sections_view sup.now))) }
+{
+    sup_units(alloc, sup)?;
+    Ok(())
+}
+
 impl UnitTable {
     /// Reads the sets of address ranges and the headers of all units, and asks for an order of the announced ranges by
     /// their begins. InvalidDwarf exactly where a set or a header is not whole or not as it has to be, or the list of
-    /// ranges of the root of a unit that no set names has no value.
+    /// ranges of the root of a unit that no set names has no value. The units that had to be built for that are given too.
     #[tactic(auto, unfolding(crate::specs::UnitTables::units_of))]
     pub fn read<O: Orders>(
         alloc: Global,
         orders: &mut O,
         dwarf: &Dwarf<'_, '_>,
-    ) -> Result<UnitTable>
+    ) -> Result<(UnitTable, SideUnits)>
         requires { IsReadable dwarf.now }
-        ensures table { Gives table_view result (or_invalid (units_of (files_view dwarf.now))) }
-        ensures accepted { IfOk result (λ t. IsAccepted (O.pair_places orders.old) (map begin_key (items_of t.announced.ranges)) t.announced.ordered) }
-        ensures pairs_stay { O.pair_places orders.new ≡ O.pair_places orders.old }
-        ensures names_stay { O.name_places orders.new ≡ O.name_places orders.old }
+        ensures table { Gives (λ r. table_view r.0) result (or_invalid (units_of (files_view dwarf.now))) }
+        ensures fits { IfOk result (λ r. SideFits (files_view dwarf.now) File (table_view r.0).kept r.1) }
+        ensures accepted { IfOk result (λ r. IsAccepted O.pair_places (map begin_key (items_of r.0.announced.ranges)) r.0.announced.ordered) }
     {
         let sups = sup_units(alloc, &dwarf.sup)?;
         let sets = AddressSets::read(alloc, dwarf.main.aranges)?;
-        let units = KeptUnits::read(alloc, dwarf, &sets)?;
+        let (units, built) = KeptUnits::read(alloc, dwarf, &sets)?;
         let (kept, spans, owners) = units.into_parts();
         let announced = OwnedRanges::build(alloc, orders, spans, owners)?;
-        Ok(UnitTable {
+        let table = UnitTable {
             kept,
             announced,
             sups,
-        })
+        };
+        Ok((table, built))
     }
 
     /// The number of the kept unit that an offset of `.debug_info` leads into, and the offset's distance from its start.

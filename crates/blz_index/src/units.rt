@@ -4,22 +4,18 @@ ghost use Rattle.std.specs.Option.{option_map};
 ghost use Rattle.blz_model.specs.Part.{Gives, Exactly};
 ghost use Rattle.blz_entry.specs.Marks.{or_invalid};
 ghost use Rattle.blz_line.specs.Lookups.{location_view};
-ghost use Rattle.blz_line.specs.UnitLines.{OrderedLines};
 ghost use Rattle.blz_index.specs.BuiltUnits.{Files, files_view, IsReadable};
 ghost use Rattle.blz_index.specs.Growing.{Told};
-ghost use Rattle.blz_index.specs.Keyed.{IsAccepted, begin_key};
-ghost use Rattle.blz_index.specs.KeptParts.{lists_view, calls_view};
-ghost use Rattle.blz_index.specs.Owned.{items_of};
-ghost use Rattle.blz_index.specs.References.{unit_at};
-ghost use Rattle.blz_index.specs.UnitAnswers.{unit_language, unit_functions, unit_lines, function_calls, function_at};
+ghost use Rattle.blz_ranges.specs.Keyed.{IsAccepted, begin_key};
+ghost use Rattle.blz_ranges.specs.Owned.{items_of};
+ghost use Rattle.blz_functions.specs.References.{unit_at};
+ghost use Rattle.blz_index.specs.UnitAnswers.{unit_language, function_at};
 ghost use Rattle.blz_index.specs.UnitSites.{location_at, inlined_at};
 ghost use Rattle.blz_index.specs.UnitTables.{units_of};
 ghost use Rattle.blz_index.specs.UnitsWarm.{units_table, announced_ordered, units_prepared, functions_kept, kept_function, UnitsFit, UnitsGrow, AreCold, LooksFew};
 
 use crate::cold::cold_caches;
 use crate::dwarf::Dwarf;
-use crate::functions::{Function, Functions};
-use crate::inlined_functions::InlinedFunctions;
 use crate::reader::Reader;
 use crate::sites::InlinedSites;
 use crate::unit_caches::Caches;
@@ -27,7 +23,8 @@ use crate::unit_looks;
 use crate::unit_table::UnitTable;
 use blz_bytes::Orders;
 use blz_error::Result;
-use blz_line::{Lines, Location};
+use blz_functions::Function;
+use blz_line::Location;
 use blz_model::SrcLang;
 use std::alloc::{AllocError, Global};
 use std::marker::Brand;
@@ -48,13 +45,11 @@ impl Units {
         requires readable { IsReadable dwarf.now }
         ensures value { Gives units_table result (or_invalid (units_of (files_view dwarf.now))) }
         ensures fits { IfOk result (UnitsFit (files_view dwarf.now)) }
-        ensures accepted { IfOk result (λ u. IsAccepted (O.pair_places orders.old) (map begin_key (items_of (units_table u).announced)) (announced_ordered u)) }
+        ensures accepted { IfOk result (λ u. IsAccepted O.pair_places (map begin_key (items_of (units_table u).announced)) (announced_ordered u)) }
         ensures cold { IfOk result AreCold }
-        ensures pairs_stay { O.pair_places orders.new ≡ O.pair_places orders.old }
-        ensures names_stay { O.name_places orders.new ≡ O.name_places orders.old }
     {
-        let table = UnitTable::read(alloc, orders, dwarf)?;
-        let caches = cold_caches(alloc, table.kept.len(), table.sups.len())?;
+        let (table, built) = UnitTable::read(alloc, orders, dwarf)?;
+        let caches = cold_caches(alloc, built, table.kept.len(), table.sups.len())?;
         Ok(Units {
             table,
             caches,
@@ -88,79 +83,6 @@ impl Units {
         reader.language(&mut self.caches, unit)
     }
 
-    /// The functions of a unit. InvalidDwarf exactly where the unit they are read from cannot be built, or one of its
-    /// entries, or the name or the ranges of one of its functions, has no value.
-    pub fn parse_functions<O: Orders>(
-        &mut self,
-        alloc: Global,
-        orders: &mut O,
-        dwarf: &Dwarf<'_, '_>,
-        unit: usize,
-    ) -> Result<&Functions>
-        requires readable { IsReadable dwarf.now }
-        requires fits { UnitsFit (files_view dwarf.now) self.old }
-        requires there { unit < length (units_table self.old).kept }
-        ensures value { Gives (λ x. lists_view x.now) result (or_invalid (unit_functions (files_view dwarf.now) (units_table self.old) unit)) }
-    {
-        let reader = Reader {
-            alloc,
-            dwarf,
-            table: &self.table,
-        };
-        reader.fill_functions(orders, &mut self.caches, unit)?;
-        unit_looks::functions_of(self.caches.units.as_slice(), unit)
-    }
-
-    /// The lines of a unit; None exactly where it has no line program. InvalidDwarf exactly where the unit cannot be
-    /// built, or its line program or the string of one of its files has no value.
-    pub fn parse_lines<O: Orders>(
-        &mut self,
-        alloc: Global,
-        orders: &mut O,
-        dwarf: &Dwarf<'_, '_>,
-        unit: usize,
-    ) -> Result<Option<&Lines>>
-        requires readable { IsReadable dwarf.now }
-        requires fits { UnitsFit (files_view dwarf.now) self.old }
-        requires there { unit < length (units_table self.old).kept }
-        ensures value { Gives (λ o. option_map (λ l. l.now.table) o) result (or_invalid (unit_lines (files_view dwarf.now) (units_table self.old) unit)) }
-    {
-        let reader = Reader {
-            alloc,
-            dwarf,
-            table: &self.table,
-        };
-        reader.fill_lines(orders, &mut self.caches, unit)?;
-        match unit_looks::lines_of(self.caches.units.as_slice(), unit)? {
-            Some(lines) => Ok(Some(lines)),
-            None => Ok(None),
-        }
-    }
-
-    /// The inlined calls of a function of a unit. InvalidDwarf exactly where the functions of the unit have no value, an
-    /// entry below the function is not closed or not whole, or the name or the ranges of one of the calls has no value.
-    pub fn parse_inlined_functions<O: Orders>(
-        &mut self,
-        alloc: Global,
-        orders: &mut O,
-        dwarf: &Dwarf<'_, '_>,
-        unit: usize,
-        function: usize,
-    ) -> Result<&InlinedFunctions>
-        requires readable { IsReadable dwarf.now }
-        requires fits { UnitsFit (files_view dwarf.now) self.old }
-        requires there { unit < length (units_table self.old).kept }
-        ensures value { Gives (λ x. calls_view x.now) result (or_invalid (function_calls (files_view dwarf.now) (units_table self.old) unit function)) }
-    {
-        let reader = Reader {
-            alloc,
-            dwarf,
-            table: &self.table,
-        };
-        reader.fill_calls(orders, &mut self.caches, unit, function)?;
-        unit_looks::calls_of(self.caches.units.as_slice(), unit, function)
-    }
-
     /// The function of an address, by the numbers of its unit and of the function there: of the units that announce the
     /// address, greatest begin first, the first whose best range covers it. InvalidDwarf exactly where the functions of a
     /// unit that is asked have no value.
@@ -177,9 +99,7 @@ impl Units {
         ensures there { IfOk result (λ r. IfSome r (λ r. functions_kept self.new r.0 ≡ true)) }
         ensures fits { UnitsFit (files_view dwarf.now) self.new }
         ensures prepared { units_prepared self.new ≡ units_prepared self.old }
-        ensures grows { UnitsGrow (O.pair_places orders.old) self.old self.new }
-        ensures pairs_stay { O.pair_places orders.new ≡ O.pair_places orders.old }
-        ensures names_stay { O.name_places orders.new ≡ O.name_places orders.old }
+        ensures grows { UnitsGrow O.pair_places self.old self.new }
     {
         let reader = Reader {
             alloc,
@@ -204,9 +124,7 @@ impl Units {
         ensures value { Gives (λ o. option_map location_view o) result (location_at dwarf.now.texts (files_view dwarf.now) (units_table self.old) probe) }
         ensures fits { UnitsFit (files_view dwarf.now) self.new }
         ensures prepared { units_prepared self.new ≡ units_prepared self.old }
-        ensures grows { UnitsGrow (O.pair_places orders.old) self.old self.new }
-        ensures pairs_stay { O.pair_places orders.new ≡ O.pair_places orders.old }
-        ensures names_stay { O.name_places orders.new ≡ O.name_places orders.old }
+        ensures grows { UnitsGrow O.pair_places self.old self.new }
     {
         let reader = Reader {
             alloc,
@@ -234,9 +152,7 @@ impl Units {
         ensures value { Gives (λ s. s) result (inlined_at dwarf.now.texts (files_view dwarf.now) (units_table self.old) probe unit function) }
         ensures fits { UnitsFit (files_view dwarf.now) self.new }
         ensures prepared { units_prepared self.new ≡ units_prepared self.old }
-        ensures grows { UnitsGrow (O.pair_places orders.old) self.old self.new }
-        ensures pairs_stay { O.pair_places orders.new ≡ O.pair_places orders.old }
-        ensures names_stay { O.name_places orders.new ≡ O.name_places orders.old }
+        ensures grows { UnitsGrow O.pair_places self.old self.new }
     {
         let reader = Reader {
             alloc,
@@ -270,9 +186,7 @@ impl Units {
         ensures prepared { IfOk result (λ _. units_prepared self.new ≡ true) }
         ensures refused { IfErr result (λ _. units_prepared self.new ≡ units_prepared self.old) }
         ensures fits { UnitsFit (files_view dwarf.now) self.new }
-        ensures grows { UnitsGrow (O.pair_places orders.old) self.old self.new }
-        ensures pairs_stay { O.pair_places orders.new ≡ O.pair_places orders.old }
-        ensures names_stay { O.name_places orders.new ≡ O.name_places orders.old }
+        ensures grows { UnitsGrow O.pair_places self.old self.new }
     {
         let reader = Reader {
             alloc,

@@ -2,14 +2,14 @@
 ghost use Rattle.std.specs.Prelude.{◌≡◌, ◌≤◌, ◌*◌, ◌^◌, ◌-◌, ◌+◌, true, false, length, drop, Option};
 ghost use Rattle.std.specs.List.{slice_get};
 ghost use Rattle.blz_index.specs.Announced.{is_first, places_left, turn_of, IsTurn};
-ghost use Rattle.blz_index.specs.Groups.{AreApart};
-ghost use Rattle.blz_index.specs.Owned.{items_of};
-ghost use Rattle.blz_index.specs.Ranges.{owner_of};
-ghost use Rattle.blz_index.specs.Turns.{covering};
-ghost use Rattle.blz_index.specs.UnitTables.{owners_of};
+ghost use Rattle.blz_ranges.specs.Groups.{AreApart};
+ghost use Rattle.blz_ranges.specs.Owned.{items_of};
+ghost use Rattle.blz_ranges.specs.Ranges.{owner_of};
+ghost use Rattle.blz_ranges.specs.Turns.{covering};
+ghost use Rattle.blz_ranges.specs.Owned.{owners_of};
 
-use crate::owned_ranges::OwnedRanges;
 use blz_bytes::Steps;
+use blz_ranges::OwnedRanges;
 use std::marker::Model;
 use std::sync::ledger::Ledger;
 
@@ -36,7 +36,7 @@ pub struct UnitsAt<'u> {
 impl<'u> Model for UnitsAt<'u> {
     ghost use Rattle.std.specs.Prelude.{◌≡◌};
     ghost use Rattle.blz_index.specs.Announced.{Announcing, places_left, is_first, IsTurn};
-    ghost use Rattle.blz_index.specs.UnitTables.{owners_of};
+    ghost use Rattle.blz_ranges.specs.Owned.{owners_of};
 
     ghost Value = { Announcing };
 

@@ -1,12 +1,12 @@
 //! To whom the functions of units are shown.
 ghost use Rattle.std.specs.Prelude.{◌≡◌, ℕ, List, Option, Bool, false};
-ghost use Rattle.blz_elf.specs.Visits.{is_break};
+ghost use Rattle.blz_moves.specs.Flows.{is_break};
 ghost use Rattle.blz_index.specs.ShownFunctions.{ShowsMore, ShowsUnit, one_shown};
 ghost use Rattle.blz_index.specs.UnitAnswers.{in_unit};
-ghost use Rattle.blz_index.specs.declared.functions.Function.{Function};
+ghost use Rattle.blz_functions.specs.declared.functions.Function.{Function};
 
-use crate::functions::Function;
-use blz_elf::Flow;
+use blz_functions::Function;
+use blz_moves::Flow;
 
 /// Is shown the functions of units, one after the other, until it answers Break.
 pub trait VisitFunction {

@@ -3,6 +3,7 @@
 mod announced;
 mod asked;
 mod entries;
+mod lent;
 mod listed;
 mod packages;
 mod ranges;

@@ -1,9 +1,9 @@
 //! The units of a file, and the addresses that they announce.
 use super::small::{file_of, refusal};
 use blz_bytes::AsTheyStand;
-use blz_elf::RelocationMap;
 use blz_error::ErrorKind;
 use blz_index::Units;
+use blz_moves::RelocationMap;
 use std::test::Fail;
 
 // two units of version 4: the root of the first has the code 1, that of the second the code 2

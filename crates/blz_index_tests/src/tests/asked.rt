@@ -2,9 +2,9 @@
 
 use super::small::file_of;
 use blz_bytes::AsTheyStand;
-use blz_elf::RelocationMap;
 use blz_error::ErrorKind;
 use blz_index::Units;
+use blz_moves::RelocationMap;
 use std::test::Fail;
 
 // a unit with children; a function with addresses and an origin; one with an origin alone; one with a name

@@ -1,20 +1,20 @@
 //! Functions and inlined calls of a small unit, whose places and ranges were counted by hand.
 use super::small::{file_of, refusal};
 use blz_bytes::{AsTheyStand, ByStdSort};
-use blz_elf::RelocationMap;
 use blz_entry::{StrPart, StrPlace};
 use blz_error::ErrorKind;
 use blz_index::Units;
+use blz_moves::RelocationMap;
 use std::test::Fail;
 
 // 1 a unit, 2 a function with name, low and high address, 3 an inlined call with those and its file, line and column,
 // 4 a block, 5 a function with a name alone, 6 a function that refers to another entry
-const ABBREV: &[u8] =
+pub const ABBREV: &[u8] =
     b"\x01\x11\x01\0\0\x02\x2e\x01\x03\x08\x11\x01\x12\x0b\0\0\x03\x1d\x01\x03\x08\x11\x01\x12\x0b\x58\x0b\x59\x0b\x57\x0b\0\0\x04\x0b\x01\0\0\x05\x2e\0\x03\x08\0\0\x06\x2e\0\x31\x13\0\0\0";
 
 // f at 12 has a block with the call g at 25, which has the call h at 40, and the function n at 57, which has the call i
 // at 69; d at 88 has no range, and the entry at 91 refers to f
-const INFO: &[u8] =
+pub const INFO: &[u8] =
     b"\x5d\0\0\0\x04\0\0\0\0\0\x08\x01\x02f\0\0\x10\0\0\0\0\0\0\x20\x04\x03g\0\x04\x10\0\0\0\0\0\0\x08\x01\x05\x03\x03h\0\x06\x10\0\0\0\0\0\0\x02\x00\x07\x00\0\0\x02n\0\x10\x10\0\0\0\0\0\0\x04\x03i\0\x11\x10\0\0\0\0\0\0\x01\x01\x09\x00\0\0\0\0\x05d\0\x06\x0c\0\0\0\0";
 
 // the same up to before the zero that closes f
@@ -22,7 +22,7 @@ const CUT: &[u8] =
     b"\x53\0\0\0\x04\0\0\0\0\0\x08\x01\x02f\0\0\x10\0\0\0\0\0\0\x20\x04\x03g\0\x04\x10\0\0\0\0\0\0\x08\x01\x05\x03\x03h\0\x06\x10\0\0\0\0\0\0\x02\x00\x07\x00\0\0\x02n\0\x10\x10\0\0\0\0\0\0\x04\x03i\0\x11\x10\0\0\0\0\0\0\x01\x01\x09\x00\0\0\0";
 
 // of the unit at 0 the addresses [0x1000, 0x1040)
-const ARANGES: &[u8] =
+pub const ARANGES: &[u8] =
     b",\0\0\0\x02\0\0\0\0\0\x08\0\0\0\0\0\0\x10\0\0\0\0\0\0\x40\0\0\0\0\0\0\0\0\0\0\0\0\0\0\0\0\0\0\0\0\0\0\0";
 
 // a name of one byte

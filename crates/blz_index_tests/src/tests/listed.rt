@@ -3,9 +3,9 @@ ghost use Rattle.std.specs.Prelude.{None};
 
 use super::small::file_of;
 use blz_bytes::AsTheyStand;
-use blz_elf::{Flow, RelocationMap};
 use blz_error::ErrorKind;
 use blz_index::{Function, Units, VisitFunction};
+use blz_moves::{Flow, RelocationMap};
 use std::alloc::Global;
 use std::test::Fail;
 

@@ -3,10 +3,10 @@ ghost use Rattle.std.specs.Prelude.{◌≡◌, ◌<◌};
 
 use super::small::file_of;
 use blz_bytes::{AsTheyStand, ByStdSort, Orders, Steps};
-use blz_elf::RelocationMap;
 use blz_images::codes::*;
 use blz_images::{Attribute, ByteOrder, DebugInfo};
 use blz_index::{Functions, Units};
+use blz_moves::RelocationMap;
 use std::alloc::{AllocError, Global};
 use std::marker::Brand;
 use std::sync::ledger::{Blank, Ledger};

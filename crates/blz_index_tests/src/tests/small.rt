@@ -3,11 +3,11 @@ ghost use Rattle.std.specs.Prelude.{◌≡◌};
 ghost use Rattle.std.specs.FinMap as map;
 ghost use Rattle.blz_index.specs.BuiltUnits.{IsReadable};
 
-use blz_elf::RelocationMap;
 use blz_entry::{Section, Sections, Texts};
 use blz_error::{ErrorKind, Result};
 use blz_index::Dwarf;
 use blz_model::ByteOrder;
+use blz_moves::RelocationMap;
 
 fn section<'s, 'b>(bytes: &'b [u8], none: &'s RelocationMap) -> Section<'s, 'b> {
     Section {

@@ -1,5 +1,5 @@
 use Rattle.std.proofs.Common.{◌≡◌, length, ap, arith}
-use Rattle.blz_index.proofs.OwnedItems.{length_filled}
+use Rattle.blz_ranges.proofs.OwnedItems.{length_filled}
 use Rattle.blz_index.proofs.kept_units.keep.Goals as goal
 
 pub invariant_of-result : goal.invariant_of-result

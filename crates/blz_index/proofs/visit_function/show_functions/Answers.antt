@@ -1,5 +1,5 @@
 use Rattle.std.proofs.Common.{ap, ◌∙◌}
-use Rattle.blz_elf.specs.Visits.{is_break}
+use Rattle.blz_moves.specs.Flows.{is_break}
 use Rattle.blz_index.proofs.ShownSteps.{shows_none, shows_next, stops_here}
 use Rattle.blz_index.proofs.visit_function.show_functions.Goals as goal
 

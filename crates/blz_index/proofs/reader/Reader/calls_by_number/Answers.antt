@@ -1,7 +1,7 @@
 use Rattle.std.proofs.Common.{Option, sym, subst}
 use Rattle.blz_model.specs.Part.{Gives}
 use Rattle.blz_entry.specs.Marks.{or_invalid}
-use Rattle.blz_index.specs.CallTree.{CallLists}
+use Rattle.blz_functions.specs.CallTree.{CallLists}
 use Rattle.blz_index.specs.Readers.{reader_files, reader_table}
 use Rattle.blz_index.proofs.KeptTold.{place_mark, place_good}
 use Rattle.blz_index.proofs.reader.Reader.calls_by_number.Goals as goal

@@ -1,6 +1,6 @@
 use Rattle.std.proofs.Common.{List, subst}
 use Rattle.blz_model.specs.Part.{Part, Gives}
-use Rattle.blz_index.specs.declared.inlined_functions.InlinedFunction.{InlinedFunction}
+use Rattle.blz_functions.specs.declared.inlined_functions.InlinedFunction.{InlinedFunction}
 use Rattle.blz_index.specs.Readers.{reader_files, reader_table}
 use Rattle.blz_index.proofs.KeptTold.{chain_is}
 use Rattle.blz_index.proofs.reader.Reader.chain_in.Goals as goal

@@ -6,15 +6,13 @@ use Rattle.blz_index.proofs.reader.Reader.fill_all.Goals as goal
 
 pub loop-number-preserved : goal.loop-number-preserved
 loop-number-preserved g c =
-    let told = g.O.Orders.pair_places c.args.orders.now in
+    let told = g.O.Orders.pair_places in
     let old = c.loop-number.caches.units.items in
     let new = c.fill_parts.new.caches.units.items in
-    let grows = rw c.loop-number.invariant.pairs at c.fill_parts.ensures.grows in
+    let grows = c.fill_parts.ensures.grows in
     record {
       fits = c.fill_parts.ensures.fits;
       grows = units_again told c.args.caches.now.units.items old new c.loop-number.invariant.grows grows;
-      pairs = c.fill_parts.ensures.pairs_stay ∙ c.loop-number.invariant.pairs;
-      names = c.fill_parts.ensures.names_stay ∙ c.loop-number.invariant.names;
       filled = λ n lt. elim (cases_Bool (ltb n c.loop-number.number)) [
         | inl t ↦ full_stays told old new n (c.loop-number.invariant.fits.units.same ∙ sym c.fill_parts.ensures.fits.units.same) grows (c.loop-number.invariant.filled n (ltb-true n c.loop-number.number t))
         | inr f ↦ let e : n ≡ c.loop-number.number = let le = ltb-false n c.loop-number.number f in omega (arith, le, lt) in rw e c.in_ok-fill_parts.ensures.filled

@@ -1,4 +1,4 @@
-use Rattle.std.proofs.Common.{◌≡◌, ℕ, ◌<◌}
+use Rattle.std.proofs.Common.{ℕ, ◌<◌}
 use Rattle.std.specs.List.{slice_get}
 use Rattle.blz_index.specs.Growing.{UnitsGrowTo}
 use Rattle.blz_index.specs.KeptParts.{AreFull, AllFit}
@@ -8,8 +8,6 @@ use Rattle.blz_index.proofs.reader.Reader.fill_all.Given as goal
 abbrev pub invariant-loop-number : goal.invariant-loop-number
 invariant-loop-number g l = record {
   fits : AllFit (reader_files l.self) (reader_table l.self) l.caches;
-  grows : UnitsGrowTo (g.O.Orders.pair_places l.fn.orders) l.fn.caches.units.items l.caches.units.items;
-  pairs : g.O.Orders.pair_places l.orders ≡ g.O.Orders.pair_places l.fn.orders;
-  names : g.O.Orders.name_places l.orders ≡ g.O.Orders.name_places l.fn.orders;
+  grows : UnitsGrowTo g.O.Orders.pair_places l.fn.caches.units.items l.caches.units.items;
   filled : (k : ℕ) → k < l.number → AreFull (slice_get l.caches.units.items k);
 }

@@ -6,15 +6,13 @@ use Rattle.blz_index.proofs.reader.Reader.fill_first_calls.Goals as goal
 
 pub loop-function-preserved : goal.loop-function-preserved
 loop-function-preserved g c =
-    let told = g.O.Orders.pair_places c.args.orders.now in
+    let told = g.O.Orders.pair_places in
     let old = c.loop-function.caches.units.items in
     let new = c.fill_calls.new.caches.units.items in
-    let grows = rw c.loop-function.invariant.pairs at c.fill_calls.ensures.grows in
+    let grows = c.fill_calls.ensures.grows in
     record {
       fits = c.fill_calls.ensures.fits;
       grows = units_again told c.args.caches.now.units.items old new c.loop-function.invariant.grows grows;
-      pairs = c.fill_calls.ensures.pairs_stay ∙ c.loop-function.invariant.pairs;
-      names = c.fill_calls.ensures.names_stay ∙ c.loop-function.invariant.names;
       filled = λ n lt. elim (cases_Bool (ltb n c.loop-function.function)) [
         | inl t ↦ calls_stay told old new c.args.number n (c.loop-function.invariant.fits.units.same ∙ sym c.fill_calls.ensures.fits.units.same) grows (c.loop-function.invariant.filled n (ltb-true n c.loop-function.function t))
         | inr f ↦ let e : n ≡ c.loop-function.function = let le = ltb-false n c.loop-function.function f in omega (arith, le, lt) in rw e c.in_ok-fill_calls.ensures.filled

@@ -8,8 +8,6 @@ use Rattle.blz_index.proofs.reader.Reader.fill_first_calls.Given as goal
 abbrev pub invariant-loop-function : goal.invariant-loop-function
 invariant-loop-function g l = record {
   fits : AllFit (reader_files l.self) (reader_table l.self) l.caches;
-  grows : UnitsGrowTo (g.O.Orders.pair_places l.fn.orders) l.fn.caches.units.items l.caches.units.items;
-  pairs : g.O.Orders.pair_places l.orders ≡ g.O.Orders.pair_places l.fn.orders;
-  names : g.O.Orders.name_places l.orders ≡ g.O.Orders.name_places l.fn.orders;
+  grows : UnitsGrowTo g.O.Orders.pair_places l.fn.caches.units.items l.caches.units.items;
   filled : (n : ℕ) → n < l.function → lacks_calls (slice_get l.caches.units.items l.number) n ≡ false;
 }

@@ -6,7 +6,7 @@ use Rattle.blz_index.proofs.reader.Reader.fill_parts.Goals as goal
 pub returns-clause-filled : goal.returns-clause-filled
 returns-clause-filled g c =
     let k = c.args.number in
-    let told = g.O.Orders.pair_places c.args.orders.now in
+    let told = g.O.Orders.pair_places in
     let u1 = c.fill_root.new.caches.units.items in
     let u2 = c.fill_lines.new.caches.units.items in
     let u3 = c.fill_functions.new.caches.units.items in
@@ -26,44 +26,42 @@ returns-clause-filled g c =
 
 pub returns-clause-grows : goal.returns-clause-grows
 returns-clause-grows g c =
-    let told = g.O.Orders.pair_places c.args.orders.now in
+    let told = g.O.Orders.pair_places in
     let u0 = c.args.caches.now.units.items in
     let u1 = c.fill_root.new.caches.units.items in
     let u2 = c.fill_lines.new.caches.units.items in
     let u3 = c.fill_functions.new.caches.units.items in
     let u4 = c.fill_first_calls.new.caches.units.items in
-    let g23 = rw c.fill_lines.ensures.pairs_stay at c.fill_functions.ensures.grows in
-    let p = c.fill_functions.ensures.pairs_stay ∙ c.fill_lines.ensures.pairs_stay in
-    let g34 = rw p at c.fill_first_calls.ensures.grows in
+    let g23 = c.fill_functions.ensures.grows in
+    let g34 = c.fill_first_calls.ensures.grows in
     units_again told u0 u3 u4 (units_again told u0 u2 u3 (units_again told u0 u1 u2 (c.fill_root.ensures.grows told) c.fill_lines.ensures.grows) g23) g34
 
 pub returns-in_err-fill_root-clause-grows : goal.returns-in_err-fill_root-clause-grows
-returns-in_err-fill_root-clause-grows g c = c.fill_root.ensures.grows (g.O.Orders.pair_places c.args.orders.now)
+returns-in_err-fill_root-clause-grows g c = c.fill_root.ensures.grows g.O.Orders.pair_places
 
 pub returns-in_err-fill_lines-clause-grows : goal.returns-in_err-fill_lines-clause-grows
 returns-in_err-fill_lines-clause-grows g c =
-    let told = g.O.Orders.pair_places c.args.orders.now in
+    let told = g.O.Orders.pair_places in
     units_again told c.args.caches.now.units.items c.fill_root.new.caches.units.items c.fill_lines.new.caches.units.items (c.fill_root.ensures.grows told) c.fill_lines.ensures.grows
 
 pub returns-in_err-fill_functions-clause-grows : goal.returns-in_err-fill_functions-clause-grows
 returns-in_err-fill_functions-clause-grows g c =
-    let told = g.O.Orders.pair_places c.args.orders.now in
+    let told = g.O.Orders.pair_places in
     let u0 = c.args.caches.now.units.items in
     let u1 = c.fill_root.new.caches.units.items in
     let u2 = c.fill_lines.new.caches.units.items in
     let u3 = c.fill_functions.new.caches.units.items in
-    let g23 = rw c.fill_lines.ensures.pairs_stay at c.fill_functions.ensures.grows in
+    let g23 = c.fill_functions.ensures.grows in
     units_again told u0 u2 u3 (units_again told u0 u1 u2 (c.fill_root.ensures.grows told) c.fill_lines.ensures.grows) g23
 
 pub returns-in_err-fill_first_calls-clause-grows : goal.returns-in_err-fill_first_calls-clause-grows
 returns-in_err-fill_first_calls-clause-grows g c =
-    let told = g.O.Orders.pair_places c.args.orders.now in
+    let told = g.O.Orders.pair_places in
     let u0 = c.args.caches.now.units.items in
     let u1 = c.fill_root.new.caches.units.items in
     let u2 = c.fill_lines.new.caches.units.items in
     let u3 = c.fill_functions.new.caches.units.items in
     let u4 = c.fill_first_calls.new.caches.units.items in
-    let g23 = rw c.fill_lines.ensures.pairs_stay at c.fill_functions.ensures.grows in
-    let p = c.fill_functions.ensures.pairs_stay ∙ c.fill_lines.ensures.pairs_stay in
-    let g34 = rw p at c.fill_first_calls.ensures.grows in
+    let g23 = c.fill_functions.ensures.grows in
+    let g34 = c.fill_first_calls.ensures.grows in
     units_again told u0 u3 u4 (units_again told u0 u2 u3 (units_again told u0 u1 u2 (c.fill_root.ensures.grows told) c.fill_lines.ensures.grows) g23) g34

@@ -27,9 +27,7 @@ pub loop-number-init : goal.loop-number-init
 unfolding function_at
 loop-number-init g c = record {
   fits = c.requires.fits;
-  grows = units_same (g.O.Orders.pair_places c.args.orders.now) c.args.caches.now.units.items;
-  pairs = refl;
-  names = refl;
+  grows = units_same g.O.Orders.pair_places c.args.caches.now.units.items;
   rest = rw c.new-units.ensures refl;
 }
 
@@ -39,14 +37,12 @@ loop-number-preserved g c =
     let t = reader_table c.args.self.now in
     record {
       fits = c.in-Ok-None.ensures.fits;
-      grows = units_again (g.O.Orders.pair_places c.args.orders.now) c.args.caches.now.units.items c.loop-number.caches.units.items c.function_in.new.caches.units.items c.loop-number.invariant.grows (rw c.loop-number.invariant.pairs at c.in-Ok-None.ensures.grows);
-      pairs = c.in-Ok-None.ensures.pairs_stay ∙ c.loop-number.invariant.pairs;
-      names = c.in-Ok-None.ensures.names_stay ∙ c.loop-number.invariant.names;
+      grows = units_again g.O.Orders.pair_places c.args.caches.now.units.items c.loop-number.caches.units.items c.function_in.new.caches.units.items c.loop-number.invariant.grows (c.in-Ok-None.ensures.grows);
       rest = rw c.in-Some.ensures.left (sym (function_on f t c.args.probe c.in-Some.number c.loop-number.units.left None (sym c.in-Some.ensures.unit) (good_some {A = Option ℕ} _ None (rw c.in-Ok-None.field-0-is at c.in-Ok-None.ensures.value))) ∙ c.loop-number.invariant.rest);
     }
 
 pub returns-in-Ok-Some-clause-grows : goal.returns-in-Ok-Some-clause-grows
-returns-in-Ok-Some-clause-grows g c = units_again (g.O.Orders.pair_places c.args.orders.now) c.args.caches.now.units.items c.loop-number.caches.units.items c.function_in.new.caches.units.items c.loop-number.invariant.grows (rw c.loop-number.invariant.pairs at c.in-Ok-Some.ensures.grows)
+returns-in-Ok-Some-clause-grows g c = units_again g.O.Orders.pair_places c.args.caches.now.units.items c.loop-number.caches.units.items c.function_in.new.caches.units.items c.loop-number.invariant.grows (c.in-Ok-Some.ensures.grows)
 
 pub returns-in-Err-clause-grows : goal.returns-in-Err-clause-grows
-returns-in-Err-clause-grows g c = units_again (g.O.Orders.pair_places c.args.orders.now) c.args.caches.now.units.items c.loop-number.caches.units.items c.function_in.new.caches.units.items c.loop-number.invariant.grows (rw c.loop-number.invariant.pairs at c.in-Err.ensures.grows)
+returns-in-Err-clause-grows g c = units_again g.O.Orders.pair_places c.args.caches.now.units.items c.loop-number.caches.units.items c.function_in.new.caches.units.items c.loop-number.invariant.grows (c.in-Err.ensures.grows)

@@ -8,9 +8,7 @@ use Rattle.blz_index.proofs.reader.Reader.find_location.Given as goal
 abbrev pub invariant-loop-number : goal.invariant-loop-number
 invariant-loop-number g l = record {
   fits : AllFit (reader_files l.self) (reader_table l.self) l.caches;
-  grows : UnitsGrowTo (g.O.Orders.pair_places l.fn.orders) l.fn.caches.units.items l.caches.units.items;
-  pairs : g.O.Orders.pair_places l.orders ≡ g.O.Orders.pair_places l.fn.orders;
-  names : g.O.Orders.name_places l.orders ≡ g.O.Orders.name_places l.fn.orders;
+  grows : UnitsGrowTo g.O.Orders.pair_places l.fn.caches.units.items l.caches.units.items;
   rest : first_line l.self.dwarf.now.texts (reader_files l.self) (reader_table l.self) l.probe l.units.left ≡ location_at l.self.dwarf.now.texts (reader_files l.self) (reader_table l.self) l.probe;
 }
 

@@ -1,4 +1,4 @@
-use Rattle.std.proofs.Common.{◌≡◌, length}
+use Rattle.std.proofs.Common.{length}
 use Rattle.blz_index.specs.Growing.{UnitsGrowTo}
 use Rattle.blz_index.specs.KeptParts.{AllFit}
 use Rattle.blz_index.specs.Readers.{reader_files, reader_table}
@@ -9,9 +9,7 @@ use Rattle.blz_index.proofs.reader.Reader.find_name.Given as goal
 abbrev pub invariant-loop-number : goal.invariant-loop-number
 invariant-loop-number g l = record {
   fits : AllFit (reader_files l.self) (reader_table l.self) l.caches;
-  grows : UnitsGrowTo (g.O.Orders.pair_places l.fn.orders) l.fn.caches.units.items l.caches.units.items;
-  pairs : g.O.Orders.pair_places l.orders ≡ g.O.Orders.pair_places l.fn.orders;
-  names : g.O.Orders.name_places l.orders ≡ g.O.Orders.name_places l.fn.orders;
+  grows : UnitsGrowTo g.O.Orders.pair_places l.fn.caches.units.items l.caches.units.items;
   there : AllThere l.caches.units.items l.found.items;
   so_far : IsFound l.self.dwarf.now.texts (reader_files l.self) (reader_table l.self) l.name (length (reader_table l.self).kept) l.number l.found.items;
 }

@@ -1,4 +1,4 @@
-use Rattle.std.proofs.Common.{◌<◌, ◌≤◌, length, refl, ◌∙◌, inl, inr, arith}
+use Rattle.std.proofs.Common.{◌<◌, ◌≤◌, length, inl, inr, arith}
 use Rattle.blz_index.specs.Readers.{reader_files, reader_table}
 use Rattle.blz_index.proofs.CacheSteps.{units_same, units_again}
 use Rattle.blz_index.proofs.ListingSteps.{shown_start, shown_on, shown_break, shown_mark, shown_whole}
@@ -7,9 +7,7 @@ use Rattle.blz_index.proofs.reader.Reader.for_each_function.Goals as goal
 pub loop-number-init : goal.loop-number-init
 loop-number-init g c = record {
   fits = c.requires.fits;
-  grows = units_same (g.O.Orders.pair_places c.args.orders.now) c.args.caches.now.units.items;
-  pairs = refl;
-  names = refl;
+  grows = units_same g.O.Orders.pair_places c.args.caches.now.units.items;
   goes_on = c.requires.goes_on;
   so_far = shown_start (reader_files c.args.self.now) (reader_table c.args.self.now) (g.W.VisitFunction.shown c.args.visit.now);
 }
@@ -24,8 +22,8 @@ returns-in-Ok-Break-clause-shows g c =
 
 pub returns-in-Ok-Break-clause-grows : goal.returns-in-Ok-Break-clause-grows
 returns-in-Ok-Break-clause-grows g c =
-    let grows = rw c.loop-number.invariant.pairs at c.show_unit.ensures.grows in
-    units_again (g.O.Orders.pair_places c.args.orders.now) c.args.caches.now.units.items c.loop-number.caches.units.items c.show_unit.new.caches.units.items c.loop-number.invariant.grows grows
+    let grows = c.show_unit.ensures.grows in
+    units_again g.O.Orders.pair_places c.args.caches.now.units.items c.loop-number.caches.units.items c.show_unit.new.caches.units.items c.loop-number.invariant.grows grows
 
 pub returns-in-Err-clause-shows : goal.returns-in-Err-clause-shows
 returns-in-Err-clause-shows g c =
@@ -36,8 +34,8 @@ returns-in-Err-clause-shows g c =
 
 pub returns-in-Err-clause-grows : goal.returns-in-Err-clause-grows
 returns-in-Err-clause-grows g c =
-    let grows = rw c.loop-number.invariant.pairs at c.show_unit.ensures.grows in
-    units_again (g.O.Orders.pair_places c.args.orders.now) c.args.caches.now.units.items c.loop-number.caches.units.items c.show_unit.new.caches.units.items c.loop-number.invariant.grows grows
+    let grows = c.show_unit.ensures.grows in
+    units_again g.O.Orders.pair_places c.args.caches.now.units.items c.loop-number.caches.units.items c.show_unit.new.caches.units.items c.loop-number.invariant.grows grows
 
 pub loop-number-preserved : goal.loop-number-preserved
 loop-number-preserved g c =
@@ -45,13 +43,11 @@ loop-number-preserved g c =
     let t = reader_table c.args.self.now in
     let unit = c.in-Ok-Continue.ensures.shows in
     let all = rw c.in-Ok-Continue.field-0-is at unit.shows in
-    let grows = rw c.loop-number.invariant.pairs at c.show_unit.ensures.grows in
+    let grows = c.show_unit.ensures.grows in
     let lt : c.loop-number.number < length t.kept = omega (arith, c.loop-number-test.true, c.len-number-end.ensures) in
     record {
       fits = c.show_unit.ensures.fits;
-      grows = units_again (g.O.Orders.pair_places c.args.orders.now) c.args.caches.now.units.items c.loop-number.caches.units.items c.show_unit.new.caches.units.items c.loop-number.invariant.grows grows;
-      pairs = c.show_unit.ensures.pairs_stay ∙ c.loop-number.invariant.pairs;
-      names = c.show_unit.ensures.names_stay ∙ c.loop-number.invariant.names;
+      grows = units_again g.O.Orders.pair_places c.args.caches.now.units.items c.loop-number.caches.units.items c.show_unit.new.caches.units.items c.loop-number.invariant.grows grows;
       goes_on = all.goes_on;
       so_far = shown_on f t (length t.kept) c.loop-number.number _ _ _ c.loop-number.invariant.so_far unit.list _ lt unit.is all;
     }

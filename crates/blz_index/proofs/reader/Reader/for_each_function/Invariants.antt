@@ -8,9 +8,7 @@ use Rattle.blz_index.proofs.reader.Reader.for_each_function.Given as goal
 abbrev pub invariant-loop-number : goal.invariant-loop-number
 invariant-loop-number g l = record {
   fits : AllFit (reader_files l.self) (reader_table l.self) l.caches;
-  grows : UnitsGrowTo (g.O.Orders.pair_places l.fn.orders) l.fn.caches.units.items l.caches.units.items;
-  pairs : g.O.Orders.pair_places l.orders ≡ g.O.Orders.pair_places l.fn.orders;
-  names : g.O.Orders.name_places l.orders ≡ g.O.Orders.name_places l.fn.orders;
+  grows : UnitsGrowTo g.O.Orders.pair_places l.fn.caches.units.items l.caches.units.items;
   goes_on : g.W.VisitFunction.stopped l.visit ≡ false;
   so_far : IsShown (reader_files l.self) (reader_table l.self) (length (reader_table l.self).kept) l.number (g.W.VisitFunction.shown l.fn.visit) (g.W.VisitFunction.shown l.visit);
 }

@@ -1,8 +1,8 @@
 use Rattle.std.proofs.Common.{◌≡◌}
 use Rattle.blz_index.specs.BuiltUnits.{built_view}
-use Rattle.blz_index.specs.Opened.{open_view}
+use Rattle.blz_functions.specs.Opened.{open_view}
 use Rattle.blz_index.specs.Readers.{reader_files, reader_table}
-use Rattle.blz_index.proofs.AmongUnits.{same_links, lists_among}
+use Rattle.blz_index.proofs.AmongUnits.{lists_among}
 use Rattle.blz_index.proofs.reader.Reader.functions_of.Goals as goal
 
 pub returns-clause-value : goal.returns-clause-value
@@ -13,5 +13,5 @@ returns-clause-value c =
 
 pub returns-clause-fits : goal.returns-clause-fits
 returns-clause-fits c =
-    let same : c.read-lists.new.links ≡ c.new-links.result = same_links _ _ c.read-lists.ensures.same in
+    let same : c.read-lists.new.links ≡ c.new-links.result = c.read-lists.ensures.same in
     rw (same, c.new-links.ensures, c.lent-dwarf.ensures) at c.into_built.ensures

@@ -1,4 +1,4 @@
-use Rattle.std.proofs.Common.{map, ◌∙◌}
+use Rattle.std.proofs.Common.{map}
 use Rattle.std.proofs.lemmas.List.{map-append}
 use Rattle.blz_model.proofs.PartLemmas.{all_on, all_break, all_end}
 use Rattle.blz_index.specs.Readers.{reader_files, reader_table}
@@ -21,22 +21,20 @@ returns-clause-value g c =
 
 pub returns-in_err-push-in-Ok-clause-grows : goal.returns-in_err-push-in-Ok-clause-grows
 returns-in_err-push-in-Ok-clause-grows g c =
-    let told = g.O.Orders.pair_places c.args.orders.now in
-    units_again told c.args.caches.now.units.items c.loop-call.caches.units.items c.inlined.new.caches.units.items c.loop-call.invariant.grows (rw c.loop-call.invariant.pairs at c.inlined.ensures.grows)
+    let told = g.O.Orders.pair_places in
+    units_again told c.args.caches.now.units.items c.loop-call.caches.units.items c.inlined.new.caches.units.items c.loop-call.invariant.grows (c.inlined.ensures.grows)
 
 pub returns-in-Err-clause-grows : goal.returns-in-Err-clause-grows
 returns-in-Err-clause-grows g c =
-    let told = g.O.Orders.pair_places c.args.orders.now in
-    units_again told c.args.caches.now.units.items c.loop-call.caches.units.items c.inlined.new.caches.units.items c.loop-call.invariant.grows (rw c.loop-call.invariant.pairs at c.inlined.ensures.grows)
+    let told = g.O.Orders.pair_places in
+    units_again told c.args.caches.now.units.items c.loop-call.caches.units.items c.inlined.new.caches.units.items c.loop-call.invariant.grows (c.inlined.ensures.grows)
 
 pub loop-call-preserved : goal.loop-call-preserved
 loop-call-preserved g c =
-    let told = g.O.Orders.pair_places c.args.orders.now in
+    let told = g.O.Orders.pair_places in
     let by = inlined_by c.args.self.now.dwarf.now.texts (unit_lines (reader_files c.args.self.now) (reader_table c.args.self.now) c.args.number) in
     record {
       fits = c.inlined.ensures.fits;
-      grows = units_again told c.args.caches.now.units.items c.loop-call.caches.units.items c.inlined.new.caches.units.items c.loop-call.invariant.grows (rw c.loop-call.invariant.pairs at c.inlined.ensures.grows);
-      pairs = c.inlined.ensures.pairs_stay ∙ c.loop-call.invariant.pairs;
-      names = c.inlined.ensures.names_stay ∙ c.loop-call.invariant.names;
+      grows = units_again told c.args.caches.now.units.items c.loop-call.caches.units.items c.inlined.new.caches.units.items c.loop-call.invariant.grows (c.inlined.ensures.grows);
       rest = rw (c.in_ok-push-in-Ok.ensures.items, map-append inlined_view c.loop-call.sites.items _) (all_on by c.args.calls.now c.loop-call.call-index (map inlined_view c.loop-call.sites.items) _ _ c.loop-call-test.true (get_or_again c.args.calls.now c.loop-call.call-index _ c.loop-call-test.true) c.in-Ok.ensures.value c.loop-call.invariant.rest);
     }

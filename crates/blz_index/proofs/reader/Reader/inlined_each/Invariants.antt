@@ -12,8 +12,6 @@ use Rattle.blz_index.proofs.reader.Reader.inlined_each.Given as goal
 abbrev pub invariant-loop-call : goal.invariant-loop-call
 invariant-loop-call g l = record {
   fits : AllFit (reader_files l.self) (reader_table l.self) l.caches;
-  grows : UnitsGrowTo (g.O.Orders.pair_places l.fn.orders) l.fn.caches.units.items l.caches.units.items;
-  pairs : g.O.Orders.pair_places l.orders ≡ g.O.Orders.pair_places l.fn.orders;
-  names : g.O.Orders.name_places l.orders ≡ g.O.Orders.name_places l.fn.orders;
+  grows : UnitsGrowTo g.O.Orders.pair_places l.fn.caches.units.items l.caches.units.items;
   rest : after_front (map inlined_view l.sites.items) (all_good (map (inlined_by l.self.dwarf.now.texts (unit_lines (reader_files l.self) (reader_table l.self) l.number)) (drop l.call-index l.calls))) ≡ all_good (map (inlined_by l.self.dwarf.now.texts (unit_lines (reader_files l.self) (reader_table l.self) l.number)) l.calls);
 }

@@ -12,9 +12,9 @@ returns-clause-filled g c =
 pub returns-clause-fits : goal.returns-clause-fits
 returns-clause-fits g c =
     let l = lacking c.args.caches.now.units.items c.args.number lacks_functions refl c.requires.lacks in
-    record { built = c.functions_part.ensures.fits; units = (functions_put (reader_files c.args.self.now) (reader_table c.args.self.now) (g.O.Orders.pair_places c.args.orders.now) c.args.caches.now.units.items _ c.args.number l.unit c.in_ok-functions.functions l.is l.lacks (c.put_functions.ensures l.unit l.is) c.in_ok-functions.ensures.kept c.in_ok-functions.ensures.ordered c.requires.fits.units).fits }
+    record { built = c.functions_part.ensures.fits; units = (functions_put (reader_files c.args.self.now) (reader_table c.args.self.now) g.O.Orders.pair_places c.args.caches.now.units.items _ c.args.number l.unit c.in_ok-functions.functions l.is l.lacks (c.put_functions.ensures l.unit l.is) c.in_ok-functions.ensures.kept c.in_ok-functions.ensures.ordered c.requires.fits.units).fits }
 
 pub returns-clause-grows : goal.returns-clause-grows
 returns-clause-grows g c =
     let l = lacking c.args.caches.now.units.items c.args.number lacks_functions refl c.requires.lacks in
-    (functions_put (reader_files c.args.self.now) (reader_table c.args.self.now) (g.O.Orders.pair_places c.args.orders.now) c.args.caches.now.units.items _ c.args.number l.unit c.in_ok-functions.functions l.is l.lacks (c.put_functions.ensures l.unit l.is) c.in_ok-functions.ensures.kept c.in_ok-functions.ensures.ordered c.requires.fits.units).grows
+    (functions_put (reader_files c.args.self.now) (reader_table c.args.self.now) g.O.Orders.pair_places c.args.caches.now.units.items _ c.args.number l.unit c.in_ok-functions.functions l.is l.lacks (c.put_functions.ensures l.unit l.is) c.in_ok-functions.ensures.kept c.in_ok-functions.ensures.ordered c.requires.fits.units).grows

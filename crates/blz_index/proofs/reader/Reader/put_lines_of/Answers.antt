@@ -12,9 +12,9 @@ returns-clause-filled g c =
 pub returns-clause-fits : goal.returns-clause-fits
 returns-clause-fits g c =
     let l = lacking c.args.units.now.items c.args.number lacks_lines refl c.requires.lacks in
-    (lines_put (reader_files c.args.self.now) (reader_table c.args.self.now) (g.O.Orders.pair_places c.args.orders.now) c.args.units.now.items _ c.args.number l.unit c.in_ok-lines.lines l.is l.lacks (c.put_lines.ensures l.unit l.is) c.in_ok-lines.ensures.kept c.in_ok-lines.ensures.ordered c.requires.fits).fits
+    (lines_put (reader_files c.args.self.now) (reader_table c.args.self.now) g.O.Orders.pair_places c.args.units.now.items _ c.args.number l.unit c.in_ok-lines.lines l.is l.lacks (c.put_lines.ensures l.unit l.is) c.in_ok-lines.ensures.kept c.in_ok-lines.ensures.ordered c.requires.fits).fits
 
 pub returns-clause-grows : goal.returns-clause-grows
 returns-clause-grows g c =
     let l = lacking c.args.units.now.items c.args.number lacks_lines refl c.requires.lacks in
-    (lines_put (reader_files c.args.self.now) (reader_table c.args.self.now) (g.O.Orders.pair_places c.args.orders.now) c.args.units.now.items _ c.args.number l.unit c.in_ok-lines.lines l.is l.lacks (c.put_lines.ensures l.unit l.is) c.in_ok-lines.ensures.kept c.in_ok-lines.ensures.ordered c.requires.fits).grows
+    (lines_put (reader_files c.args.self.now) (reader_table c.args.self.now) g.O.Orders.pair_places c.args.units.now.items _ c.args.number l.unit c.in_ok-lines.lines l.is l.lacks (c.put_lines.ensures l.unit l.is) c.in_ok-lines.ensures.kept c.in_ok-lines.ensures.ordered c.requires.fits).grows

@@ -1,7 +1,7 @@
 use Rattle.std.proofs.Common.{Err, refl}
 use Rattle.blz_entry.specs.Marks.{or_invalid}
 use Rattle.blz_index.specs.KeptParts.{functions_at, lists_view}
-use Rattle.blz_index.specs.Ranges.{FunctionRanges}
+use Rattle.blz_functions.specs.FunctionRanges.{FunctionRanges}
 use Rattle.blz_index.specs.Readers.{reader_files, reader_table}
 use Rattle.blz_index.specs.UnitAnswers.{unit_functions}
 use Rattle.blz_index.proofs.KeptTold.{no_functions, told_gives}

@@ -9,11 +9,11 @@ pub returns-clause-fits : goal.returns-clause-fits
 returns-clause-fits c =
     let f = reader_files c.args.self.now in
     let t = reader_table c.args.self.now in
-    record { kept = rw c.take.ensures.left (all_put f File t.kept c.args.built.now.kept.items c.args.number Empty tt c.requires.fits.kept); sups = c.requires.fits.sups }
+    record { kept = record { all = rw c.take.ensures.left (all_put f File t.kept c.args.built.now.kept.units.items c.args.number Empty tt c.requires.fits.kept.all); shared = c.requires.fits.kept.shared }; sups = c.requires.fits.sups }
 
 pub returns-clause-taken : goal.returns-clause-taken
 unfolding read_unit
 returns-clause-taken c =
     let f = reader_files c.args.self.now in
     let t = reader_table c.args.self.now in
-    rw c.take.ensures.taken (taken_is f File t.kept c.args.built.now.kept.items c.args.number c.requires.fits.kept c.requires.filled)
+    rw c.take.ensures.taken (taken_is f File t.kept c.args.built.now.kept.units.items c.args.number c.requires.fits.kept.all c.requires.filled)

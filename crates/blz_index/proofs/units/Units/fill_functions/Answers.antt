@@ -7,4 +7,4 @@ pub returns-clause-fits : goal.returns-clause-fits
 returns-clause-fits g c =
     let u = c.args.self.now in
     let f = files_view c.args.dwarf.now in
-    fit_on f (g.O.Orders.pair_places c.args.orders.now) u _ c.requires.fits refl refl c.list_functions.ensures.fits c.list_functions.ensures.grows
+    fit_on f g.O.Orders.pair_places u _ c.requires.fits refl refl c.list_functions.ensures.fits c.list_functions.ensures.grows

@@ -10,7 +10,7 @@ pub returns-clause-fits : goal.returns-clause-fits
 returns-clause-fits g c =
     let f = files_view c.args.dwarf.now in
     let t = table_view c.in_ok-table.table in
-    record { table = good_some (units_of f) t c.in_ok-table.ensures.table; caches = cold_fits f t _ _ c.in_ok-caches.caches c.len.ensures c.len-2.ensures c.in_ok-caches.ensures; full = λ e. absurd cc }
+    record { table = good_some (units_of f) t c.in_ok-table.ensures.table; caches = cold_fits f t _ _ _ c.in_ok-caches.caches c.in_ok-table.ensures.fits c.len.ensures c.len-2.ensures c.in_ok-caches.ensures; full = λ e. absurd cc }
 
 pub returns-clause-cold : goal.returns-clause-cold
 returns-clause-cold g c = record {

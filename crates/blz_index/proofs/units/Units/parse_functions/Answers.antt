@@ -1,14 +1,12 @@
-use Rattle.blz_entry.specs.Marks.{or_invalid}
-use Rattle.blz_index.specs.BuiltUnits.{files_view}
-use Rattle.blz_index.specs.KeptParts.{functions_at, lists_view}
-use Rattle.blz_index.specs.UnitAnswers.{unit_functions}
-use Rattle.blz_index.specs.UnitsWarm.{units_table}
-use Rattle.blz_index.proofs.KeptTold.{no_functions, told_gives}
+use Rattle.std.proofs.Common.{sym}
+use Rattle.std.proofs.lemmas.Result.{err_from_is_err_and}
+use Rattle.blz_index.proofs.LentParts.{lists_refused, not_none}
 use Rattle.blz_index.proofs.units.Units.parse_functions.Goals as goal
 
-pub returns : goal.returns
-returns g c =
-    let u = c.args.self.now in
-    let f = files_view c.args.dwarf.now in
-    let units = c.fill_functions.new.caches.units.items in
-    record { value = told_gives (λ x. x.now) lists_view (functions_at units c.args.unit) (or_invalid (unit_functions f (units_table u) c.args.unit)) c.functions_of.result ((c.fill_functions.ensures.fits.units.each c.args.unit).functions) (no_functions f (units_table u) units c.args.unit c.fill_functions.ensures.fits.units c.in_ok-fill_functions.ensures.filled) (rw c.as_slice.ensures.value at c.functions_of.ensures) }
+pub returns-in_err-fill_functions : goal.returns-in_err-fill_functions
+returns-in_err-fill_functions g c =
+    let p = err_from_is_err_and c.from_residual.result c.from_residual.ensures.1 in
+    rw (p.1, p.2) (lists_refused _ _ c.in_err-fill_functions.ensures.value)
+
+pub unreachable-requires : goal.unreachable-requires
+unreachable-requires g c = not_none _ c.in_ok-fill_functions.ensures.there (sym c.in-None.ensures.kept)

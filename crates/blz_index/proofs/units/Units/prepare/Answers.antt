@@ -13,7 +13,7 @@ pub returns-in_err-fill_all-clause-fits : goal.returns-in_err-fill_all-clause-fi
 returns-in_err-fill_all-clause-fits g c =
     let u = c.args.self.now in
     let f = files_view c.args.dwarf.now in
-    fit_on f (g.O.Orders.pair_places c.args.orders.now) u _ c.requires.fits refl refl c.fill_all.ensures.fits c.fill_all.ensures.grows
+    fit_on f g.O.Orders.pair_places u _ c.requires.fits refl refl c.fill_all.ensures.fits c.fill_all.ensures.grows
 
 pub returns-in_err-fill_all-clause-grows : goal.returns-in_err-fill_all-clause-grows
 returns-in_err-fill_all-clause-grows g c = record { table = refl; announced = refl; units = c.fill_all.ensures.grows }

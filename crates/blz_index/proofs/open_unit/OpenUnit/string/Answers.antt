@@ -1,8 +1,0 @@
-use Rattle.std.proofs.Common.{◌∙◌}
-use Rattle.blz_index.specs.Leaves.{string_in}
-use Rattle.blz_index.proofs.Lying.{string_lying}
-use Rattle.blz_index.proofs.open_unit.OpenUnit.string.Goals as goal
-
-pub returns : goal.returns
-unfolding string_in
-returns c = let unit = c.args.self.now in c.attr_string.ensures ∙ string_lying unit.sections unit.header unit.root c.args.value

@@ -1,0 +1,10 @@
+use Rattle.std.proofs.Common.{refl}
+use Rattle.blz_index.specs.BuiltUnits.{files_view}
+use Rattle.blz_index.proofs.UnitsFits.{fit_on}
+use Rattle.blz_index.proofs.units.Units.fill_inlined_functions.Goals as goal
+
+pub returns-clause-fits : goal.returns-clause-fits
+returns-clause-fits g c =
+    let u = c.args.self.now in
+    let f = files_view c.args.dwarf.now in
+    fit_on f g.O.Orders.pair_places u _ c.requires.fits refl refl c.list_calls.ensures.fits c.list_calls.ensures.grows
