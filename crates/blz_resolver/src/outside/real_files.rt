@@ -1,9 +1,9 @@
 //! The files of the system.
-ghost use Rattle.std.specs.Prelude.{◌≢◌, Err, None};
+ghost use Rattle.std.specs.Prelude.{◌≤◌, ◌≢◌, Err, None, OnOk, vec_len};
 ghost use Rattle.blz_links.specs.FilesAnswers.{HasFilesCause};
 
 use blz_links::files::{Files, FilesFault, Stamp};
-use std::alloc::Global;
+use std::alloc::{AllocError, Global};
 use std::io::Read;
 use std::time::UNIX_EPOCH;
 use std::{fs, io, rt};
@@ -11,8 +11,10 @@ use std::{fs, io, rt};
 // A longer file is not read.
 const MOST_BYTES: usize = 4_294_967_295;
 
-// How much is read at once.
-const CHUNK_BYTES: usize = 65_536;
+// How much is read at once: so many pieces of zeros make room for it.
+const CHUNK_PIECES: usize = 32;
+
+const PIECE: [u8; 1024] = [0; 1024];
 
 /// The files that a runtime has. It does not tell what they hold, and follows no links.
 #[derive(Drop)]
@@ -40,27 +42,47 @@ impl<'r, R: rt::Files> RealFiles<'r, R> {
     }
 }
 
+// Room for one chunk more.
+fn make_room(bytes: &mut Vec<u8>) -> std::result::Result<(), AllocError>
+    ensures { OnOk result (vec_len bytes.old ≤ vec_len bytes.new) }
+{
+    for _ in 0..CHUNK_PIECES {
+        bytes.extend_from_slice(&PIECE)?;
+    }
+    Ok(())
+}
+
+// Reads once behind what is there, and says how many bytes came; none where a signal came first.
+fn read_more<R: Read>(file: &mut R, bytes: &mut Vec<u8>) -> io::Result<Option<usize>> {
+    let filled = bytes.len();
+    make_room(bytes)?;
+    match file.read(&mut bytes[filled..]) {
+        Ok(count) => {
+            bytes.truncate(filled + count);
+            Ok(Some(count))
+        }
+        Err(error) if error.kind() == io::ErrorKind::Interrupted => {
+            bytes.truncate(filled);
+            Ok(None)
+        }
+        Err(error) => Err(error),
+    }
+}
+
 fn read_whole<R: rt::Files>(rt: &R, alloc: Global, path: &str) -> io::Result<Vec<u8>> {
     let mut file = fs::open(rt, path)?;
     let mut bytes = Vec::new(alloc);
     // room for the whole file at once, so that what is read does not move; a file that tells no size grows
     let told = fs::metadata(rt, path)?.len();
     if told <= MOST_BYTES as u64 {
-        bytes.reserve_exact(told as usize)?;
+        bytes.reserve_exact(told as usize + CHUNK_PIECES * PIECE.len())?;
     }
-    let mut chunk = [0u8; CHUNK_BYTES];
     for _ in 0..u64::MAX {
-        match file.read(&mut chunk) {
-            Ok(0) => return Ok(bytes),
-            Ok(count) => {
-                if bytes.len() > MOST_BYTES - count {
-                    break;
-                }
-                bytes.extend_from_slice(&chunk[..count])?;
-            }
-            // a signal came: the read is tried again
-            Err(error) if error.kind() == io::ErrorKind::Interrupted => {}
-            Err(error) => return Err(error),
+        if read_more(&mut file, &mut bytes)? == Some(0) {
+            return Ok(bytes);
+        }
+        if bytes.len() > MOST_BYTES {
+            break;
         }
     }
     Err(io::Error::from(io::ErrorKind::FileTooLarge))
