@@ -6,10 +6,10 @@ ghost use Rattle.blz_index.specs.BuiltUnits.{AreWhole, IsReadable};
 use crate::clocked::now;
 use crate::debug_sections::{alone, sections_of, texts_of};
 use blz_bytes::ByStdSort;
-use blz_elf::RelocationMap;
 use blz_entry::Sections;
 use blz_error::Result;
 use blz_index::{Dwarf, Units};
+use blz_moves::RelocationMap;
 use std::alloc::Global;
 use std::time::CpuClock;
 

@@ -1,9 +1,9 @@
 //! The line programs of all units of a file.
 use crate::debug_sections::{root_of, sections_of, units_of};
 use blz_bytes::ByStdSort;
-use blz_elf::RelocationMap;
 use blz_error::Result;
 use blz_line::Lines;
+use blz_moves::RelocationMap;
 use std::alloc::Global;
 
 /// How much some line programs give.

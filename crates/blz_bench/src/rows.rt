@@ -1,10 +1,10 @@
 //! The rows of all line programs of a file, as text.
 use crate::debug_sections::{alone, root_of, sections_of, texts_of, units_of};
 use blz_bytes::{ByStdSort, bytes_to_path};
-use blz_elf::RelocationMap;
 use blz_entry::{Sections, Texts};
 use blz_error::Result;
 use blz_line::{LineSequence, Lines};
+use blz_moves::RelocationMap;
 use std::alloc::Global;
 use std::fmt::Write;
 

@@ -2,18 +2,18 @@
 use Rattle.std.proofs.Common.{◌≡◌, ℕ, ◌<◌, true, length, List, [], ◌∷◌, Option, Some, None, option_map, refl, sym, ap, ◌∙◌}
 use Rattle.std.specs.List.{slice_get}
 use Rattle.std.proofs.lemmas.Option.{slice_get-map, slice_get_within}
-use Rattle.blz_entry.specs.declared.span.Span.{Span}
+use Rattle.blz_ranges.specs.declared.span.Span.{Span}
 use Rattle.blz_model.specs.Reads.{◌>>=◌}
-use Rattle.blz_index.specs.Best.{best, covers, IsBest}
+use Rattle.blz_ranges.specs.Best.{best, covers, IsBest}
 use Rattle.blz_entry.specs.declared.units.UnitHeader.{UnitHeader}
 use Rattle.blz_index.specs.BuiltUnits.{Files, reading}
-use Rattle.blz_index.specs.FunctionList.{Lists}
-use Rattle.blz_index.specs.Owned.{Owned, items_of}
-use Rattle.blz_index.specs.Ranges.{owner_of, best_owner}
+use Rattle.blz_functions.specs.FunctionList.{Lists}
+use Rattle.blz_ranges.specs.Owned.{Owned, items_of}
+use Rattle.blz_ranges.specs.Ranges.{owner_of, best_owner}
 use Rattle.blz_index.specs.UnitAnswers.{lists_in, read_unit, unit_functions, best_of, best_function, found_or, first_function, function_at}
 use Rattle.blz_index.specs.UnitTables.{UnitTable, announcing}
-use Rattle.blz_index.proofs.Backward.{passing_covers}
-use Rattle.blz_index.proofs.BestOf.{best_is_best}
+use Rattle.blz_ranges.proofs.Backward.{passing_covers}
+use Rattle.blz_ranges.proofs.BestOf.{best_is_best}
 use Rattle.blz_resolver.specs.AnswerLaws.{HasRange, IsCovered}
 
 at_place : (lists : Lists) (a n p : ℕ) (span : Span) (o : Option (Owned Span)) → slice_get lists.ranges p ≡ o → option_map (λ (x : Owned Span). x.item) o ≡ Some span → option_map (λ (x : Owned Span). x.owner) o ≡ Some n → covers span a ≡ true → HasRange lists n a

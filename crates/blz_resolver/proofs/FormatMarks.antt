@@ -18,7 +18,7 @@ use Rattle.blz_elf.specs.Headers.{Header, header_of}
 use Rattle.blz_elf.specs.Sections.{Section, first_section, section_count, sections_of, raw_data, data_of, run_in, records_of, if_there}
 use Rattle.blz_elf.specs.Images as image
 use Rattle.blz_elf.specs.declared.entries.EntryKind.{EntryKind}
-use Rattle.blz_elf.specs.Relocations.{SectionMap}
+use Rattle.blz_moves.specs.Relocations.{SectionMap}
 use Rattle.blz_elf.specs.RelocationTables.{entry_kind, with_entries, with_section, with_sections, relocations_of, image_relocations}
 use Rattle.blz_elf.specs.SymbolTables.{Symbol, SymbolTable, table_named, symtab_of, dynsym_of, table_of}
 use Rattle.blz_elf.specs.SymbolRule as rule

@@ -14,10 +14,10 @@ use Rattle.blz_entry.specs.Marks.{or_invalid}
 use Rattle.blz_entry.specs.TextParts.{text_of}
 use Rattle.blz_entry.specs.declared.text.StrPlace.{StrPlace}
 use Rattle.blz_entry.specs.declared.text.Texts.{Texts}
-use Rattle.blz_index.specs.FunctionList.{Lists}
+use Rattle.blz_functions.specs.FunctionList.{Lists}
 use Rattle.blz_index.specs.UnitAnswers.{unit_functions, is_called, first_called, with_called, called_from, functions_named}
 use Rattle.blz_index.specs.UnitSites.{call_name}
-use Rattle.blz_index.specs.declared.functions.Function.{Function}
+use Rattle.blz_functions.specs.declared.functions.Function.{Function}
 use Rattle.blz_resolver.specs.AddressAnswers.{function_numbered, begin_of, size_of}
 use Rattle.blz_resolver.specs.AnswerLaws.{AllRead, IsNamedAt, IsSomeList}
 use Rattle.blz_resolver.specs.Books.{Book}

@@ -10,7 +10,7 @@ use Rattle.blz_entry.specs.Marks.{or_invalid}
 use Rattle.blz_entry.specs.declared.section.Section.{Section}
 use Rattle.blz_entry.specs.declared.section.Sections.{Sections}
 use Rattle.blz_entry.specs.declared.text.Texts.{Texts}
-use Rattle.blz_split.specs.FileSections.{FileSections, sections_view}
+use Rattle.blz_entry.specs.FileSections.{FileSections, sections_view}
 use Rattle.blz_split.specs.PackageParts.{PackageParts, package_view}
 use Rattle.blz_split.specs.declared.package.Package.{Package}
 use Rattle.blz_index.specs.BuiltUnits.{Files, files_view, bytes_of, AreSupTexts, ArePacked, IsReadable}

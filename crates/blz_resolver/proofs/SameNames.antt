@@ -9,10 +9,10 @@ use Rattle.blz_entry.specs.Marks.{or_invalid}
 use Rattle.blz_entry.specs.declared.text.StrPlace.{StrPlace}
 use Rattle.blz_entry.specs.declared.text.Texts.{Texts}
 use Rattle.blz_index.specs.BuiltUnits.{Files}
-use Rattle.blz_index.specs.FunctionList.{Lists}
+use Rattle.blz_functions.specs.FunctionList.{Lists}
 use Rattle.blz_index.specs.UnitAnswers.{unit_functions, is_called, first_called, with_called, called_from, functions_named}
 use Rattle.blz_index.specs.UnitTables.{UnitTable}
-use Rattle.blz_index.specs.declared.functions.Function.{Function}
+use Rattle.blz_functions.specs.declared.functions.Function.{Function}
 use Rattle.blz_resolver.specs.AddressAnswers.{function_numbered}
 use Rattle.blz_resolver.specs.Books.{Book}
 use Rattle.blz_resolver.specs.FunctionNames.{info_named, function_info, numbered_info, infos_or_symbols, addresses_in, named_only, unit_listing, units_listing}

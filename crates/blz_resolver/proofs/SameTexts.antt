@@ -21,7 +21,7 @@ use Rattle.blz_index.specs.BuiltUnits.{Files}
 use Rattle.blz_index.specs.UnitAnswers.{unit_lines, covering_calls}
 use Rattle.blz_index.specs.UnitSites as sites
 use Rattle.blz_index.specs.UnitTables.{UnitTable, announcing}
-use Rattle.blz_index.specs.declared.inlined_functions.InlinedFunction.{InlinedFunction}
+use Rattle.blz_functions.specs.declared.inlined_functions.InlinedFunction.{InlinedFunction}
 
 pub record SameTexts (t u : Texts) : Type 0 where
   pub info : t.info.now ≡ u.info.now

@@ -7,7 +7,7 @@ use Rattle.blz_elf.specs.Infos.{Info}
 use Rattle.blz_elf.specs.Listings.{Listing, listing_of, Told, IsShown, Breaks, IsRefused}
 use Rattle.blz_elf.specs.Visits.{ShowsOne}
 use Rattle.blz_elf.proofs.ListingSteps.{SoFar, shown_on, shown_break, shown_refused, shown_end}
-use Rattle.blz_index.specs.declared.functions.Function.{Function}
+use Rattle.blz_functions.specs.declared.functions.Function.{Function}
 use Rattle.blz_resolver.specs.FunctionNames.{named_only}
 
 abbrev rest_of : (Function → Part Info) → List Function → Listing

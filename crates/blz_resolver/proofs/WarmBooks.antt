@@ -6,11 +6,11 @@ use Rattle.blz_elf.specs.Warm as elf
 use Rattle.blz_model.specs.Part.{Good, ◌>>=◌}
 use Rattle.blz_model.proofs.PartLemmas.{bind_good}
 use Rattle.blz_elf.specs.Images.{elf_of}
-use Rattle.blz_elf.specs.Relocations.{SectionMap}
+use Rattle.blz_moves.specs.Relocations.{SectionMap}
 use Rattle.blz_elf.specs.RelocationTables.{image_relocations}
 use Rattle.blz_entry.specs.Marks.{or_invalid}
 use Rattle.blz_split.specs.PackageParts.{PackageParts, package_of, package_view}
-use Rattle.blz_index.specs.UnitTables.{sup_units}
+use Rattle.blz_index.specs.UnitTables.{sups_checked}
 use Rattle.blz_index.specs.UnitsWarm.{units_prepared, UnitsFit}
 use Rattle.blz_index.specs.declared.units.Units.{Units}
 use Rattle.blz_resolver.specs.Books.{DebugImages, as_sup, debug_images, files_in, if_there, sup_image}
@@ -39,8 +39,8 @@ parts_there bytes d is =
 sup_debug : (bytes : List ℕ) (d : DebugImage) → sup_image bytes ≡ Good d → debug_image bytes ≡ Good d
 unfolding sup_image
 sup_debug bytes d is =
-    let a = bind_good (debug_image bytes) (λ debug. or_invalid (sup_units (Some (as_sup debug))) >>= λ units. Good debug) d is in
-    let b = bind_good (or_invalid (sup_units (Some (as_sup a.0)))) (λ units. Good a.0) d a.2 in
+    let a = bind_good (debug_image bytes) (λ debug. or_invalid (sups_checked (Some (as_sup debug))) >>= λ checked. Good debug) d is in
+    let b = bind_good (or_invalid (sups_checked (Some (as_sup a.0)))) (λ checked. Good a.0) d a.2 in
     a.1 ∙ b.2
 
 same_image : (d : DebugImage) (parts : DebugParts) (moves : SectionMap) → d.parts ≡ parts → d.moves ≡ moves → d ≡ record { parts = parts; moves = moves }

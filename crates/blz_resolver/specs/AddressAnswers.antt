@@ -9,11 +9,11 @@ use Rattle.blz_elf.specs.Asked.{asks_code_info, asks_inlined_fns}
 use Rattle.blz_elf.specs.SymbolRule.{image_symbol}
 use Rattle.blz_elf.specs.declared.opts.FindSymOpts.{FindSymOpts}
 use Rattle.blz_entry.specs.Marks.{or_invalid}
-use Rattle.blz_entry.specs.declared.span.Span.{Span}
+use Rattle.blz_ranges.specs.declared.span.Span.{Span}
 use Rattle.blz_entry.specs.declared.text.Texts.{Texts}
 use Rattle.blz_index.specs.UnitAnswers.{unit_language, unit_functions, function_at}
 use Rattle.blz_index.specs.UnitSites.{call_name, location_at, inlined_at}
-use Rattle.blz_index.specs.declared.functions.Function.{Function}
+use Rattle.blz_functions.specs.declared.functions.Function.{Function}
 use Rattle.blz_resolver.specs.Books.{Book, frame_of}
 use Rattle.blz_resolver.specs.CallFrames.{Places, no_places, one_place, one_place_if, frames}
 use Rattle.blz_resolver.specs.FileTexts.{texts_of}

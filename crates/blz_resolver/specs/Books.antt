@@ -5,10 +5,10 @@ use Rattle.blz_error.specs.Texts.{Bytes}
 use Rattle.blz_model.specs.Part.{Part, Good, ◌>>=◌}
 use Rattle.blz_entry.specs.Contents.{Contents}
 use Rattle.blz_entry.specs.Marks.{or_invalid}
-use Rattle.blz_split.specs.FileSections.{FileSections}
+use Rattle.blz_entry.specs.FileSections.{FileSections}
 use Rattle.blz_split.specs.PackageParts.{PackageParts, package_of}
 use Rattle.blz_index.specs.BuiltUnits.{Files}
-use Rattle.blz_index.specs.UnitTables.{UnitTable, sup_units, units_of}
+use Rattle.blz_index.specs.UnitTables.{UnitTable, sups_checked, units_of}
 use Rattle.blz_resolver.specs.DebugSections.{DebugImage, debug_image, sections_of}
 use Rattle.blz_bundle.specs.Images.{NamedImage, ImageSet, debug_file}
 
@@ -27,7 +27,7 @@ as_sup d = record (sections_of d) { sup = true }
 unfoldable pub sup_image : Bytes → Part DebugImage
 sup_image image = do
   debug ← debug_image image
-  units ← or_invalid (sup_units (Some (as_sup debug)))
+  checked ← or_invalid (sups_checked (Some (as_sup debug)))
   Good debug
 
 pub record DebugImages : Type 0 where

@@ -4,10 +4,10 @@ use Rattle.std.specs.FinMap as map
 use Rattle.blz_model.specs.declared.byte_order.ByteOrder.{ByteOrder}
 use Rattle.blz_model.specs.Part.{Part, Good, ◌>>=◌}
 use Rattle.blz_elf.specs.Images.{elf_of, image_order, image_section, image_data_named}
-use Rattle.blz_elf.specs.Relocations.{OffsetMap, SectionMap, section_map}
+use Rattle.blz_moves.specs.Relocations.{OffsetMap, SectionMap, section_map}
 use Rattle.blz_elf.specs.RelocationTables.{image_relocations}
 use Rattle.blz_entry.specs.Contents.{Contents}
-use Rattle.blz_split.specs.FileSections.{FileSections}
+use Rattle.blz_entry.specs.FileSections.{FileSections}
 use Rattle.blz_resolver.specs.declared.debug_section.DebugSection.{DebugSection}
 use Rattle.blz_resolver.specs.declared.debug_section.DebugSection.TheVariants.{Abbrev, Addr, Aranges, Info, Line, LineStr, Ranges, RngLists, Strings, StrOffsets}
 

@@ -2,7 +2,7 @@
 use Rattle.std.specs.Prelude.{◌≡◌, Bool, true, Option, Some, None, is_some, option_map, ⊤}
 use Rattle.blz_error.specs.Texts.{Bytes}
 use Rattle.blz_model.specs.Part.{Part, Good}
-use Rattle.blz_elf.specs.Relocations.{SectionMap}
+use Rattle.blz_moves.specs.Relocations.{SectionMap}
 use Rattle.blz_elf.specs.Warm as elf
 use Rattle.blz_index.specs.UnitsWarm.{units_prepared, UnitsFit}
 use Rattle.blz_index.specs.declared.units.Units.{Units}

@@ -4,7 +4,7 @@ ghost use Rattle.std.specs.FinMap as map;
 ghost use Rattle.blz_model.specs.Part.{Exactly};
 ghost use Rattle.blz_elf.specs.Images.{image_section, image_data_named};
 ghost use Rattle.blz_entry.specs.Contents.{section_view};
-ghost use Rattle.blz_split.specs.FileSections.{sections_view};
+ghost use Rattle.blz_entry.specs.FileSections.{sections_view};
 ghost use Rattle.blz_resolver.specs.DebugSections.{name_of, located, debug_parts, moves_of, contents_with, sections_in};
 ghost use Rattle.blz_resolver.specs.DebugViews.{located_view, parts_view, IsWholeFile};
 

@@ -3,7 +3,7 @@ ghost use Rattle.std.specs.Prelude.{◌≡◌, Some, IfOk, IfSome};
 ghost use Rattle.std.specs.FinMap as map;
 ghost use Rattle.std.specs.Option.{option_map};
 ghost use Rattle.blz_model.specs.Part.{Gives};
-ghost use Rattle.blz_split.specs.FileSections.{sections_view};
+ghost use Rattle.blz_entry.specs.FileSections.{sections_view};
 ghost use Rattle.blz_split.specs.PackageParts.{package_view, package_of};
 ghost use Rattle.blz_index.specs.BuiltUnits.{bytes_of, files_view, AreSupTexts, AreTextsOf, ArePacked, IsReadable};
 ghost use Rattle.blz_resolver.specs.Books.{as_sup, beside, debug_images, files_in, if_there, sup_image};
@@ -17,7 +17,7 @@ use blz_bundle::{Bundle, Companion};
 use blz_elf::{ElfParser, RelocationMap};
 use blz_entry::{Section, Sections, Texts};
 use blz_error::Result;
-use blz_index::{Dwarf, sup_units};
+use blz_index::{Dwarf, check_sup_units};
 use blz_split::Package;
 use std::alloc::Global;
 
@@ -53,7 +53,7 @@ fn read_sup<'b>(
     ensures { Gives debug_view result (sup_image parser.old.image) }
 {
     let debug = DebugImage::read(alloc, parser)?;
-    sup_units(alloc, &Some(sections_of_sup(&debug, none)))?;
+    check_sup_units(alloc, &Some(sections_of_sup(&debug, none)))?;
     Ok(debug)
 }
 

@@ -6,8 +6,8 @@ ghost use Rattle.blz_elf.specs.AnswerView.{answer_view};
 ghost use Rattle.blz_elf.specs.Asked.{asks_code_info, asks_inlined_fns};
 ghost use Rattle.blz_elf.specs.Listings.{ShowsAll};
 ghost use Rattle.blz_entry.specs.Marks.{or_invalid};
-ghost use Rattle.blz_index.specs.Keyed.{IsAccepted, begin_key};
-ghost use Rattle.blz_index.specs.Owned.{items_of};
+ghost use Rattle.blz_ranges.specs.Keyed.{IsAccepted, begin_key};
+ghost use Rattle.blz_ranges.specs.Owned.{items_of};
 ghost use Rattle.blz_index.specs.UnitTables.{units_of};
 ghost use Rattle.blz_index.specs.UnitsWarm.{units_table, units_prepared, lines_kept, announced_ordered, UnitsFit, UnitsGrow, AreCold};
 ghost use Rattle.blz_resolver.specs.AddressAnswers.{answer_of};
@@ -54,7 +54,7 @@ fn read_units<O: Orders>(alloc: Global, orders: &mut O, files: &DebugFiles<'_>) 
     requires { files.now.none ≡ finite.empty }
     ensures value { Gives units_table result (or_invalid (units_of (files_in (images_view files.now)))) }
     ensures fits { IfOk result (UnitsFit (files_in (images_view files.now))) }
-    ensures accepted { IfOk result (λ u. IsAccepted (O.pair_places orders.old) (map begin_key (items_of (units_table u).announced)) (announced_ordered u)) }
+    ensures accepted { IfOk result (λ u. IsAccepted O.pair_places (map begin_key (items_of (units_table u).announced)) (announced_ordered u)) }
     ensures cold { IfOk result AreCold }
 {
     let dwarf = files.dwarf();
@@ -74,7 +74,7 @@ impl<'b> DebugInfo<'b> {
         requires { IsOfDebugFile (bundle_view bundle.now) parser.old }
         ensures frame { Gives (info_book (bundle_view bundle.now)) result (frame_of (bundle_view bundle.now)) }
         ensures fits { IfOk result (HasBook (bundle_view bundle.now)) }
-        ensures accepted { IfOk result (λ d. IsAccepted (O.pair_places orders.old) (map begin_key (items_of (units_table d.units).announced)) (announced_ordered d.units)) }
+        ensures accepted { IfOk result (λ d. IsAccepted O.pair_places (map begin_key (items_of (units_table d.units).announced)) (announced_ordered d.units)) }
         ensures cold { IfOk result (λ d. AreCold d.units) }
         ensures same { parser.new ≡ parser.old }
     {
@@ -176,8 +176,6 @@ impl<'b> DebugInfo<'b> {
         requires there { unit < length (units_table self.old.units).kept }
         ensures keeps { KeepsBook (bundle_view bundle.now) self.old self.new }
         ensures filled { IfOk result (λ _. lines_kept self.new.units unit ≡ true) }
-        ensures pairs_stay { O.pair_places orders.new ≡ O.pair_places orders.old }
-        ensures names_stay { O.name_places orders.new ≡ O.name_places orders.old }
     {
         let reader = BookReader {
             bundle: *bundle,
@@ -206,7 +204,7 @@ impl<'b> DebugInfo<'b> {
     ) -> std::result::Result<(), AllocError>
         requires { HasBook (bundle_view bundle.now) self.old }
         ensures has { HasBook (bundle_view bundle.now) self.new }
-        ensures grows { UnitsGrow (O.pair_places orders.old) self.old.units self.new.units }
+        ensures grows { UnitsGrow O.pair_places self.old.units self.new.units }
         ensures is_prepared { IfOk result (λ _. units_prepared self.new.units ≡ true) }
         ensures stays { units_prepared self.old.units ≡ true → units_prepared self.new.units ≡ true }
     {

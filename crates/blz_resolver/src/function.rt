@@ -84,8 +84,6 @@ impl<'b> BookReader<'_, 'b> {
         requires there { unit < length (units_table units.old).kept }
         ensures keeps { Keeps self.now units.old units.new }
         ensures filled { IfOk result (λ _. lines_kept units.new unit ≡ true) }
-        ensures pairs_stay { O.pair_places orders.new ≡ O.pair_places orders.old }
-        ensures names_stay { O.name_places orders.new ≡ O.name_places orders.old }
     {
         units.fill_lines(alloc, orders, &self.dwarf, unit)
     }

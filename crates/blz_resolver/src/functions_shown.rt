@@ -3,7 +3,7 @@ ghost use Rattle.std.specs.Prelude.{◌≡◌, ◌<◌, true, false, map, length
 ghost use Rattle.blz_elf.specs.Listings.{Shows, ShowsAll, listing_of, listing_if};
 ghost use Rattle.blz_entry.specs.Marks.{or_invalid};
 ghost use Rattle.blz_index.specs.UnitsWarm.{units_table};
-ghost use Rattle.blz_index.specs.declared.functions.Function.{Function};
+ghost use Rattle.blz_functions.specs.declared.functions.Function.{Function};
 ghost use Rattle.blz_bundle.specs.BundleViews.{bundle_view};
 ghost use Rattle.blz_resolver.specs.FunctionNames.{function_info, named_only, unit_listing, units_listing, functions_listing};
 ghost use Rattle.blz_resolver.specs.Reading.{book_of, Reads, Keeps};

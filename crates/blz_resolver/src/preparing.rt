@@ -29,7 +29,7 @@ fn prepare_units<'b, O: Orders>(
 ) -> std::result::Result<(), AllocError>
     requires { HasBookIf (bundle_view bundle.now) debug.old }
     ensures has { HasBookIf (bundle_view bundle.now) debug.new }
-    ensures grows { UnitsGrowIf (O.pair_places orders.old) (units_in debug.old) (units_in debug.new) }
+    ensures grows { UnitsGrowIf O.pair_places (units_in debug.old) (units_in debug.new) }
     ensures is_prepared { IfOk result (λ _. ArePrepared debug.new) }
     ensures stays { ArePrepared debug.old → ArePrepared debug.new }
     ensures rows { IfOk result (λ _. (unit : ℕ) → unit < unit_count_of (bundle_view bundle.now) (is_some debug.new) → lines_in (units_in debug.new) unit ≡ true) }
@@ -47,7 +47,7 @@ impl<'b> ElfResolver<'b> {
         ensures is_prepared { IfOk result (λ _. self.new.prepared ≡ true) }
         ensures refused { IfErr result (λ e. (e.kind ≡ OutOfMemory) × (self.new.prepared ≡ self.old.prepared)) }
         ensures rows { IfOk result (λ _. (unit : ℕ) → unit < unit_count_of self.new.images (has_debug self.new) → rows_filled self.new unit ≡ true) }
-        ensures grows { Grows (O.pair_places orders.old) self.old self.new }
+        ensures grows { Grows O.pair_places self.old self.new }
     {
         prepare_units(alloc, orders, &self.bundle, &mut self.debug)?;
         self.parser.prepare(alloc, orders)?;

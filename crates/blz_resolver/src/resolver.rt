@@ -2,8 +2,8 @@
 ghost use Rattle.std.specs.Prelude.{◌≡◌, true, false, is_some, map, None, Option, IfOk, IfErr, IfSome};
 ghost use Rattle.blz_model.specs.Part.{Gives};
 ghost use Rattle.blz_elf.specs.AnswerView.{answer_view};
-ghost use Rattle.blz_index.specs.Keyed.{IsAccepted, begin_key};
-ghost use Rattle.blz_index.specs.Owned.{items_of};
+ghost use Rattle.blz_ranges.specs.Keyed.{IsAccepted, begin_key};
+ghost use Rattle.blz_ranges.specs.Owned.{items_of};
 ghost use Rattle.blz_index.specs.UnitsWarm.{units_table, announced_ordered, AreCold};
 ghost use Rattle.blz_resolver.specs.AddressAnswers.{answer_of};
 ghost use Rattle.blz_resolver.specs.Books.{framed};
@@ -34,8 +34,12 @@ pub struct ElfResolver<'b> {
 impl<'b> Model for ElfResolver<'b> {
     ghost use Rattle.blz_bundle.specs.BundleViews.{bundle_view};
     ghost use Rattle.blz_resolver.specs.Resolver.{Resolver, Fits, units_in};
+    ghost use Rattle.blz_index.specs.contracts.units.Units as units;
+    ghost use Rattle.std.specs.Coded.{codes};
 
     ghost Value = { Resolver };
+
+    ghost coded = { Prim.hlevel (codes, units.the_row.coded) };
 
     ghost view = { λ r. record { images = bundle_view r.bundle; units = units_in r.debug; prepared = r.prepared } };
 
@@ -77,7 +81,7 @@ impl<'b> ElfResolver<'b> {
         ensures frame { Gives (λ _. tt) result (framed (bundle_view bundle.now)) }
         ensures images { IfOk result (λ r. r.images ≡ bundle_view bundle.now) }
         ensures has_debug { IfOk result (λ r. has_debug r ≡ true) }
-        ensures accepted { IfOk result (λ r. IfSome r.units (λ u. IsAccepted (O.pair_places orders.old) (map begin_key (items_of (units_table u).announced)) (announced_ordered u))) }
+        ensures accepted { IfOk result (λ r. IfSome r.units (λ u. IsAccepted O.pair_places (map begin_key (items_of (units_table u).announced)) (announced_ordered u))) }
         ensures cold { IfOk result (λ r. IfSome r.units AreCold) }
         ensures is_prepared { IfOk result (λ r. r.prepared ≡ false) }
         ensures kinds { IfErr result (λ e. IsMemoryOrFormat e.kind) }

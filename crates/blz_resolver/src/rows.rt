@@ -73,8 +73,6 @@ fn fill_rows<'b, O: Orders>(
     ensures book { HasBookIf (bundle_view bundle.now) debug.new }
     ensures stay { UnitsStayIf (units_in debug.old) (units_in debug.new) }
     ensures filled { IfOk result (λ _. lines_in (units_in debug.new) unit ≡ true) }
-    ensures pairs_stay { O.pair_places orders.new ≡ O.pair_places orders.old }
-    ensures names_stay { O.name_places orders.new ≡ O.name_places orders.old }
 {
     match debug {
         Some(info) => info.fill_rows(alloc, orders, bundle, unit),
@@ -118,8 +116,6 @@ impl<'b> ElfResolver<'b> {
         ensures filled { IfOk result (λ _. rows_filled self.new unit ≡ true) }
         ensures refused { IfErr result (λ e. e.kind ≡ OutOfMemory) }
         ensures stays { Stays self.old self.new }
-        ensures pairs_stay { O.pair_places orders.new ≡ O.pair_places orders.old }
-        ensures names_stay { O.name_places orders.new ≡ O.name_places orders.old }
     {
         fill_rows(alloc, orders, &self.bundle, &mut self.debug, unit)?;
         Ok(())

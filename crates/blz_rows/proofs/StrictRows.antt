@@ -7,7 +7,7 @@ use Rattle.blz_entry.specs.Contents.{cut, section_view}
 use Rattle.blz_entry.specs.declared.section.Sections.{Sections}
 use Rattle.blz_entry.specs.declared.units.UnitHeader.{UnitHeader}
 use Rattle.blz_entry.specs.declared.root.UnitRoot.{UnitRoot}
-use Rattle.blz_line.specs.Best.{best_at}
+use Rattle.blz_ranges.specs.Best.{best}
 use Rattle.blz_line.specs.FileNames.{files_of, naming_of}
 use Rattle.blz_line.specs.Headers.{header_at, rules_of}
 use Rattle.blz_line.specs.Lookups.{best_sequence, row_at, spans_of}
@@ -122,5 +122,5 @@ strict_in sequences i s h e =
 
 pub best_strict : (sequences : List Sequence) (a : ℕ) (s : Sequence) → AllStrict sequences → best_sequence sequences a ≡ Some s → AreStrict s.rows
 best_strict sequences a s h e =
-    let place = bound (best_at (spans_of sequences) a) (λ place. slice_get sequences place) s e in
+    let place = bound (best (spans_of sequences) a) (λ place. slice_get sequences place) s e in
     strict_in sequences place.0 s h place.2

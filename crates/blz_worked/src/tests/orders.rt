@@ -14,9 +14,9 @@ struct SamePlaces {
 }
 
 impl Orders for SamePlaces {
-    ghost pair_places = { λ _. None };
+    ghost pair_places = { None };
 
-    ghost name_places = { λ _. None };
+    ghost name_places = { None };
 
     fn by_pair(&mut self, _keys: &[Key], places: &mut [usize]) {
         for (place, same) in places.iter_mut().zip(self.places) {
@@ -53,9 +53,9 @@ struct Counting {
 }
 
 impl Orders for Counting {
-    ghost pair_places = { λ _. None };
+    ghost pair_places = { None };
 
-    ghost name_places = { λ _. None };
+    ghost name_places = { None };
 
     fn by_pair(&mut self, keys: &[Key], places: &mut [usize]) {
         self.asked = self.asked.saturating_add(1);

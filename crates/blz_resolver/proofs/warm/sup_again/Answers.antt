@@ -1,5 +1,5 @@
 use Rattle.std.proofs.Common.{Option, Some, option_map, subst}
-use Rattle.blz_elf.specs.Relocations.{SectionMap}
+use Rattle.blz_moves.specs.Relocations.{SectionMap}
 use Rattle.blz_bundle.specs.BundleViews.{companion_view}
 use Rattle.blz_resolver.specs.WarmFits.{SupFits}
 use Rattle.blz_bundle.specs.declared.bundle.Companion.{Companion}

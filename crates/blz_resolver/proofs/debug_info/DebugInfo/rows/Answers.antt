@@ -11,7 +11,7 @@ use Rattle.blz_resolver.proofs.debug_info.DebugInfo.rows.Goals as goal
 pub returns-in_err-lines : goal.returns-in_err-lines
 returns-in_err-lines c =
     let p = err_from_is_err_and c.from_residual.result c.from_residual.ensures.1 in
-    let h = c.in_err-lines.ensures (files_view c.dwarf-dwarf.result) (lines_fit (bundle_view c.args.bundle.now) c.args.self.now c.dwarf-dwarf.result c.requires.fits c.dwarf-dwarf.ensures.view) in
+    let h = c.in_err-lines.ensures.value (files_view c.dwarf-dwarf.result) (lines_fit (bundle_view c.args.bundle.now) c.args.self.now c.dwarf-dwarf.result c.requires.fits c.dwarf-dwarf.ensures.view) in
     rw (p.1, p.2) (
       rows_read (bundle_view c.args.bundle.now) c.args.self.now c.dwarf-dwarf.result c.args.unit c.requires.fits c.dwarf-dwarf.ensures.view c.dwarf-dwarf.ensures.readable
           ∙ ap (λ (q : Part (Option LineTable)). q >>= λ lines. Good (option_map (rows_with c.dwarf-dwarf.result.texts) lines)) h.0,
@@ -21,4 +21,4 @@ returns-in_err-lines c =
 pub returns : goal.returns
 returns c =
     rows_read (bundle_view c.args.bundle.now) c.args.self.now c.dwarf-dwarf.result c.args.unit c.requires.fits c.dwarf-dwarf.ensures.view c.dwarf-dwarf.ensures.readable
-    ∙ rows_given c.dwarf-dwarf.result.texts _ c.in_ok-lines.lines _ (c.in_ok-lines.ensures (files_view c.dwarf-dwarf.result) (lines_fit (bundle_view c.args.bundle.now) c.args.self.now c.dwarf-dwarf.result c.requires.fits c.dwarf-dwarf.ensures.view)) c.with_texts.ensures
+    ∙ rows_given c.dwarf-dwarf.result.texts _ c.in_ok-lines.lines _ (c.in_ok-lines.ensures.value (files_view c.dwarf-dwarf.result) (lines_fit (bundle_view c.args.bundle.now) c.args.self.now c.dwarf-dwarf.result c.requires.fits c.dwarf-dwarf.ensures.view)) c.with_texts.ensures
