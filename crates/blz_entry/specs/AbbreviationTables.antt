@@ -1,6 +1,7 @@
 -- Abbreviation tables (DWARF 5 section 7.5.3).
 use Rattle.std.specs.Prelude.{ℕ, zero, suc, Bool, true, false, ◌&&◌, pos, List, [], ◌∷◌, ◌++◌, length, Option, Some, None, ◌==◌, if◌then◌else◌}
 use Rattle.std.specs.Prelude.{is_some}
+use Rattle.blz_constants.specs.declared.dwarf.TheConstants as dwarf
 use Rattle.blz_model.specs.Reads.{Read, ◌>>=◌}
 use Rattle.blz_bytes.specs.Pieces.{byte}
 use Rattle.blz_model.specs.LebNumbers.{uleb, sleb}
@@ -12,7 +13,7 @@ unfoldable pub spec_at : List ℕ → ℕ → Read AttrSpec
 spec_at bytes at = do
   name ← uleb bytes at
   form ← uleb bytes name.1
-  if form.0 == 0x21 then (do
+  if form.0 == dwarf.DW_FORM_implicit_const then (do
     constant ← sleb bytes form.1
     Some (record { name = name.0; form = form.0; constant = constant.0 }, constant.1)) else Some (record { name = name.0; form = form.0; constant = pos 0 }, form.1)
 
@@ -29,7 +30,7 @@ specs_in (suc n) so_far bytes at = do
 
 -- the byte that tells whether an entry has children: DW_CHILDREN_no or DW_CHILDREN_yes
 abbrev pub has_children : ℕ → Option Bool
-has_children n = if n == 0 then Some false else (if n == 1 then Some true else None)
+has_children n = if n == dwarf.DW_CHILDREN_no then Some false else (if n == dwarf.DW_CHILDREN_yes then Some true else None)
 
 -- an abbreviation behind its code
 unfoldable pub abbreviation_at : ℕ → List ℕ → ℕ → Read Abbrev

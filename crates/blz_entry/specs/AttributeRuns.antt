@@ -1,5 +1,6 @@
 -- The attributes of an abbreviation in runs: some whose bytes are fixed, and one behind them that is looked at.
 use Rattle.std.specs.Prelude.{◌≡◌, ℕ, ◌+◌, ◌≤◌, Bool, true, false, ◌&&◌, ◌||◌, List, [], ◌∷◌, length, take, drop, slice_get, Option, Some, None, IfSome, ◌==◌, if◌then◌else◌}
+use Rattle.blz_constants.specs.declared.dwarf.TheConstants as dwarf
 use Rattle.blz_model.specs.Reads.{Read, ◌>>=◌}
 use Rattle.blz_entry.specs.Attributes.{form_for, attribute}
 use Rattle.blz_entry.specs.Contents.{Contents}
@@ -25,7 +26,7 @@ skipped_size reading a e = if wants reading a then None else attribute_size a e
 
 -- how the form of an attribute is read, where the table of forms tells
 abbrev pub form_at : AttrSpec → Encoding → Option Form
-form_at a e = if a.form == 0x21 then None else (if a.form == 0x16 then None else form_for a.name e a.form)
+form_at a e = if a.form == dwarf.DW_FORM_implicit_const then None else (if a.form == dwarf.DW_FORM_indirect then None else form_for a.name e a.form)
 
 -- the place behind an attribute, by its form where that is known
 abbrev pub behind_by : Option Form → AttrSpec → Encoding → Contents → ℕ → Option ℕ

@@ -1,5 +1,6 @@
 -- The values of an entry's attributes (DWARF 5 section 7.5.3).
 use Rattle.std.specs.Prelude.{ℕ, Bool, ◌&&◌, ◌||◌, List, [], ◌∷◌, Option, Some, nat_lt, ◌==◌, if◌then◌else◌}
+use Rattle.blz_constants.specs.declared.dwarf.TheConstants as dwarf
 use Rattle.blz_model.specs.Reads.{Read, ◌>>=◌}
 use Rattle.blz_model.specs.LebNumbers.{uleb}
 use Rattle.blz_entry.specs.Contents.{Contents}
@@ -14,10 +15,10 @@ use Rattle.blz_entry.specs.declared.form.Makes.TheVariants as makes
 use Rattle.blz_entry.specs.declared.value.AttrValue.{AttrValue}
 use Rattle.blz_entry.specs.declared.value.AttrValue.TheVariants.{Signed}
 
--- In versions 2 and 3, DW_FORM_data4 or DW_FORM_data8 of the unit's offset size is an offset at DW_AT_stmt_list (10)
--- and DW_AT_ranges (55), since there was no form for offsets (DWARF 3 section 7.5.4, class lineptr and rangelistptr).
+-- In versions 2 and 3, DW_FORM_data4 or DW_FORM_data8 of the unit's offset size is an offset at DW_AT_stmt_list
+-- and DW_AT_ranges, since there was no form for offsets (DWARF 3 section 7.5.4, class lineptr and rangelistptr).
 abbrev pub is_offset : ℕ → Encoding → ℕ → Bool
-is_offset name e code = (name == 0x10 || name == 0x55) && nat_lt e.version 4 && (code == (if e.wide then 7 else 6))
+is_offset name e code = (name == dwarf.DW_AT_stmt_list || name == dwarf.DW_AT_ranges) && nat_lt e.version 4 && (code == (if e.wide then dwarf.DW_FORM_data8 else dwarf.DW_FORM_data4))
 
 unfoldable pub form_for : ℕ → Encoding → ℕ → Option Form
 form_for name e code = if is_offset name e code then Some (Numeric Offset makes.SecOffset) else form_of code
@@ -28,10 +29,10 @@ direct_attribute name code e base s at = do
   form ← form_for name e code
   value_by form e base s at
 
--- The value of an attribute, and the place after it. DW_FORM_implicit_const (21) has its value in the abbreviation, and
--- DW_FORM_indirect (16) is followed by the code of the form that is meant, which is of the table.
+-- The value of an attribute, and the place after it. DW_FORM_implicit_const has its value in the abbreviation, and
+-- DW_FORM_indirect is followed by the code of the form that is meant, which is of the table.
 unfoldable pub attribute : AttrSpec → Encoding → StrBase → Contents → ℕ → Read AttrValue
-attribute a e base s at = if a.form == 0x21 then Some (Signed a.constant, at) else (if a.form == 0x16 then (do
+attribute a e base s at = if a.form == dwarf.DW_FORM_implicit_const then Some (Signed a.constant, at) else (if a.form == dwarf.DW_FORM_indirect then (do
   inner ← uleb s.bytes at
   direct_attribute a.name inner.0 e base s inner.1) else direct_attribute a.name a.form e base s at)
 

@@ -1,5 +1,6 @@
 -- Forms and the values that they have (DWARF 5 sections 7.5.5 and 7.5.6).
 use Rattle.std.specs.Prelude.{ℕ, ◌+◌, List, [], ◌∷◌, length, Option, Some, None, ◌==◌, if◌then◌else◌, ℤ, pos, negsuc}
+use Rattle.blz_constants.specs.declared.dwarf.TheConstants as dwarf
 use Rattle.blz_model.specs.Reads.{Read, ◌>>=◌}
 use Rattle.blz_bytes.specs.Pieces.{zero_ended}
 use Rattle.blz_model.specs.LebNumbers.{uleb, sleb}
@@ -16,53 +17,53 @@ use Rattle.blz_entry.specs.declared.form.Form.TheVariants.{Numeric}
 use Rattle.blz_entry.specs.declared.value.AttrValue.{AttrValue}
 use Rattle.blz_entry.specs.declared.value.AttrValue.TheVariants.{Addr, AddrIndex, Const, Signed, Text, StrRef, LineStrRef, StrIndex, SupStr, UnitRef, InfoRef, SupRef, SecOffset, RangeIndex, Other}
 
--- The table: each form by its code, what it reads, and what kind of value that is. DW_FORM_indirect (16) and
--- DW_FORM_implicit_const (21) are told below it.
+-- The table: each form by its code, what it reads, and what kind of value that is. DW_FORM_indirect and
+-- DW_FORM_implicit_const are told below it.
 abbrev pub forms_table : List (ℕ × Form)
 forms_table =
-    (0x01, Numeric Address makes.Addr)  -- addr
-    ∷ (0x03, Numeric (Block Two) makes.Other)  -- block2
-    ∷ (0x04, Numeric (Block Four) makes.Other)  -- block4
-    ∷ (0x05, Numeric (Fixed Two) makes.Const)  -- data2
-    ∷ (0x06, Numeric (Fixed Four) makes.Const)  -- data4
-    ∷ (0x07, Numeric (Fixed Eight) makes.Const)  -- data8
-    ∷ (0x08, forms.Text)  -- string
-    ∷ (0x09, Numeric UlebBlock makes.Other)  -- block
-    ∷ (0x0a, Numeric (Block One) makes.Other)  -- block1
-    ∷ (0x0b, Numeric (Fixed One) makes.Const)  -- data1
-    ∷ (0x0c, Numeric (Fixed One) makes.Other)  -- flag
-    ∷ (0x0d, forms.Signed)  -- sdata
-    ∷ (0x0e, Numeric Offset makes.StrRef)  -- strp
-    ∷ (0x0f, Numeric Uleb makes.Const)  -- udata
-    ∷ (0x10, Numeric RefAddress makes.InfoRef)  -- ref_addr
-    ∷ (0x11, Numeric (Fixed One) makes.UnitRef)  -- ref1
-    ∷ (0x12, Numeric (Fixed Two) makes.UnitRef)  -- ref2
-    ∷ (0x13, Numeric (Fixed Four) makes.UnitRef)  -- ref4
-    ∷ (0x14, Numeric (Fixed Eight) makes.UnitRef)  -- ref8
-    ∷ (0x15, Numeric Uleb makes.UnitRef)  -- ref_udata
-    ∷ (0x17, Numeric Offset makes.SecOffset)  -- sec_offset
-    ∷ (0x18, Numeric UlebBlock makes.Other)  -- exprloc
-    ∷ (0x19, Numeric Nothing makes.Other)  -- flag_present
-    ∷ (0x1a, Numeric Uleb makes.StrIndex)  -- strx
-    ∷ (0x1b, Numeric Uleb makes.AddrIndex)  -- addrx
-    ∷ (0x1c, Numeric (Fixed Four) makes.SupRef)  -- ref_sup4
-    ∷ (0x1d, Numeric Offset makes.SupStr)  -- strp_sup
-    ∷ (0x1e, Numeric Sixteen makes.Other)  -- data16
-    ∷ (0x1f, Numeric Offset makes.LineStrRef)  -- line_strp
-    ∷ (0x20, Numeric (Fixed Eight) makes.Other)  -- ref_sig8
-    ∷ (0x22, Numeric Uleb makes.Other)  -- loclistx
-    ∷ (0x23, Numeric Uleb makes.RangeIndex)  -- rnglistx
-    ∷ (0x24, Numeric (Fixed Eight) makes.SupRef)  -- ref_sup8
-    ∷ (0x25, Numeric (Fixed One) makes.StrIndex)  -- strx1
-    ∷ (0x26, Numeric (Fixed Two) makes.StrIndex)  -- strx2
-    ∷ (0x27, Numeric (Fixed Three) makes.StrIndex)  -- strx3
-    ∷ (0x28, Numeric (Fixed Four) makes.StrIndex)  -- strx4
-    ∷ (0x29, Numeric (Fixed One) makes.AddrIndex)  -- addrx1
-    ∷ (0x2a, Numeric (Fixed Two) makes.AddrIndex)  -- addrx2
-    ∷ (0x2b, Numeric (Fixed Three) makes.AddrIndex)  -- addrx3
-    ∷ (0x2c, Numeric (Fixed Four) makes.AddrIndex)  -- addrx4
-    ∷ (0x1f20, Numeric Offset makes.SupRef)  -- GNU_ref_alt
-    ∷ (0x1f21, Numeric Offset makes.SupStr)  -- GNU_strp_alt
+    (dwarf.DW_FORM_addr, Numeric Address makes.Addr)
+    ∷ (dwarf.DW_FORM_block2, Numeric (Block Two) makes.Other)
+    ∷ (dwarf.DW_FORM_block4, Numeric (Block Four) makes.Other)
+    ∷ (dwarf.DW_FORM_data2, Numeric (Fixed Two) makes.Const)
+    ∷ (dwarf.DW_FORM_data4, Numeric (Fixed Four) makes.Const)
+    ∷ (dwarf.DW_FORM_data8, Numeric (Fixed Eight) makes.Const)
+    ∷ (dwarf.DW_FORM_string, forms.Text)
+    ∷ (dwarf.DW_FORM_block, Numeric UlebBlock makes.Other)
+    ∷ (dwarf.DW_FORM_block1, Numeric (Block One) makes.Other)
+    ∷ (dwarf.DW_FORM_data1, Numeric (Fixed One) makes.Const)
+    ∷ (dwarf.DW_FORM_flag, Numeric (Fixed One) makes.Other)
+    ∷ (dwarf.DW_FORM_sdata, forms.Signed)
+    ∷ (dwarf.DW_FORM_strp, Numeric Offset makes.StrRef)
+    ∷ (dwarf.DW_FORM_udata, Numeric Uleb makes.Const)
+    ∷ (dwarf.DW_FORM_ref_addr, Numeric RefAddress makes.InfoRef)
+    ∷ (dwarf.DW_FORM_ref1, Numeric (Fixed One) makes.UnitRef)
+    ∷ (dwarf.DW_FORM_ref2, Numeric (Fixed Two) makes.UnitRef)
+    ∷ (dwarf.DW_FORM_ref4, Numeric (Fixed Four) makes.UnitRef)
+    ∷ (dwarf.DW_FORM_ref8, Numeric (Fixed Eight) makes.UnitRef)
+    ∷ (dwarf.DW_FORM_ref_udata, Numeric Uleb makes.UnitRef)
+    ∷ (dwarf.DW_FORM_sec_offset, Numeric Offset makes.SecOffset)
+    ∷ (dwarf.DW_FORM_exprloc, Numeric UlebBlock makes.Other)
+    ∷ (dwarf.DW_FORM_flag_present, Numeric Nothing makes.Other)
+    ∷ (dwarf.DW_FORM_strx, Numeric Uleb makes.StrIndex)
+    ∷ (dwarf.DW_FORM_addrx, Numeric Uleb makes.AddrIndex)
+    ∷ (dwarf.DW_FORM_ref_sup4, Numeric (Fixed Four) makes.SupRef)
+    ∷ (dwarf.DW_FORM_strp_sup, Numeric Offset makes.SupStr)
+    ∷ (dwarf.DW_FORM_data16, Numeric Sixteen makes.Other)
+    ∷ (dwarf.DW_FORM_line_strp, Numeric Offset makes.LineStrRef)
+    ∷ (dwarf.DW_FORM_ref_sig8, Numeric (Fixed Eight) makes.Other)
+    ∷ (dwarf.DW_FORM_loclistx, Numeric Uleb makes.Other)
+    ∷ (dwarf.DW_FORM_rnglistx, Numeric Uleb makes.RangeIndex)
+    ∷ (dwarf.DW_FORM_ref_sup8, Numeric (Fixed Eight) makes.SupRef)
+    ∷ (dwarf.DW_FORM_strx1, Numeric (Fixed One) makes.StrIndex)
+    ∷ (dwarf.DW_FORM_strx2, Numeric (Fixed Two) makes.StrIndex)
+    ∷ (dwarf.DW_FORM_strx3, Numeric (Fixed Three) makes.StrIndex)
+    ∷ (dwarf.DW_FORM_strx4, Numeric (Fixed Four) makes.StrIndex)
+    ∷ (dwarf.DW_FORM_addrx1, Numeric (Fixed One) makes.AddrIndex)
+    ∷ (dwarf.DW_FORM_addrx2, Numeric (Fixed Two) makes.AddrIndex)
+    ∷ (dwarf.DW_FORM_addrx3, Numeric (Fixed Three) makes.AddrIndex)
+    ∷ (dwarf.DW_FORM_addrx4, Numeric (Fixed Four) makes.AddrIndex)
+    ∷ (dwarf.DW_FORM_GNU_ref_alt, Numeric Offset makes.SupRef)
+    ∷ (dwarf.DW_FORM_GNU_strp_alt, Numeric Offset makes.SupStr)
     ∷ []
 
 abbrev pub form_in : ℕ → List (ℕ × Form) → Option Form
@@ -112,7 +113,7 @@ direct_value code e base s at = do
 
 -- Any form. DW_FORM_indirect is followed by the code of the form that is meant, which is of the table.
 unfoldable pub form_value : ℕ → Encoding → StrBase → Contents → ℕ → Read AttrValue
-form_value code e base s at = if code == 0x16 then (do
+form_value code e base s at = if code == dwarf.DW_FORM_indirect then (do
   inner ← uleb s.bytes at
   direct_value inner.0 e base s inner.1) else direct_value code e base s at
 

@@ -1,5 +1,6 @@
 -- Headers of units (DWARF 5 sections 7.4 and 7.5.1).
 use Rattle.std.specs.Prelude.{ℕ, zero, suc, ◌+◌, ◌-◌, Bool, true, false, ◌&&◌, ◌||◌, List, [], ◌∷◌, length, Option, Some, None, nat_lt, nat_le, ◌==◌, if◌then◌else◌}
+use Rattle.blz_constants.specs.declared.dwarf.TheConstants as dwarf
 use Rattle.blz_model.specs.Reads.{Read, ◌>>=◌}
 use Rattle.blz_bytes.specs.Pieces.{byte}
 use Rattle.blz_entry.specs.Contents.{Contents, cut, number_at, offset_at, offset_len}
@@ -31,8 +32,8 @@ extent_at s at = do
 -- the kinds of version 5
 abbrev pub kind_of : ℕ → Option UnitKind
 kind_of n =
-    if n == 1 then Some Compile else (if n == 2 then Some TypeUnit else (if n == 3 then Some Partial else (
-    if n == 4 then Some Skeleton else (if n == 5 then Some SplitCompile else (if n == 6 then Some SplitType else None)))))
+    if n == dwarf.DW_UT_compile then Some Compile else (if n == dwarf.DW_UT_type then Some TypeUnit else (if n == dwarf.DW_UT_partial then Some Partial else (
+    if n == dwarf.DW_UT_skeleton then Some Skeleton else (if n == dwarf.DW_UT_split_compile then Some SplitCompile else (if n == dwarf.DW_UT_split_type then Some SplitType else None)))))
 
 abbrev pub is_address_size : ℕ → Bool
 is_address_size n = (n == 4) || (n == 8)

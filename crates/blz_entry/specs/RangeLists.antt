@@ -2,6 +2,7 @@
 -- section 2.17.3).
 use Rattle.std.specs.Prelude.{◌≡◌, ℕ, zero, suc, ◌+◌, ◌-◌, ◌*◌, ◌^◌, Bool, true, false, ◌&&◌, ◌||◌, not, List, [], ◌++◌, length, Option, Some, None, Result, Ok, Err, nat_lt, nat_le, ◌==◌, if◌then◌else◌, option_map}
 use Rattle.std.specs.Option.{option_to_list}
+use Rattle.blz_constants.specs.declared.dwarf.TheConstants as dwarf
 use Rattle.blz_error.specs.Fault.{Fault}
 use Rattle.blz_model.specs.Part.{Fails}
 use Rattle.blz_model.specs.Reads.{Read, ◌>>=◌}
@@ -53,12 +54,12 @@ abbrev pub with_high : RangeAttributes → Option ℕ → Option ℕ → RangeAt
 with_high r None number = with_size r number
 with_high r (Some a) number = record r { high_pc = Some a }
 
--- one attribute more: DW_AT_low_pc (11), DW_AT_high_pc (12), DW_AT_ranges (55)
+-- one attribute more: DW_AT_low_pc, DW_AT_high_pc, DW_AT_ranges
 unfoldable pub range_step : Sections → UnitHeader → UnitRoot → RangeAttributes → ℕ × AttrValue → Option RangeAttributes
 range_step s h root r a =
-    if a.0 == 0x11 then (value_address s h root a.1 >>= λ low. Some (with_low r low)) else (
-    if a.0 == 0x12 then (value_address s h root a.1 >>= λ high. Some (with_high r high (udata a.1))) else (
-    if a.0 == 0x55 then (range_offset s h root a.1 >>= λ offset. Some (record r { ranges_offset = option_map held_offset offset })) else Some r))
+    if a.0 == dwarf.DW_AT_low_pc then (value_address s h root a.1 >>= λ low. Some (with_low r low)) else (
+    if a.0 == dwarf.DW_AT_high_pc then (value_address s h root a.1 >>= λ high. Some (with_high r high (udata a.1))) else (
+    if a.0 == dwarf.DW_AT_ranges then (range_offset s h root a.1 >>= λ offset. Some (record r { ranges_offset = option_map held_offset offset })) else Some r))
 
 -- ---- lists of ranges
 
@@ -156,14 +157,14 @@ begin_and_length address_size s at = do
 -- the codes of range list entries, DW_RLE_end_of_list up to DW_RLE_start_length
 unfoldable pub coded_entry : Sections → UnitHeader → UnitRoot → ℕ → ℕ → Read RangeEntry
 coded_entry s h root code at =
-    if code == 0 then Some (End, at) else (
-    if code == 1 then base_of_index s h root at else (
-    if code == 2 then both_by_index s h root at else (
-    if code == 3 then begin_by_index s h root at else (
-    if code == 4 then offset_pair s.rnglists.bytes.now at else (
-    if code == 5 then base_address h.address_size (section_view s.rnglists) at else (
-    if code == 6 then begin_and_end h.address_size (section_view s.rnglists) at else (
-    if code == 7 then begin_and_length h.address_size (section_view s.rnglists) at else None)))))))
+    if code == dwarf.DW_RLE_end_of_list then Some (End, at) else (
+    if code == dwarf.DW_RLE_base_addressx then base_of_index s h root at else (
+    if code == dwarf.DW_RLE_startx_endx then both_by_index s h root at else (
+    if code == dwarf.DW_RLE_startx_length then begin_by_index s h root at else (
+    if code == dwarf.DW_RLE_offset_pair then offset_pair s.rnglists.bytes.now at else (
+    if code == dwarf.DW_RLE_base_address then base_address h.address_size (section_view s.rnglists) at else (
+    if code == dwarf.DW_RLE_start_end then begin_and_end h.address_size (section_view s.rnglists) at else (
+    if code == dwarf.DW_RLE_start_length then begin_and_length h.address_size (section_view s.rnglists) at else None)))))))
 
 unfoldable pub coded_entry_at : Sections → UnitHeader → UnitRoot → ℕ → Read RangeEntry
 coded_entry_at s h root at = do

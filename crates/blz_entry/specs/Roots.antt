@@ -1,5 +1,6 @@
 -- The first entry of a unit (DWARF 5 section 3.1.1).
 use Rattle.std.specs.Prelude.{ℕ, Bool, true, false, ◌&&◌, List, Option, Some, None, option_and_then, unwrap_or, ◌==◌, if◌then◌else◌}
+use Rattle.blz_constants.specs.declared.dwarf.TheConstants as dwarf
 use Rattle.blz_model.specs.Reads.{◌>>=◌}
 use Rattle.blz_model.specs.LebNumbers.{uleb}
 use Rattle.blz_entry.specs.Abbrevs.{Abbrev, of_code}
@@ -40,13 +41,13 @@ last_offset old _ = old
 -- DW_AT_str_offsets_base (72), DW_AT_addr_base (73), DW_AT_rnglists_base (74)
 abbrev pub noted : RootValues → ℕ × AttrValue → RootValues
 noted r a =
-    if a.0 == 0x03 then record r { name = Some a.1 } else (
-    if a.0 == 0x10 then record r { line = last_offset r.line a.1 } else (
-    if a.0 == 0x13 then record r { language = first_of r.language a.1 } else (
-    if a.0 == 0x1b then record r { comp_dir = Some a.1 } else (
-    if a.0 == 0x72 then record r { str_offsets_base = last_offset r.str_offsets_base a.1 } else (
-    if a.0 == 0x73 then record r { addr_base = last_offset r.addr_base a.1 } else (
-    if a.0 == 0x74 then record r { rnglists_base = last_offset r.rnglists_base a.1 } else r))))))
+    if a.0 == dwarf.DW_AT_name then record r { name = Some a.1 } else (
+    if a.0 == dwarf.DW_AT_stmt_list then record r { line = last_offset r.line a.1 } else (
+    if a.0 == dwarf.DW_AT_language then record r { language = first_of r.language a.1 } else (
+    if a.0 == dwarf.DW_AT_comp_dir then record r { comp_dir = Some a.1 } else (
+    if a.0 == dwarf.DW_AT_str_offsets_base then record r { str_offsets_base = last_offset r.str_offsets_base a.1 } else (
+    if a.0 == dwarf.DW_AT_addr_base then record r { addr_base = last_offset r.addr_base a.1 } else (
+    if a.0 == dwarf.DW_AT_rnglists_base then record r { rnglists_base = last_offset r.rnglists_base a.1 } else r))))))
 
 abbrev pub nothing_noted : RootValues
 nothing_noted = record { name = None; comp_dir = None; line = None; language = None; str_offsets_base = None; addr_base = None; rnglists_base = None }
@@ -84,7 +85,7 @@ is_address _ = false
 
 -- The ranges of the unit count from the last DW_AT_low_pc (11), and from 0 where that is no address.
 abbrev pub low_behind : UnitRoot → RangeAttributes → ℕ × AttrValue → ℕ
-low_behind root ranges a = if a.0 == 0x11 then (if is_address a.1 then unwrap_or ranges.low_pc 0 else 0) else root.low_pc
+low_behind root ranges a = if a.0 == dwarf.DW_AT_low_pc then (if is_address a.1 then unwrap_or ranges.low_pc 0 else 0) else root.low_pc
 
 unfoldable pub root_step : Sections → UnitHeader → UnitRoot → ℕ × AttrValue → Option UnitRoot
 root_step s h root a = do

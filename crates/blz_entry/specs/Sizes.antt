@@ -1,6 +1,7 @@
 -- Fields whose bytes the sizes of a unit tell, and the place behind an attribute, whatever its value (DWARF 5 section
 -- 7.5.6).
 use Rattle.std.specs.Prelude.{ℕ, ◌+◌, [], ◌∷◌, ◌||◌, Option, Some, None, option_map, ◌==◌, if◌then◌else◌, List}
+use Rattle.blz_constants.specs.declared.dwarf.TheConstants as dwarf
 use Rattle.blz_model.specs.Reads.{◌>>=◌, passed_over}
 use Rattle.blz_model.specs.LebNumbers.{uleb, sleb}
 use Rattle.blz_bytes.specs.Pieces.{zero_ended}
@@ -48,7 +49,7 @@ behind_code code e s at = do
 
 -- the place behind an attribute
 unfoldable pub behind : AttrSpec → Encoding → Contents → ℕ → Option ℕ
-behind a e s at = if a.form == 0x21 then Some at else (if a.form == 0x16 then (do
+behind a e s at = if a.form == dwarf.DW_FORM_implicit_const then Some at else (if a.form == dwarf.DW_FORM_indirect then (do
   inner ← uleb s.bytes at
   behind_code inner.0 e s inner.1) else behind_code a.form e s at)
 
@@ -62,7 +63,7 @@ form_size (Some forms.Text) e = None
 -- The bytes of an attribute. DW_FORM_implicit_const has none, and those of DW_FORM_indirect are not fixed, since it is
 -- not of the table.
 abbrev pub attribute_size : AttrSpec → Encoding → Option ℕ
-attribute_size a e = if a.form == 0x21 then Some 0 else form_size (form_of a.form) e
+attribute_size a e = if a.form == dwarf.DW_FORM_implicit_const then Some 0 else form_size (form_of a.form) e
 
 -- the bytes of some attributes, where those of each are fixed
 unfoldable pub size_together : List AttrSpec → Encoding → Option ℕ

@@ -1,6 +1,7 @@
 -- Attributes that tell what a function or an inlined call is: its names, the addresses that it covers, and where it is
 -- called (DWARF 5 sections 2.15, 2.17, 3.3.8.2 and 7.5.4).
 use Rattle.std.specs.Prelude.{ℕ, Bool, ◌||◌, List, [], ◌∷◌, drop, Option, Some, None, ◌==◌, if◌then◌else◌}
+use Rattle.blz_constants.specs.declared.dwarf.TheConstants as dwarf
 use Rattle.blz_model.specs.Reads.{◌>>=◌}
 use Rattle.blz_entry.specs.Attributes.{attribute}
 use Rattle.blz_entry.specs.Contents.{Contents}
@@ -15,7 +16,10 @@ use Rattle.blz_entry.specs.declared.wanted.Met.{Met}
 -- and MIPS_linkage_name
 unfoldable pub is_wanted : ℕ → Bool
 is_wanted name =
-    (name == 0x03) || ((name == 0x11) || ((name == 0x12) || ((name == 0x31) || ((name == 0x47) || ((name == 0x55) || ((name == 0x57) || ((name == 0x58) || ((name == 0x59) || ((name == 0x6e) || (name == 0x2007))))))))))
+    (name == dwarf.DW_AT_name) || ((name == dwarf.DW_AT_low_pc) || ((name == dwarf.DW_AT_high_pc) || (
+    (name == dwarf.DW_AT_abstract_origin) || ((name == dwarf.DW_AT_specification) || ((name == dwarf.DW_AT_ranges) || (
+    (name == dwarf.DW_AT_call_column) || ((name == dwarf.DW_AT_call_file) || ((name == dwarf.DW_AT_call_line) || (
+    (name == dwarf.DW_AT_linkage_name) || (name == dwarf.DW_AT_MIPS_linkage_name))))))))))
 
 -- a wanted attribute with its name, the attributes behind it, and the place behind it
 abbrev pub Wanted : Type 0

@@ -13,6 +13,7 @@ use crate::fault::invalid;
 use crate::ready::Ready;
 use crate::runs::Runs;
 use blz_bytes::{sleb_at, u8_at, uleb_at};
+use blz_constants::dwarf;
 use blz_error::Result;
 use std::alloc::{AllocError, Global};
 use std::collections::BTreeMap;
@@ -208,7 +209,7 @@ fn spec_at(bytes: &[u8], at: usize) -> Option<(AttrSpec, usize)>
 {
     let (name, next) = uleb_at(bytes, at)?;
     let (form, next) = uleb_at(bytes, next)?;
-    if form == 0x21 {
+    if form == dwarf::DW_FORM_implicit_const {
         let (constant, next) = sleb_at(bytes, next)?;
         Some((
             AttrSpec {
@@ -258,8 +259,8 @@ fn has_children(flag: u8) -> Option<bool>
     ensures { result ≡ has_children flag }
 {
     match flag {
-        0 => Some(false),
-        1 => Some(true),
+        dwarf::DW_CHILDREN_no => Some(false),
+        dwarf::DW_CHILDREN_yes => Some(true),
         _ => None,
     }
 }

@@ -11,10 +11,7 @@ use crate::section::Section;
 use crate::text::StrBase;
 use crate::value::{AttrValue, value_by};
 use blz_bytes::uleb_at;
-
-const STMT_LIST: u64 = 0x10;
-
-const RANGES: u64 = 0x55;
+use blz_constants::dwarf;
 
 /// How the form of an attribute is read. Before version 4 offsets had no form of their own, so that a number of the
 /// unit's offset size is one at the two attributes that are offsets.
@@ -22,8 +19,15 @@ const RANGES: u64 = 0x55;
 pub(crate) fn form_for(name: u64, encoding: Encoding, code: u64) -> Option<Form>
     ensures { result ≡ form_for name encoding code }
 {
-    let offset_size = if encoding.wide { 0x07 } else { 0x06 };
-    if (name == STMT_LIST || name == RANGES) && encoding.version < 4 && code == offset_size {
+    let offset_size = if encoding.wide {
+        dwarf::DW_FORM_data8
+    } else {
+        dwarf::DW_FORM_data4
+    };
+    if (name == dwarf::DW_AT_stmt_list || name == dwarf::DW_AT_ranges)
+        && encoding.version < 4
+        && code == offset_size
+    {
         return Some(Form::Numeric(Field::Offset, Makes::SecOffset));
     }
     form_of(code)
@@ -59,8 +63,8 @@ pub(crate) fn attribute(
     ensures within { IfSome result (λ r. (at ≤ r.1) × (at ≤ length section.now.bytes.now → r.1 ≤ length section.now.bytes.now)) }
 {
     match spec.form {
-        0x21 => Some((AttrValue::Signed(spec.constant), at)),
-        0x16 => {
+        dwarf::DW_FORM_implicit_const => Some((AttrValue::Signed(spec.constant), at)),
+        dwarf::DW_FORM_indirect => {
             let (inner, next) = uleb_at(section.bytes, at)?;
             direct_attribute(spec.name, inner, encoding, base, section, next)
         }

@@ -9,6 +9,7 @@ use crate::field::{field_at, offset_len};
 use crate::form::{Field, Form, Width, form_of};
 use crate::section::Section;
 use blz_bytes::{sleb_at, uleb_at, zero_ended_at};
+use blz_constants::dwarf;
 
 fn bytes_in(width: Width) -> usize
     ensures value { result ≡ bytes_in width }
@@ -130,8 +131,8 @@ pub(crate) fn behind(
     ensures within { IfSome result (λ n. (at ≤ n) × (at ≤ length section.now.bytes.now → n ≤ length section.now.bytes.now)) }
 {
     match spec.form {
-        0x21 => Some(at),
-        0x16 => {
+        dwarf::DW_FORM_implicit_const => Some(at),
+        dwarf::DW_FORM_indirect => {
             let (inner, next) = uleb_at(section.bytes, at)?;
             behind_code(inner, encoding, section, next)
         }

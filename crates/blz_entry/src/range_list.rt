@@ -14,6 +14,7 @@ use crate::root::UnitRoot;
 use crate::section::{Section, Sections};
 use crate::units::UnitHeader;
 use blz_bytes::{u8_at, uleb_at};
+use blz_constants::dwarf;
 use blz_error::Result;
 use blz_ranges::Span;
 
@@ -240,14 +241,14 @@ fn coded_entry_at(
     let list = &sections.rnglists;
     let (code, next) = u8_at(list.bytes, at)?;
     match code {
-        0 => Some((RangeEntry::End, next)),
-        1 => base_of_index(sections, header, root, next),
-        2 => both_by_index(sections, header, root, next),
-        3 => begin_by_index(sections, header, root, next),
-        4 => offset_pair(list.bytes, next),
-        5 => base_address(header.address_size, list, next),
-        6 => begin_and_end(header.address_size, list, next),
-        7 => begin_and_length(header.address_size, list, next),
+        dwarf::DW_RLE_end_of_list => Some((RangeEntry::End, next)),
+        dwarf::DW_RLE_base_addressx => base_of_index(sections, header, root, next),
+        dwarf::DW_RLE_startx_endx => both_by_index(sections, header, root, next),
+        dwarf::DW_RLE_startx_length => begin_by_index(sections, header, root, next),
+        dwarf::DW_RLE_offset_pair => offset_pair(list.bytes, next),
+        dwarf::DW_RLE_base_address => base_address(header.address_size, list, next),
+        dwarf::DW_RLE_start_end => begin_and_end(header.address_size, list, next),
+        dwarf::DW_RLE_start_length => begin_and_length(header.address_size, list, next),
         _ => None,
     }
 }

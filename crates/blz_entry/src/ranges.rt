@@ -12,6 +12,7 @@ use crate::root::UnitRoot;
 use crate::section::Sections;
 use crate::units::UnitHeader;
 use crate::value::AttrValue;
+use blz_constants::dwarf;
 use blz_error::Result;
 use blz_ranges::Span;
 
@@ -28,12 +29,6 @@ pub struct RangeAttributes {
     /// offset past it.
     pub ranges_offset: Option<u64>,
 }
-
-const LOW_PC: u64 = 0x11;
-
-const HIGH_PC: u64 = 0x12;
-
-const RANGES: u64 = 0x55;
 
 #[tactic(auto, unfolding(crate::specs::RangeLists::range_offset))]
 fn range_offset(
@@ -144,15 +139,15 @@ pub(crate) fn range_step(
     ensures { result ≡ range_step sections.now header.now root.now attributes (name, value) }
 {
     match name {
-        LOW_PC => {
+        dwarf::DW_AT_low_pc => {
             let low = value_address(sections, header, root, value)?;
             Some(with_low(attributes, low))
         }
-        HIGH_PC => {
+        dwarf::DW_AT_high_pc => {
             let high = value_address(sections, header, root, value)?;
             Some(with_high(attributes, high, value.udata()))
         }
-        RANGES => {
+        dwarf::DW_AT_ranges => {
             let offset = range_offset(sections, header, root, value)?;
             Some(RangeAttributes {
                 ranges_offset: held_offset(offset),

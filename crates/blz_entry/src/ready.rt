@@ -10,11 +10,8 @@ use crate::runs::{Runs, wanted_by};
 use crate::section::Section;
 use crate::text::StrBase;
 use crate::wanted::{Met, wanted_in};
+use blz_constants::dwarf;
 use std::alloc::{AllocError, Global};
-
-const SUBPROGRAM: u64 = 0x2e;
-
-const INLINED_SUBROUTINE: u64 = 0x1d;
 
 /// The attributes of an abbreviation in runs for one encoding: where they are passed over, and where those that are
 /// wanted are read, as those of functions and inlined calls are.
@@ -33,7 +30,7 @@ fn reading_of(
 ) -> Result<Option<Runs>, AllocError>
     ensures { IfOk result (λ o. IfSome o (λ r. Reads encoding 0 r specs.now)) }
 {
-    if tag != SUBPROGRAM && tag != INLINED_SUBROUTINE {
+    if tag != dwarf::DW_TAG_subprogram && tag != dwarf::DW_TAG_inlined_subroutine {
         return Ok(None);
     }
     let runs = Runs::of(alloc, specs, encoding, true)?;

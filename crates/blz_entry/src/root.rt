@@ -22,6 +22,7 @@ use crate::text::{StrBase, StrPlace};
 use crate::units::UnitHeader;
 use crate::value::AttrValue;
 use blz_bytes::uleb_at;
+use blz_constants::dwarf;
 use blz_error::Result;
 
 /// What the first entry of a unit says (DWARF 5 section 3.1.1).
@@ -59,22 +60,6 @@ pub(crate) struct RootValues {
     rnglists_base: Option<u64>,
 }
 
-const NAME: u64 = 0x03;
-
-const STMT_LIST: u64 = 0x10;
-
-const LOW_PC: u64 = 0x11;
-
-const LANGUAGE: u64 = 0x13;
-
-const COMP_DIR: u64 = 0x1b;
-
-const STR_OFFSETS_BASE: u64 = 0x72;
-
-const ADDR_BASE: u64 = 0x73;
-
-const RNGLISTS_BASE: u64 = 0x74;
-
 fn nothing_noted() -> RootValues
     ensures { result ≡ nothing_noted }
 {
@@ -111,31 +96,31 @@ fn noted(values: RootValues, name: u64, value: AttrValue) -> RootValues
     ensures { result ≡ noted values (name, value) }
 {
     match name {
-        NAME => RootValues {
+        dwarf::DW_AT_name => RootValues {
             name: Some(value),
             ..values
         },
-        STMT_LIST => RootValues {
+        dwarf::DW_AT_stmt_list => RootValues {
             line: last_offset(values.line, value),
             ..values
         },
-        LANGUAGE => RootValues {
+        dwarf::DW_AT_language => RootValues {
             language: first_of(values.language, value),
             ..values
         },
-        COMP_DIR => RootValues {
+        dwarf::DW_AT_comp_dir => RootValues {
             comp_dir: Some(value),
             ..values
         },
-        STR_OFFSETS_BASE => RootValues {
+        dwarf::DW_AT_str_offsets_base => RootValues {
             str_offsets_base: last_offset(values.str_offsets_base, value),
             ..values
         },
-        ADDR_BASE => RootValues {
+        dwarf::DW_AT_addr_base => RootValues {
             addr_base: last_offset(values.addr_base, value),
             ..values
         },
-        RNGLISTS_BASE => RootValues {
+        dwarf::DW_AT_rnglists_base => RootValues {
             rnglists_base: last_offset(values.rnglists_base, value),
             ..values
         },
@@ -253,7 +238,7 @@ fn is_address(value: AttrValue) -> bool
 fn low_behind(root: &UnitRoot, ranges: &RangeAttributes, name: u64, value: AttrValue) -> u64
     ensures { result ≡ low_behind root.now ranges.now (name, value) }
 {
-    if name != LOW_PC {
+    if name != dwarf::DW_AT_low_pc {
         return root.low_pc;
     }
     if is_address(value) {

@@ -14,6 +14,7 @@ use crate::section::Section;
 use crate::text::StrBase;
 use crate::value::{AttrValue, value_by};
 use crate::wanted::{Met, is_wanted};
+use blz_constants::dwarf;
 use std::alloc::{AllocError, Global};
 
 /// Some attributes whose bytes are fixed, and one behind them: its size is told by its bytes alone, or its value is
@@ -52,7 +53,7 @@ fn skipped_size(reading: bool, spec: AttrSpec, encoding: Encoding) -> Option<usi
     if wants(reading, spec) {
         return None;
     }
-    if spec.form == 0x21 {
+    if spec.form == dwarf::DW_FORM_implicit_const {
         return Some(0);
     }
     match form_of(spec.form)? {
@@ -65,7 +66,7 @@ fn form_at(spec: AttrSpec, encoding: Encoding) -> Option<Form>
     ensures { result ≡ form_at spec encoding }
 {
     match spec.form {
-        0x21 | 0x16 => None,
+        dwarf::DW_FORM_implicit_const | dwarf::DW_FORM_indirect => None,
         code => form_for(spec.name, encoding, code),
     }
 }

@@ -12,6 +12,7 @@ use crate::field::{fixed_at, offset_at};
 use crate::form::Width;
 use crate::section::{Section, cut};
 use blz_bytes::{u8_at, u16_at, u64_at};
+use blz_constants::dwarf;
 use blz_error::Result;
 use std::marker::Model;
 
@@ -72,12 +73,12 @@ fn kind_of(code: u8) -> Option<UnitKind>
     ensures { result ≡ kind_of code }
 {
     match code {
-        1 => Some(UnitKind::Compile),
-        2 => Some(UnitKind::TypeUnit),
-        3 => Some(UnitKind::Partial),
-        4 => Some(UnitKind::Skeleton),
-        5 => Some(UnitKind::SplitCompile),
-        6 => Some(UnitKind::SplitType),
+        dwarf::DW_UT_compile => Some(UnitKind::Compile),
+        dwarf::DW_UT_type => Some(UnitKind::TypeUnit),
+        dwarf::DW_UT_partial => Some(UnitKind::Partial),
+        dwarf::DW_UT_skeleton => Some(UnitKind::Skeleton),
+        dwarf::DW_UT_split_compile => Some(UnitKind::SplitCompile),
+        dwarf::DW_UT_split_type => Some(UnitKind::SplitType),
         _ => None,
     }
 }

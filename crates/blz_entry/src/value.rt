@@ -9,6 +9,7 @@ use crate::form::{Form, Makes, form_of};
 use crate::section::Section;
 use crate::text::{StrBase, StrPart, StrPlace};
 use blz_bytes::{sleb_at, uleb_at, zero_ended_at};
+use blz_constants::dwarf;
 
 /// The value of an attribute, by what it means and not by how it is stored (DWARF 5 section 7.5.5).
 #[derive(Clone, Copy, Debug, PartialEq, Eq)]
@@ -155,7 +156,7 @@ pub fn form_value(
         address_size,
     };
     let base = StrBase { part, start: 0 };
-    if form == 0x16 {
+    if form == dwarf::DW_FORM_indirect {
         let (inner, next) = uleb_at(section.bytes, at)?;
         direct_value(inner, encoding, base, section, next)
     } else {

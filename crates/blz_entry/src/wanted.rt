@@ -10,6 +10,7 @@ use crate::encoding::Encoding;
 use crate::section::Section;
 use crate::text::StrBase;
 use crate::value::AttrValue;
+use blz_constants::dwarf;
 
 /// What a search for the next wanted attribute has met.
 #[derive(Clone, Copy)]
@@ -30,7 +31,17 @@ pub(crate) fn is_wanted(name: u64) -> bool
     ensures { result ≡ is_wanted name }
 {
     match name {
-        0x03 | 0x11 | 0x12 | 0x31 | 0x47 | 0x55 | 0x57 | 0x58 | 0x59 | 0x6e | 0x2007 => true,
+        dwarf::DW_AT_name
+        | dwarf::DW_AT_low_pc
+        | dwarf::DW_AT_high_pc
+        | dwarf::DW_AT_abstract_origin
+        | dwarf::DW_AT_specification
+        | dwarf::DW_AT_ranges
+        | dwarf::DW_AT_call_column
+        | dwarf::DW_AT_call_file
+        | dwarf::DW_AT_call_line
+        | dwarf::DW_AT_linkage_name
+        | dwarf::DW_AT_MIPS_linkage_name => true,
         _ => false,
     }
 }

@@ -1,5 +1,6 @@
 -- The inlined calls of a function, over the trees of the entries below it (DWARF 5 section 3.3.8).
 use Rattle.std.specs.Prelude.{◌≡◌, ℕ, suc, ◌+◌, ◌-◌, Bool, true, false, ◌&&◌, List, [], ◌∷◌, ◌++◌, length, map, Option, Some, None, nat_le, ◌==◌, if◌then◌else◌}
+use Rattle.blz_constants.specs.declared.dwarf.TheConstants as dwarf
 use Rattle.blz_model.specs.Reads.{◌>>=◌}
 use Rattle.blz_entry.specs.Folds.{fold_maybe}
 use Rattle.blz_entry.specs.Forest.{Info, Head, Close, Open, Forest, Empty, Node, Grown, grown}
@@ -16,7 +17,7 @@ use Rattle.blz_ranges.specs.Owned.{Owned}
 
 -- DW_TAG_inlined_subroutine
 abbrev pub is_call_tag : ℕ → Bool
-is_call_tag tag = tag == 0x1d
+is_call_tag tag = tag == dwarf.DW_TAG_inlined_subroutine
 
 abbrev pub is_call : Info → Bool
 is_call e = is_call_tag e.tag

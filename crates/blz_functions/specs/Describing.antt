@@ -1,5 +1,6 @@
 -- What an entry is called and covers, and where it is called if it is an inlined call (DWARF 5 section 3.3.8.2).
 use Rattle.std.specs.Prelude.{ℕ, ◌^◌, ◌%◌, Bool, ◌||◌, ◌&&◌, not, List, [], Option, Some, None, nat_lt, ◌==◌, if◌then◌else◌}
+use Rattle.blz_constants.specs.declared.dwarf.TheConstants as dwarf
 use Rattle.blz_model.specs.Reads.{◌>>=◌}
 use Rattle.blz_entry.specs.Abbrevs.{Abbrev, of_code}
 use Rattle.blz_entry.specs.Attributes.{attributes}
@@ -28,12 +29,12 @@ abbrev pub kept_file : ℕ → Option ℕ → Option ℕ → Option ℕ
 kept_file version old None = old
 kept_file version old (Some file) = if nat_lt 0 file || version == 5 then Some file else old
 
--- DW_AT_call_file (58), DW_AT_call_line (59), DW_AT_call_column (57)
+-- DW_AT_call_file, DW_AT_call_line, DW_AT_call_column
 abbrev pub with_call_site : ℕ → CallSite → ℕ × AttrValue → CallSite
 with_call_site version s a =
-    if a.0 == 0x58 then record s { file = kept_file version s.file (udata a.1) } else (
-    if a.0 == 0x59 then record s { line = low_bits (udata a.1) } else (
-    if a.0 == 0x57 then record s { column = low_bits (udata a.1) } else s))
+    if a.0 == dwarf.DW_AT_call_file then record s { file = kept_file version s.file (udata a.1) } else (
+    if a.0 == dwarf.DW_AT_call_line then record s { line = low_bits (udata a.1) } else (
+    if a.0 == dwarf.DW_AT_call_column then record s { column = low_bits (udata a.1) } else s))
 
 abbrev pub no_ranges : RangeAttributes
 no_ranges = record { low_pc = None; high_pc = None; size = None; ranges_offset = None }
@@ -43,11 +44,11 @@ undescribed = record { name = None; ranges = no_ranges; site = record { file = N
 
 -- DW_AT_low_pc, DW_AT_high_pc and DW_AT_ranges
 abbrev pub tells_range : ℕ → Bool
-tells_range name = (name == 0x11) || ((name == 0x12) || (name == 0x55))
+tells_range name = (name == dwarf.DW_AT_low_pc) || ((name == dwarf.DW_AT_high_pc) || (name == dwarf.DW_AT_ranges))
 
 -- DW_AT_call_file, DW_AT_call_line and DW_AT_call_column
 abbrev pub tells_site : ℕ → Bool
-tells_site name = (name == 0x58) || ((name == 0x59) || (name == 0x57))
+tells_site name = (name == dwarf.DW_AT_call_file) || ((name == dwarf.DW_AT_call_line) || (name == dwarf.DW_AT_call_column))
 
 -- one attribute more
 unfoldable pub description_step : Refer → UnitParts → Description → ℕ × AttrValue → Option Description

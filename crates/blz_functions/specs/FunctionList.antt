@@ -1,5 +1,6 @@
 -- The functions of a unit (DWARF 5 section 3.3.1).
 use Rattle.std.specs.Prelude.{ℕ, Bool, List, [], ◌∷◌, ◌++◌, length, map, Option, Some, None, ◌==◌, if◌then◌else◌}
+use Rattle.blz_constants.specs.declared.dwarf.TheConstants as dwarf
 use Rattle.blz_model.specs.Reads.{◌>>=◌}
 use Rattle.blz_entry.specs.Folds.{fold_maybe}
 use Rattle.blz_entry.specs.Forest.{Info, flat}
@@ -29,7 +30,7 @@ function_of refer u e = do
 
 -- DW_TAG_subprogram
 abbrev pub is_function_tag : ℕ → Bool
-is_function_tag tag = tag == 0x2e
+is_function_tag tag = tag == dwarf.DW_TAG_subprogram
 
 abbrev pub is_function : Info → Bool
 is_function e = is_function_tag e.tag

@@ -1,5 +1,6 @@
 -- The name of a function or of an inlined call (DWARF 5 sections 2.15, 3.3.1, 3.3.8.2 and 2.13.2).
 use Rattle.std.specs.Prelude.{ℕ, Bool, ◌&&◌, ◌||◌, List, [], ◌∷◌, Option, Some, None, nat_le, ◌==◌, if◌then◌else◌}
+use Rattle.blz_constants.specs.declared.dwarf.TheConstants as dwarf
 use Rattle.blz_model.specs.Reads.{◌>>=◌}
 use Rattle.blz_model.specs.LebNumbers.{uleb}
 use Rattle.blz_entry.specs.Abbrevs.{of_code}
@@ -13,15 +14,15 @@ use Rattle.blz_functions.specs.Leaves.{UnitParts, string_in, source_in}
 
 -- DW_AT_linkage_name and DW_AT_MIPS_linkage_name
 abbrev pub is_linkage_name : ℕ → Bool
-is_linkage_name name = (name == 0x6e) || (name == 0x2007)
+is_linkage_name name = (name == dwarf.DW_AT_linkage_name) || (name == dwarf.DW_AT_MIPS_linkage_name)
 
 -- DW_AT_name
 abbrev pub is_name : ℕ → Bool
-is_name name = name == 0x03
+is_name name = name == dwarf.DW_AT_name
 
 -- DW_AT_abstract_origin and DW_AT_specification
 abbrev pub is_reference : ℕ → Bool
-is_reference name = (name == 0x31) || (name == 0x47)
+is_reference name = (name == dwarf.DW_AT_abstract_origin) || (name == dwarf.DW_AT_specification)
 
 abbrev pub or_else : {A : Type 0} → Option A → Option A → Option A
 or_else None other = other

@@ -13,10 +13,11 @@ ghost use Rattle.blz_ranges.specs.Owned.{items_of};
 
 use crate::description::Description;
 use crate::inlined_functions::{InlinedFunction, InlinedFunctions};
-use crate::levels::{INLINED, Levels};
+use crate::levels::Levels;
 use crate::links::Links;
 use crate::open_unit::OpenUnit;
 use blz_bytes::Orders;
+use blz_constants::dwarf;
 use blz_entry::{Entries, Entry, Passing, Span, invalid};
 use blz_error::Result;
 use blz_ranges::{Grouped, own};
@@ -166,7 +167,7 @@ impl CallLists {
         let mut lists = CallLists::new(alloc);
         let mut levels = Levels::new(alloc)?;
         while levels.is_open() {
-            entries.pass_over(Passing::Leaves, INLINED);
+            entries.pass_over(Passing::Leaves, dwarf::DW_TAG_inlined_subroutine);
             let entry = match entries.next_entry() {
                 Ok(Some(entry)) => entry,
                 Ok(None) => return Err(invalid("a function or an entry below it is not closed")),

@@ -10,6 +10,7 @@ ghost use Rattle.blz_functions.specs.Opened.{open_view};
 use crate::links::Links;
 use crate::open_unit::OpenUnit;
 use crate::referred::{is_linkage_name, is_name, is_reference, or_else};
+use blz_constants::dwarf;
 use blz_entry::{AttrValue, Entries, RangeAttributes, StrPlace, invalid};
 use blz_error::Result;
 
@@ -51,14 +52,16 @@ fn kept_file(version: u16, old: Option<u64>, number: Option<u64>) -> Option<u64>
 fn tells_range(name: u64) -> bool
     ensures { result ≡ tells_range name }
 {
-    name == 0x11 || name == 0x12 || name == 0x55
+    name == dwarf::DW_AT_low_pc || name == dwarf::DW_AT_high_pc || name == dwarf::DW_AT_ranges
 }
 
 /// `DW_AT_call_file`, `DW_AT_call_line` or `DW_AT_call_column`.
 fn tells_site(name: u64) -> bool
     ensures { result ≡ tells_site name }
 {
-    name == 0x58 || name == 0x59 || name == 0x57
+    name == dwarf::DW_AT_call_file
+        || name == dwarf::DW_AT_call_line
+        || name == dwarf::DW_AT_call_column
 }
 
 impl CallSite {
@@ -67,15 +70,15 @@ impl CallSite {
         ensures { result ≡ with_call_site version self (name, value) }
     {
         match name {
-            0x58 => CallSite {
+            dwarf::DW_AT_call_file => CallSite {
                 file: kept_file(version, self.file, value.udata()),
                 ..self
             },
-            0x59 => CallSite {
+            dwarf::DW_AT_call_line => CallSite {
                 line: low_bits(value.udata()),
                 ..self
             },
-            0x57 => CallSite {
+            dwarf::DW_AT_call_column => CallSite {
                 column: low_bits(value.udata()),
                 ..self
             },

@@ -14,14 +14,12 @@ use crate::functions::{Function, Functions};
 use crate::links::Links;
 use crate::open_unit::OpenUnit;
 use blz_bytes::Orders;
+use blz_constants::dwarf;
 use blz_entry::{Entries, Entry, Passing, Span};
 use blz_error::Result;
 use blz_ranges::own;
 use std::alloc::{AllocError, Global};
 use std::marker::Model;
-
-/// `DW_TAG_subprogram`
-const SUBPROGRAM: u64 = 0x2e;
 
 /// Functions, and their ranges with the number of the function of each.
 #[derive(Drop)]
@@ -47,7 +45,7 @@ impl Model for FunctionLists {
 pub fn is_function_tag(tag: u64) -> bool
     ensures { result ≡ is_function_tag tag }
 {
-    tag == SUBPROGRAM
+    tag == dwarf::DW_TAG_subprogram
 }
 
 fn function_by(place: usize, description: &Description) -> Function
@@ -158,7 +156,7 @@ impl FunctionLists {
         let mut entries = unit.entries(unit.header.entries)?;
         let mut lists = FunctionLists::new(alloc);
         loop {
-            entries.pass_over(Passing::Others, SUBPROGRAM);
+            entries.pass_over(Passing::Others, dwarf::DW_TAG_subprogram);
             let entry = match entries.next_entry() {
                 Ok(Some(entry)) => entry,
                 Ok(None) => return Ok(lists),

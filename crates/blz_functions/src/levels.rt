@@ -5,12 +5,10 @@ ghost use Rattle.blz_functions.specs.CallWalk.{depth_of, below_tag, innermost, c
 ghost use Rattle.blz_functions.specs.declared.levels.Above.TheVariants.{Calls};
 
 use crate::function_lists::is_function_tag;
+use blz_constants::dwarf;
 use blz_entry::Entry;
 use std::alloc::{AllocError, Global};
 use std::marker::Model;
-
-/// `DW_TAG_inlined_subroutine`
-pub(crate) const INLINED: u64 = 0x1d;
 
 /// What stands above some entries below a function.
 #[derive(Clone, Copy)]
@@ -24,7 +22,7 @@ pub enum Above {
 fn is_call_tag(tag: u64) -> bool
     ensures { result ≡ is_call_tag tag }
 {
-    tag == INLINED
+    tag == dwarf::DW_TAG_inlined_subroutine
 }
 
 impl Above {

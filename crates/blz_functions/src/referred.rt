@@ -7,6 +7,7 @@ ghost use Rattle.blz_functions.specs.Naming.{is_linkage_name, is_name, is_refere
 ghost use Rattle.blz_functions.specs.Opened.{open_view, CanBeOpened};
 
 use crate::open_unit::OpenUnit;
+use blz_constants::dwarf;
 use blz_entry::{AttrValue, Entries, StrPlace, invalid};
 use blz_error::Result;
 
@@ -25,21 +26,21 @@ pub enum Visited {
 pub fn is_linkage_name(name: u64) -> bool
     ensures { result ≡ is_linkage_name name }
 {
-    name == 0x6e || name == 0x2007
+    name == dwarf::DW_AT_linkage_name || name == dwarf::DW_AT_MIPS_linkage_name
 }
 
 /// `DW_AT_name`.
 pub fn is_name(name: u64) -> bool
     ensures { result ≡ is_name name }
 {
-    name == 0x03
+    name == dwarf::DW_AT_name
 }
 
 /// `DW_AT_abstract_origin` or `DW_AT_specification`.
 pub fn is_reference(name: u64) -> bool
     ensures { result ≡ is_reference name }
 {
-    name == 0x31 || name == 0x47
+    name == dwarf::DW_AT_abstract_origin || name == dwarf::DW_AT_specification
 }
 
 /// The first of two names that is known.

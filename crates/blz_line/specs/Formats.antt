@@ -1,6 +1,7 @@
 -- The tables of directories and files in version 5, whose entries have the forms that the table says (DWARF 5 sections
 -- 6.2.4 and 6.2.4.1).
 use Rattle.std.specs.Prelude.{ℕ, zero, suc, ◌||◌, List, [], ◌∷◌, ◌++◌, count_by, Option, Some, None, unwrap_or, ◌==◌, if◌then◌else◌}
+use Rattle.blz_constants.specs.declared.dwarf.TheConstants as dwarf
 use Rattle.blz_model.specs.Reads.{Read, ◌>>=◌}
 use Rattle.blz_model.specs.LebNumbers.{uleb}
 use Rattle.blz_bytes.specs.Pieces.{byte}
@@ -41,8 +42,8 @@ blank_entry = record { path = Other; directory = 0 }
 -- an entry with one more value: a path, a directory that is a number, or another content, which is dropped
 abbrev pub with_content : ℕ → AttrValue → FileEntry → FileEntry
 with_content content value entry =
-    if content == 1 then record entry { path = value } else (
-    if content == 2 then record entry { directory = unwrap_or (udata value) entry.directory } else
+    if content == dwarf.DW_LNCT_path then record entry { path = value } else (
+    if content == dwarf.DW_LNCT_directory_index then record entry { directory = unwrap_or (udata value) entry.directory } else
     entry)
 
 -- texts that stand in the table itself
@@ -68,7 +69,7 @@ entries_in e s formats (suc n) so_far at = do
 
 -- how many paths an entry has
 abbrev pub path_count : List EntryFormat → ℕ
-path_count formats = count_by (λ f. f.content == 1) formats
+path_count formats = count_by (λ f. f.content == dwarf.DW_LNCT_path) formats
 
 -- a table: its formats, the number of its entries, and these, each of which has one path
 unfoldable pub formatted_at : Encoding → Contents → ℕ → Read (List FileEntry)

@@ -1,5 +1,6 @@
 -- Opcodes and their operands in the bytes of a line number program (DWARF 5 sections 6.2.5 and 7.22).
 use Rattle.std.specs.Prelude.{ℕ, zero, suc, ◌+◌, ◌-◌, ◌||◌, ◌&&◌, List, length, slice_index, Option, Some, None, ◌==◌, nat_lt, nat_le, if◌then◌else◌}
+use Rattle.blz_constants.specs.declared.dwarf.TheConstants as dwarf
 use Rattle.blz_model.specs.Reads.{Read, ◌>>=◌, number}
 use Rattle.blz_model.specs.LebNumbers.{uleb, sleb}
 use Rattle.blz_bytes.specs.Pieces.{byte}
@@ -19,9 +20,9 @@ ulebs_passed (suc n) bytes at = do
 -- an extended opcode, whose operands are the bytes up to the end
 unfoldable pub extended_op : Rules → Contents → ℕ → ℕ → Option Op
 extended_op r s code at =
-    if code == 1 then Some EndSequence else ( -- DW_LNE_end_sequence
-    if code == 2 then (address_at r.address_size s at >>= λ a. Some (SetAddress a.0)) else ( -- DW_LNE_set_address
-    if code == 3 && nat_le r.version 4 then (file_at s.bytes at >>= λ f. Some (DefineFile f.0)) else  -- DW_LNE_define_file
+    if code == dwarf.DW_LNE_end_sequence then Some EndSequence else (
+    if code == dwarf.DW_LNE_set_address then (address_at r.address_size s at >>= λ a. Some (SetAddress a.0)) else (
+    if code == dwarf.DW_LNE_define_file && nat_le r.version 4 then (file_at s.bytes at >>= λ f. Some (DefineFile f.0)) else
     Some Nothing))
 
 -- an extended opcode behind its 0: its length, which is not 0, and as many bytes; what is left of them is passed over
@@ -37,15 +38,15 @@ extended_at r s at = do
 unfoldable pub standard_at : Rules → List ℕ → Contents → ℕ → ℕ → Read Op
 standard_at r counts s code at =
     if code == 0 then extended_at r s at else ( -- an extended opcode
-    if code == 1 then Some (Copy, at) else ( -- DW_LNS_copy
-    if code == 2 then (uleb s.bytes at >>= λ n. Some (AdvancePc n.0, n.1)) else ( -- DW_LNS_advance_pc
-    if code == 3 then (sleb s.bytes at >>= λ n. Some (AdvanceLine n.0, n.1)) else ( -- DW_LNS_advance_line
-    if code == 4 then (uleb s.bytes at >>= λ n. Some (SetFile n.0, n.1)) else ( -- DW_LNS_set_file
-    if code == 5 then (uleb s.bytes at >>= λ n. Some (SetColumn n.0, n.1)) else ( -- DW_LNS_set_column
-    if (code == 6 || code == 7) || (code == 10 || code == 11) then Some (Nothing, at) else ( -- flags that rows do not keep
-    if code == 8 then Some (ConstAddPc, at) else ( -- DW_LNS_const_add_pc
-    if code == 9 then (number s.order 2 s.bytes at >>= λ n. Some (FixedAdvancePc n.0, n.1)) else ( -- DW_LNS_fixed_advance_pc
-    if code == 12 then (uleb s.bytes at >>= λ n. Some (Nothing, n.1)) else  -- DW_LNS_set_isa
+    if code == dwarf.DW_LNS_copy then Some (Copy, at) else (
+    if code == dwarf.DW_LNS_advance_pc then (uleb s.bytes at >>= λ n. Some (AdvancePc n.0, n.1)) else (
+    if code == dwarf.DW_LNS_advance_line then (sleb s.bytes at >>= λ n. Some (AdvanceLine n.0, n.1)) else (
+    if code == dwarf.DW_LNS_set_file then (uleb s.bytes at >>= λ n. Some (SetFile n.0, n.1)) else (
+    if code == dwarf.DW_LNS_set_column then (uleb s.bytes at >>= λ n. Some (SetColumn n.0, n.1)) else (
+    if (code == dwarf.DW_LNS_negate_stmt || code == dwarf.DW_LNS_set_basic_block) || (code == dwarf.DW_LNS_set_prologue_end || code == dwarf.DW_LNS_set_epilogue_begin) then Some (Nothing, at) else ( -- flags that rows do not keep
+    if code == dwarf.DW_LNS_const_add_pc then Some (ConstAddPc, at) else (
+    if code == dwarf.DW_LNS_fixed_advance_pc then (number s.order 2 s.bytes at >>= λ n. Some (FixedAdvancePc n.0, n.1)) else (
+    if code == dwarf.DW_LNS_set_isa then (uleb s.bytes at >>= λ n. Some (Nothing, n.1)) else
     (ulebs_passed (slice_index counts (code - 1)) s.bytes at >>= λ next. Some (Nothing, next)))))))))))
 
 -- the opcode at a place; from `opcode_base` up it is special, also where the table of standard opcodes has it

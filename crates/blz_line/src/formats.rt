@@ -9,6 +9,7 @@ use crate::broken::broken;
 use crate::paths::{FileEntry, Paths};
 use crate::table::Table;
 use blz_bytes::{u8_at, uleb_at};
+use blz_constants::dwarf;
 use blz_entry::{AttrValue, Encoding, Section, StrPart, form_value};
 use blz_error::Result;
 use std::alloc::Global;
@@ -19,11 +20,6 @@ pub struct EntryFormat {
     pub content: u64,
     pub form: u64,
 }
-
-/// `DW_LNCT_path`
-const PATH: u64 = 1;
-/// `DW_LNCT_directory_index`
-const DIRECTORY_INDEX: u64 = 2;
 
 #[tactic(auto, unfolding(crate::specs::Formats::format_at))]
 fn format_at(bytes: &[u8], at: usize) -> Option<(EntryFormat, usize)>
@@ -70,11 +66,11 @@ fn with_content(content: u64, value: AttrValue, entry: FileEntry) -> FileEntry
     ensures { result ≡ with_content content value entry }
 {
     match content {
-        PATH => FileEntry {
+        dwarf::DW_LNCT_path => FileEntry {
             path: value,
             ..entry
         },
-        DIRECTORY_INDEX => FileEntry {
+        dwarf::DW_LNCT_directory_index => FileEntry {
             directory: value.udata().unwrap_or(entry.directory),
             ..entry
         },
@@ -163,7 +159,7 @@ fn path_count(formats: &[EntryFormat]) -> usize
 {
     formats
         .iter()
-        .filter(|format| format.content == PATH)
+        .filter(|format| format.content == dwarf::DW_LNCT_path)
         .count()
 }
 

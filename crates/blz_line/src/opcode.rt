@@ -6,6 +6,7 @@ ghost use Rattle.blz_line.specs.Opcodes.{ulebs_passed, extended_op, extended_at,
 use crate::paths::{FileEntry, file_at};
 use crate::rules::Rules;
 use blz_bytes::{sleb_at, u8_at, u16_at, uleb_at};
+use blz_constants::dwarf;
 use blz_entry::{Section, address_at, cut};
 
 /// An opcode with its operands (DWARF 5 section 6.2.5).
@@ -55,12 +56,12 @@ fn extended_op(rules: Rules, section: &Section<'_, '_>, code: u8, at: usize) -> 
     ensures { result ≡ extended_op rules (section_view section.now) code at }
 {
     match code {
-        1 => Some(Op::EndSequence),
-        2 => {
+        dwarf::DW_LNE_end_sequence => Some(Op::EndSequence),
+        dwarf::DW_LNE_set_address => {
             let (address, _) = address_at(rules.address_size, section, at)?;
             Some(Op::SetAddress(address))
         }
-        3 if rules.version <= 4 => {
+        dwarf::DW_LNE_define_file if rules.version <= 4 => {
             let (file, _) = file_at(section.bytes, at)?;
             Some(Op::DefineFile(file))
         }
@@ -99,30 +100,33 @@ fn standard_at(
     let bytes = section.bytes;
     match code {
         0 => extended_at(rules, section, at),
-        1 => Some((Op::Copy, at)),
-        2 => {
+        dwarf::DW_LNS_copy => Some((Op::Copy, at)),
+        dwarf::DW_LNS_advance_pc => {
             let (count, next) = uleb_at(bytes, at)?;
             Some((Op::AdvancePc(count), next))
         }
-        3 => {
+        dwarf::DW_LNS_advance_line => {
             let (by, next) = sleb_at(bytes, at)?;
             Some((Op::AdvanceLine(by), next))
         }
-        4 => {
+        dwarf::DW_LNS_set_file => {
             let (file, next) = uleb_at(bytes, at)?;
             Some((Op::SetFile(file), next))
         }
-        5 => {
+        dwarf::DW_LNS_set_column => {
             let (column, next) = uleb_at(bytes, at)?;
             Some((Op::SetColumn(column), next))
         }
-        6 | 7 | 10 | 11 => Some((Op::Nothing, at)),
-        8 => Some((Op::ConstAddPc, at)),
-        9 => {
+        dwarf::DW_LNS_negate_stmt
+        | dwarf::DW_LNS_set_basic_block
+        | dwarf::DW_LNS_set_prologue_end
+        | dwarf::DW_LNS_set_epilogue_begin => Some((Op::Nothing, at)),
+        dwarf::DW_LNS_const_add_pc => Some((Op::ConstAddPc, at)),
+        dwarf::DW_LNS_fixed_advance_pc => {
             let (by, next) = u16_at(bytes, at, section.order)?;
             Some((Op::FixedAdvancePc(by), next))
         }
-        12 => {
+        dwarf::DW_LNS_set_isa => {
             let (_, next) = uleb_at(bytes, at)?;
             Some((Op::Nothing, next))
         }

@@ -1,5 +1,6 @@
 -- A package of split units (DWARF 5 section 7.3.5).
 use Rattle.std.specs.Prelude.{ℕ, ◌+◌, ◌≤◌, List, length, Option, Some, None, nat_le, option_and_then, if◌then◌else◌}
+use Rattle.blz_constants.specs.declared.dwarf.TheConstants as dwarf
 use Rattle.blz_error.specs.declared.kind.ErrorKind.TheVariants.{InvalidDwarf}
 use Rattle.blz_model.specs.declared.byte_order.ByteOrder.{ByteOrder}
 use Rattle.blz_model.specs.Part.{Part, Good, or_mark, ◌>>=◌}
@@ -42,10 +43,10 @@ unfoldable pub row_pieces : PackageParts → Tables → ℕ → Option SplitUnit
 row_pieces p t row =
     option_and_then (λ info. option_and_then (λ abbreviations. option_and_then (λ str_offsets. option_and_then (λ rnglists.
     Some (record { info = info; «abbrev» = abbreviations; str_offsets = str_offsets; rnglists = rnglists }))
-    (contribution p.order p.index t row 8 (length p.rnglists)))
-    (contribution p.order p.index t row 6 (length p.str_offsets)))
-    (contribution p.order p.index t row 3 (length p.«abbrev»)))
-    (contribution p.order p.index t row 1 (length p.info))
+    (contribution p.order p.index t row dwarf.DW_SECT_RNGLISTS (length p.rnglists)))
+    (contribution p.order p.index t row dwarf.DW_SECT_STR_OFFSETS (length p.str_offsets)))
+    (contribution p.order p.index t row dwarf.DW_SECT_ABBREV (length p.«abbrev»)))
+    (contribution p.order p.index t row dwarf.DW_SECT_INFO (length p.info))
 
 -- the pieces of the unit whose row was found; the row has to be there
 abbrev pub unit_of_row : PackageParts → Tables → Option ℕ → Option (Option SplitUnit)

@@ -14,6 +14,7 @@ ghost use Rattle.blz_split.specs.TablesFit.{TablesFit};
 use crate::dwo_section::DwoSection;
 use crate::split_unit::{Piece, SplitUnit};
 use crate::tables::{Tables, index_tables};
+use blz_constants::dwarf;
 use blz_elf::ElfParser;
 use blz_entry::{Section, Sections};
 use blz_error::{Error, ErrorKind, Result, Str};
@@ -146,16 +147,34 @@ impl<'b> Package<'b> {
         ensures value { result ≡ row_pieces (package_view self.now) tables.now row }
         ensures fit { IfPiecesFit (package_view self.now) result }
     {
-        let info = tables.contribution(self.order, self.index, row, 1, self.info.len())?;
-        let abbrev = tables.contribution(self.order, self.index, row, 3, self.abbrev.len())?;
+        let info = tables.contribution(
+            self.order,
+            self.index,
+            row,
+            dwarf::DW_SECT_INFO,
+            self.info.len(),
+        )?;
+        let abbrev = tables.contribution(
+            self.order,
+            self.index,
+            row,
+            dwarf::DW_SECT_ABBREV,
+            self.abbrev.len(),
+        )?;
         let str_offsets = tables.contribution(
             self.order,
             self.index,
             row,
-            6,
+            dwarf::DW_SECT_STR_OFFSETS,
             self.str_offsets.len(),
         )?;
-        let rnglists = tables.contribution(self.order, self.index, row, 8, self.rnglists.len())?;
+        let rnglists = tables.contribution(
+            self.order,
+            self.index,
+            row,
+            dwarf::DW_SECT_RNGLISTS,
+            self.rnglists.len(),
+        )?;
         Some(SplitUnit {
             info,
             abbrev,
