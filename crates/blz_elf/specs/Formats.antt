@@ -1,5 +1,6 @@
 -- How the records of an image are laid out: by its class and byte order (ELF gABI, Data Representation).
 use Rattle.std.specs.Prelude.{ℕ, ◌+◌, ◌*◌, List, Option, Some, None, ◌==◌, if◌then◌else◌}
+use Rattle.blz_constants.specs.declared.elf.TheConstants.{ELFCLASS32, ELFCLASS64, ELFDATA2LSB, ELFDATA2MSB}
 use Rattle.blz_model.specs.declared.byte_order.ByteOrder.{ByteOrder}
 use Rattle.blz_model.specs.declared.byte_order.ByteOrder.TheVariants.{Little, Big}
 use Rattle.blz_model.specs.Numbers.{field}
@@ -9,11 +10,11 @@ use Rattle.blz_elf.specs.declared.format.Format.{Format}
 
 -- ELFCLASS32 and ELFCLASS64
 abbrev pub class_of : ℕ → Option Class
-class_of byte = if byte == 1 then Some Elf32 else (if byte == 2 then Some Elf64 else None)
+class_of byte = if byte == ELFCLASS32 then Some Elf32 else (if byte == ELFCLASS64 then Some Elf64 else None)
 
 -- ELFDATA2LSB and ELFDATA2MSB
 abbrev pub order_of : ℕ → Option ByteOrder
-order_of byte = if byte == 1 then Some Little else (if byte == 2 then Some Big else None)
+order_of byte = if byte == ELFDATA2LSB then Some Little else (if byte == ELFDATA2MSB then Some Big else None)
 
 -- the bytes of an address, an offset or a size: a word
 abbrev pub word : Class → ℕ

@@ -3,6 +3,7 @@ use Rattle.std.specs.Prelude.{ℕ, Bool, false, ◌&&◌, not, List, [], length,
 use Rattle.std.specs.List.{position_from}
 use Rattle.std.specs.Option.{option_map}
 use Rattle.std.specs.Str.{bytes_eq}
+use Rattle.blz_constants.specs.declared.elf.TheConstants.{ET_REL, SHN_XINDEX}
 use Rattle.blz_error.specs.declared.kind.ErrorKind.TheVariants.{InvalidInput}
 use Rattle.blz_model.specs.declared.byte_order.ByteOrder.{ByteOrder}
 use Rattle.blz_model.specs.Part.{Part, Good, ◌>>=◌, or_mark, all_good}
@@ -12,7 +13,7 @@ use Rattle.blz_elf.specs.Sections.{Section, is_nobits, sections_of, raw_data, da
 
 -- The index of the table of the sections' names; SHN_XINDEX says that it stands in the first section header.
 abbrev pub name_index : Header → List Section → Option ℕ
-name_index h sections = if h.shstrndx == 0xffff then option_map (λ s. s.link) (slice_get sections 0) else Some h.shstrndx
+name_index h sections = if h.shstrndx == SHN_XINDEX then option_map (λ s. s.link) (slice_get sections 0) else Some h.shstrndx
 
 -- The table of the sections' names. With fewer than two sections it is not read.
 unfoldable pub name_table : List ℕ → Header → List Section → Part (List ℕ)
@@ -66,7 +67,7 @@ holds_bytes elf name = is_there (section_called elf name)
 
 -- ET_REL
 abbrev pub is_relocatable : Elf → Bool
-is_relocatable elf = elf.header.file_type == 1
+is_relocatable elf = elf.header.file_type == ET_REL
 
 -- ---- the same over the bytes of an image
 

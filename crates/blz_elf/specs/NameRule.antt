@@ -2,6 +2,7 @@
 use Rattle.std.specs.Prelude.{ℕ, ◌+◌, ◌-◌, ◌%◌, ◌^◌, Bool, true, false, ◌&&◌, ◌||◌, not, List, length, map, filter, slice_get, nat_le, nat_lt, ◌==◌, Option, Some, None, if◌then◌else◌}
 use Rattle.std.specs.Option.{unwrap_or}
 use Rattle.std.specs.Str.{bytes_eq, is_utf8}
+use Rattle.blz_constants.specs.declared.elf.TheConstants.{SHN_LORESERVE, SHN_UNDEF}
 use Rattle.blz_error.specs.declared.kind.ErrorKind.TheVariants.{InvalidData, InvalidInput}
 use Rattle.blz_model.specs.Part.{Part, Good, Broken, ◌>>=◌, or_mark, check, all_good}
 use Rattle.blz_model.specs.Texts.{name_bytes, name_at}
@@ -55,11 +56,11 @@ is_asked symtab s = is_typed s && is_kept_beside symtab s
 
 -- defined, and of that name
 abbrev pub is_called : List ℕ → Named → Bool
-is_called name n = not (n.symbol.section == 0) && bytes_eq n.name name
+is_called name n = not (n.symbol.section == SHN_UNDEF) && bytes_eq n.name name
 
 -- defined, and of that type
 abbrev pub is_of_type : SymType → Named → Bool
-is_of_type sym_type n = not (n.symbol.section == 0) && matches n.symbol.kind sym_type
+is_of_type sym_type n = not (n.symbol.section == SHN_UNDEF) && matches n.symbol.kind sym_type
 
 -- the symbols of a table whose names are read, in table order, with their names
 unfoldable pub asked_names : Option SymbolTable → SymbolTable → Part (List Named)
@@ -110,7 +111,7 @@ place_in s symbol =
 -- from SHN_LORESERVE up an index names no section
 unfoldable pub symbol_place : Elf → Symbol → Part (Option ℕ)
 symbol_place elf symbol =
-    if nat_le 0xff00 symbol.section then Good None
+    if nat_le SHN_LORESERVE symbol.section then Good None
     else (do
       s ← or_mark (slice_get elf.sections symbol.section) InvalidInput
       Good (place_in s symbol))

@@ -1,5 +1,6 @@
 -- The places of an order of symbols that a search needs.
 use Rattle.std.specs.Prelude.{◌≡◌, ℕ, ◌<◌, ◌⊎◌, Bool, true, ◌&&◌, ◌||◌, not, ◌==◌, List, length, get_or}
+use Rattle.blz_constants.specs.declared.elf.TheConstants.{SHN_UNDEF}
 use Rattle.blz_elf.specs.declared.question.Question.{Question}
 use Rattle.blz_elf.specs.SymbolTables.{Symbol}
 use Rattle.blz_elf.specs.SymbolRule.{may_answer}
@@ -8,7 +9,7 @@ use Rattle.blz_elf.specs.Accepted.{Before, no_symbol, at_place}
 -- whether the second, where it comes behind the first in an order, answers nothing that the first does not: it has its
 -- value and is undefined, or is of its kind, and not of size 0 unless the first is
 abbrev pub stands_for : Symbol → Symbol → Bool
-stands_for s t = (s.value == t.value) && ((t.section == 0) || (not (s.section == 0) && (s.kind == t.kind) && (not (t.size == 0) || (s.size == 0))))
+stands_for s t = (s.value == t.value) && ((t.section == SHN_UNDEF) || (not (s.section == SHN_UNDEF) && (s.kind == t.kind) && (not (t.size == 0) || (s.size == 0))))
 
 -- one of the places has a symbol that stands for another
 pub record HasStandIn (xs : List Symbol) (places : List ℕ) (s : Symbol) : Type 0 where

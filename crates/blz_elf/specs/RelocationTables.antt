@@ -2,6 +2,7 @@
 use Rattle.std.specs.Prelude.{ℕ, ◌+◌, ◌-◌, ◌*◌, ◌/◌, ◌%◌, ◌^◌, List, [], ◌∷◌, slice_get, nat_lt, ◌==◌, Option, Some, None, if◌then◌else◌}
 use Rattle.std.specs.List.{fold}
 use Rattle.std.specs.FinMap as map
+use Rattle.blz_constants.specs.declared.elf.TheConstants.{ET_REL, SHT_REL, SHT_RELA}
 use Rattle.blz_error.specs.declared.kind.ErrorKind.TheVariants.{InvalidInput}
 use Rattle.blz_model.specs.Part.{Part, Good, ◌>>=◌, or_mark}
 use Rattle.blz_elf.specs.declared.format.Class.{Class}
@@ -25,7 +26,7 @@ pub record Entry : Type 0 where
 
 -- SHT_RELA and SHT_REL
 abbrev pub entry_kind : Section → Option EntryKind
-entry_kind s = if s.kind == 4 then Some Rela else (if s.kind == 9 then Some Rel else None)
+entry_kind s = if s.kind == SHT_RELA then Some Rela else (if s.kind == SHT_REL then Some Rel else None)
 
 abbrev pub entry_size : EntryKind → Class → ℕ
 entry_size Rela c = rela_size c
@@ -93,7 +94,7 @@ with_sections f bytes sections (s ∷ rest) m = with_section f bytes sections m 
 
 -- the relocations of a file: none unless it is relocatable (ET_REL)
 unfoldable pub relocations_of : List ℕ → Header → List Section → Part SectionMap
-relocations_of bytes h sections = if h.file_type == 1 then with_sections h.format bytes sections sections map.empty else Good map.empty
+relocations_of bytes h sections = if h.file_type == ET_REL then with_sections h.format bytes sections sections map.empty else Good map.empty
 
 unfoldable pub image_relocations : List ℕ → Part SectionMap
 image_relocations image = do

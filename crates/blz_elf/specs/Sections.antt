@@ -1,6 +1,7 @@
 -- The section table and the bytes of a section (ELF gABI, Sections).
 use Rattle.std.specs.Prelude.{ℕ, ◌+◌, ◌*◌, ◌/◌, ◌%◌, Bool, ◌&&◌, ◌||◌, not, bit_and, List, [], length, map, slice_range, nat_le, nat_lt, ◌==◌, Option, Some, None, if◌then◌else◌}
 use Rattle.std.specs.List.{range_with_len}
+use Rattle.blz_constants.specs.declared.elf.TheConstants.{SHF_COMPRESSED, SHT_NOBITS}
 use Rattle.blz_error.specs.declared.kind.ErrorKind.TheVariants.{InvalidData, Unsupported}
 use Rattle.blz_model.specs.Numbers.{field}
 use Rattle.blz_model.specs.Part.{Part, Good, Broken, ◌>>=◌, check}
@@ -33,7 +34,7 @@ section_at f bytes at = record {
 
 -- SHT_NOBITS: a section without bytes
 abbrev pub is_nobits : Section → Bool
-is_nobits s = s.kind == 8
+is_nobits s = s.kind == SHT_NOBITS
 
 -- the first section header, which holds what the header has no room for
 unfoldable pub first_section : List ℕ → Header → Part Section
@@ -66,7 +67,7 @@ raw_data bytes s =
 
 -- SHF_COMPRESSED
 abbrev pub is_compressed : Section → Bool
-is_compressed s = bit_and s.flags 0x800 == 0x800
+is_compressed s = bit_and s.flags SHF_COMPRESSED == SHF_COMPRESSED
 
 -- The data of a section. Nothing unpacks compressed ones.
 unfoldable pub data_of : Format → List ℕ → Section → Part (List ℕ)

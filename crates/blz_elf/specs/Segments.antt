@@ -1,6 +1,7 @@
 -- The segments of an image (ELF gABI, Program Header).
 use Rattle.std.specs.Prelude.{◌≡◌, ℕ, ◌+◌, ◌-◌, ◌*◌, ◌^◌, ◌<◌, ⊤, Bool, true, false, ◌&&◌, ◌||◌, List, [], ◌∷◌, length, map, slice_get, nat_le, nat_lt, ◌==◌, not, Option, Some, None, if◌then◌else◌}
 use Rattle.std.specs.List.{range_with_len}
+use Rattle.blz_constants.specs.declared.elf.TheConstants.{PN_XNUM, PT_LOAD}
 use Rattle.blz_error.specs.declared.kind.ErrorKind.TheVariants.{InvalidData}
 use Rattle.blz_model.specs.Numbers.{field}
 use Rattle.blz_model.specs.Part.{Part, Good, Broken, ◌>>=◌, check}
@@ -27,7 +28,7 @@ segment_at f bytes at = record {
 -- the number of segments; PN_XNUM says that it stands in the first section header
 unfoldable pub segment_count : List ℕ → Header → Part ℕ
 segment_count bytes h =
-    if not (h.phnum == 0xffff) then Good h.phnum
+    if not (h.phnum == PN_XNUM) then Good h.phnum
     else (if h.shoff == 0 then Broken InvalidData else (do
       first ← first_section bytes h
       Good first.info))
@@ -42,7 +43,7 @@ segments_of bytes h = do
 
 -- PT_LOAD
 abbrev pub is_load : Segment → Bool
-is_load s = s.kind == 1
+is_load s = s.kind == PT_LOAD
 
 -- a number of 64 bits
 abbrev pub if_fits : ℕ → Option ℕ

@@ -1,6 +1,7 @@
 -- The symbol of an address.
 use Rattle.std.specs.Prelude.{ℕ, ◌+◌, Bool, true, ◌&&◌, ◌||◌, not, List, [], length, map, filter, max, nat_le, nat_lt, ◌==◌, Option, Some, None, if◌then◌else◌}
 use Rattle.std.specs.List.{fold}
+use Rattle.blz_constants.specs.declared.elf.TheConstants.{SHN_UNDEF, STT_FUNC, STT_GNU_IFUNC, STT_NOTYPE, STT_OBJECT}
 use Rattle.blz_model.specs.Part.{Part, Good, ◌>>=◌, all_good}
 use Rattle.blz_model.specs.declared.reason.Reason.{Reason}
 use Rattle.blz_model.specs.declared.reason.Reason.TheVariants as reason
@@ -17,7 +18,7 @@ use Rattle.blz_elf.specs.SymbolTables.{Symbol, SymbolTable, table_of}
 
 -- STT_NOTYPE, STT_OBJECT, STT_FUNC and STT_GNU_IFUNC: the types that are answered
 abbrev pub is_typed : Symbol → Bool
-is_typed s = (s.kind == 0) || (s.kind == 1) || (s.kind == 2) || (s.kind == 10)
+is_typed s = (s.kind == STT_NOTYPE) || (s.kind == STT_OBJECT) || (s.kind == STT_FUNC) || (s.kind == STT_GNU_IFUNC)
 
 -- of an answered type, and with a value up to the address
 abbrev pub is_candidate : ℕ → Symbol → Bool
@@ -37,7 +38,7 @@ covers kind addr s = if s.size == 0 then sizeless_covers kind addr s.value else 
 
 -- it is defined (not SHN_UNDEF), covers the address, and is of the type that is asked for
 abbrev pub may_answer : Question → Symbol → Bool
-may_answer q s = not (s.section == 0) && covers q.table q.addr s && matches s.kind q.sym_type
+may_answer q s = not (s.section == SHN_UNDEF) && covers q.table q.addr s && matches s.kind q.sym_type
 
 -- the larger, or the earlier where they are alike
 abbrev pub larger : Option Symbol → Symbol → Option Symbol

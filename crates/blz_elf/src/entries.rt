@@ -13,6 +13,7 @@ use crate::format::{Class, Format};
 use crate::number::word_in;
 use crate::section::Section;
 use crate::span::{Rows, place_of};
+use blz_constants::elf::{SHT_REL, SHT_RELA};
 use blz_records::{u32_in, u64_in};
 use std::marker::Model;
 
@@ -41,8 +42,8 @@ pub fn entry_kind(section: &Section) -> Option<EntryKind>
     ensures { result ≡ entry_kind (section_view section.now) }
 {
     match section.kind {
-        4 => Some(EntryKind::Rela),
-        9 => Some(EntryKind::Rel),
+        SHT_RELA => Some(EntryKind::Rela),
+        SHT_REL => Some(EntryKind::Rel),
         _ => None,
     }
 }

@@ -4,6 +4,7 @@ ghost use Rattle.std.specs.Option.{option_map};
 ghost use Rattle.blz_elf.specs.Formats.{class_of, order_of, word, header_size, section_size, segment_size, symbol_size, compression_size};
 
 use blz_bytes::ByteOrder;
+use blz_constants::elf::{ELFCLASS32, ELFCLASS64, ELFDATA2LSB, ELFDATA2MSB};
 
 /// How wide an address is (ELF gABI, EI_CLASS).
 #[derive(Clone, Copy, Debug, PartialEq, Eq)]
@@ -28,8 +29,8 @@ pub fn class_of(byte: u8) -> Option<Class>
     ensures { result ≡ class_of byte }
 {
     match byte {
-        1 => Some(Class::Elf32),
-        2 => Some(Class::Elf64),
+        ELFCLASS32 => Some(Class::Elf32),
+        ELFCLASS64 => Some(Class::Elf64),
         _ => None,
     }
 }
@@ -39,8 +40,8 @@ pub fn order_of(byte: u8) -> Option<ByteOrder>
     ensures { result ≡ order_of byte }
 {
     match byte {
-        1 => Some(ByteOrder::Little),
-        2 => Some(ByteOrder::Big),
+        ELFDATA2LSB => Some(ByteOrder::Little),
+        ELFDATA2MSB => Some(ByteOrder::Big),
         _ => None,
     }
 }

@@ -7,11 +7,9 @@ ghost use Rattle.blz_elf.specs.Views.{header_view};
 
 use crate::format::{Format, class_of, order_of};
 use crate::number::word_in;
+use blz_constants::elf::{EI_CLASS, EI_DATA, ELFMAG0, ELFMAG1, ELFMAG2, ELFMAG3};
 use blz_error::{Error, ErrorKind, Result, Str};
 use blz_records::u16_in;
-
-/// ET_REL.
-pub const RELOCATABLE: u16 = 1;
 
 /// What is read of the header of an image (ELF gABI, ELF Header).
 #[derive(Clone, Copy)]
@@ -56,13 +54,13 @@ pub fn read_header(image: &[u8]) -> Result<Header>
     if image.len() < 16 {
         return Err(Error::new(ErrorKind::InvalidData, Str::fixed("short identification")));
     }
-    if image[0] != 0x7f || image[1] != 0x45 || image[2] != 0x4c || image[3] != 0x46 {
+    if image[0] != ELFMAG0 || image[1] != ELFMAG1 || image[2] != ELFMAG2 || image[3] != ELFMAG3 {
         return Err(Error::new(ErrorKind::InvalidData, Str::fixed("wrong magic")));
     }
-    let Some(class) = class_of(image[4]) else {
+    let Some(class) = class_of(image[EI_CLASS]) else {
         return Err(Error::new(ErrorKind::Unsupported, Str::fixed("class")));
     };
-    let Some(order) = order_of(image[5]) else {
+    let Some(order) = order_of(image[EI_DATA]) else {
         return Err(Error::new(ErrorKind::Unsupported, Str::fixed("byte order")));
     };
     if image.len() < class.header_size() {

@@ -14,10 +14,11 @@ ghost use Rattle.blz_model.specs.Part.{Exactly};
 ghost use Rattle.blz_elf.specs.Frames.{FrameFits, frame_view};
 
 use crate::format::Format;
-use crate::header::{Header, RELOCATABLE};
-use crate::section::{NOBITS, Section, SectionTable, data, names};
+use crate::header::Header;
+use crate::section::{Section, SectionTable, data, names};
 use crate::span::{Rows, Span};
 use crate::text::{is_text_at, next_name};
+use blz_constants::elf::{ET_REL, SHT_NOBITS};
 use blz_error::Result;
 use std::marker::Model;
 
@@ -137,7 +138,7 @@ impl<'b> Image<'b> {
         ensures { result ≡ holds_bytes self.now name.now }
     {
         match self.section_called(name) {
-            Some(section) => section.kind != NOBITS && section.size != 0,
+            Some(section) => section.kind != SHT_NOBITS && section.size != 0,
             None => false,
         }
     }
@@ -146,7 +147,7 @@ impl<'b> Image<'b> {
     pub fn is_relocatable(&self) -> bool
         ensures { result ≡ is_relocatable self.now }
     {
-        self.header.file_type == RELOCATABLE
+        self.header.file_type == ET_REL
     }
 
     /// How the image's records are laid out.

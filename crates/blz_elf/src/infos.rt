@@ -9,21 +9,19 @@ ghost use Rattle.blz_elf.specs.Views.{section_view, symbol_view};
 
 use crate::image::Image;
 use crate::names::NamedSymbol;
-use crate::section::{NOBITS, Section};
+use crate::section::Section;
 use crate::sym_info::{SymInfo, SymInfos};
 use crate::symbols::Symbol;
 use crate::text::text_of;
+use blz_constants::elf::{SHN_LORESERVE, SHT_NOBITS};
 use blz_error::{Error, ErrorKind, Result, Str};
 use std::alloc::Global;
-
-/// SHN_LORESERVE: from here on an index names no section.
-const FIRST_RESERVED: u16 = 0xff00;
 
 /// The place of a symbol in the file, by its section.
 fn place_in(section: &Section, symbol: &Symbol) -> Option<u64>
     ensures { result ≡ place_in (section_view section.now) (symbol_view symbol.now) }
 {
-    if section.kind == NOBITS {
+    if section.kind == SHT_NOBITS {
         return None;
     }
     let place = symbol
@@ -46,7 +44,8 @@ fn place_in(section: &Section, symbol: &Symbol) -> Option<u64>
 fn symbol_place(image: &Image<'_>, symbol: &Symbol) -> Result<Option<u64>>
     ensures { Exactly (λ p. p) result (symbol_place image.now (symbol_view symbol.now)) }
 {
-    if symbol.section >= FIRST_RESERVED {
+    // from here on an index names no section
+    if symbol.section >= SHN_LORESERVE {
         return Ok(None);
     }
     match image.section(symbol.section as usize) {

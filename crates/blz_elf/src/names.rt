@@ -14,6 +14,7 @@ use crate::symbols::{Symbol, Symbols};
 use crate::table::Table;
 use crate::text::{bytes_at, name};
 use blz_bytes::NameSpan;
+use blz_constants::elf::SHN_UNDEF;
 use blz_error::{Error, ErrorKind, Result, Str};
 use blz_records::SymType;
 use std::alloc::{AllocError, Global};
@@ -61,7 +62,7 @@ impl Wanted<'_> {
     fn takes(&self, named: &NamedSymbol<'_>) -> bool
         ensures { result ≡ passes self.now (named_view named.now) }
     {
-        if named.symbol.section == 0 {
+        if named.symbol.section == SHN_UNDEF {
             return false;
         }
         match self {

@@ -7,6 +7,7 @@ ghost use Rattle.blz_elf.specs.Needed.{AreInside, HasStandIn, IsSearchable, stan
 ghost use Rattle.blz_elf.specs.Views.{symbol_view};
 
 use crate::symbols::Symbol;
+use blz_constants::elf::SHN_UNDEF;
 use std::alloc::{AllocError, Global};
 
 /// The symbol at the k-th place.
@@ -23,8 +24,8 @@ fn stands_for(earlier: &Symbol, later: &Symbol) -> bool
     ensures { result ≡ stands_for (symbol_view earlier.now) (symbol_view later.now) }
 {
     earlier.value == later.value
-        && (later.section == 0
-            || (earlier.section != 0
+        && (later.section == SHN_UNDEF
+            || (earlier.section != SHN_UNDEF
                 && earlier.kind == later.kind
                 && (later.size != 0 || earlier.size == 0)))
 }

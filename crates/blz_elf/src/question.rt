@@ -4,6 +4,7 @@ ghost use Rattle.blz_elf.specs.SymbolRule.{covers, may_answer};
 ghost use Rattle.blz_elf.specs.Views.{symbol_view};
 
 use crate::symbols::Symbol;
+use blz_constants::elf::SHN_UNDEF;
 use blz_records::SymType;
 
 /// The two tables of symbols (ELF gABI, Symbol Table).
@@ -43,6 +44,6 @@ impl Question {
     pub fn may_be_answered(&self, symbol: &Symbol) -> bool
         ensures { result ≡ may_answer self.now (symbol_view symbol.now) }
     {
-        symbol.section != 0 && self.is_covered(symbol) && symbol.matches(self.sym_type)
+        symbol.section != SHN_UNDEF && self.is_covered(symbol) && symbol.matches(self.sym_type)
     }
 }

@@ -12,11 +12,12 @@ ghost use Rattle.blz_elf.specs.Views.{header_view, section_view};
 
 use crate::entries::{Entry, EntryKind, RelocationEntries, entry_kind, entry_size};
 use crate::format::Format;
-use crate::header::{Header, RELOCATABLE};
+use crate::header::Header;
 use crate::section::{Section, SectionTable, records};
 use crate::span::Rows;
 use crate::symbols::Symbols;
 use crate::table::symbols_of;
+use blz_constants::elf::ET_REL;
 use blz_error::{Error, ErrorKind, Result, Str};
 use blz_moves::SectionRelocations;
 use std::alloc::{AllocError, Global};
@@ -155,7 +156,7 @@ pub fn relocations(
     ensures { Gives (λ m. m) result (relocations_of image.now (header_view header) (sections_in image.now rows)) }
 {
     let mut map = SectionRelocations::empty(alloc);
-    if header.file_type == RELOCATABLE {
+    if header.file_type == ET_REL {
         let sections = SectionTable::open(image, rows);
         relocate_all(alloc, &mut map, image, header.format, &sections)?;
     }

@@ -14,18 +14,10 @@ use crate::format::Format;
 use crate::header::Header;
 use crate::number::word_in;
 use crate::span::{Rows, Span, lie_inside, place_of};
+use blz_constants::elf::{SHF_COMPRESSED, SHN_XINDEX, SHT_NOBITS};
 use blz_error::{Error, ErrorKind, Result, Str};
 use blz_records::u32_in;
 use std::marker::Model;
-
-/// SHT_NOBITS.
-pub const NOBITS: u32 = 8;
-
-/// SHN_XINDEX.
-const XINDEX: u16 = 0xffff;
-
-/// SHF_COMPRESSED.
-const COMPRESSED: u64 = 0x800;
 
 /// What is read of a section header.
 #[derive(Clone, Copy)]
@@ -166,7 +158,7 @@ pub fn raw(image: &[u8], section: &Section) -> Result<Span>
     ensures value { Exactly (span_in image.now) result (raw_data image.now (section_view section.now)) }
     ensures fits { IfOk result (SpanFits image.now) }
 {
-    if section.kind == NOBITS {
+    if section.kind == SHT_NOBITS {
         return Ok(Span { at: 0, len: 0 });
     }
     let at = section.offset as usize;
@@ -183,7 +175,7 @@ pub fn data<'b>(image: &'b [u8], section: &Section, format: Format) -> Result<&'
     ensures { Exactly (λ d. d.now) result (data_of format image.now (section_view section.now)) }
 {
     let span = raw(image, section)?;
-    if section.kind != NOBITS && section.flags & COMPRESSED == COMPRESSED {
+    if section.kind != SHT_NOBITS && section.flags & SHF_COMPRESSED == SHF_COMPRESSED {
         if span.len < format.class.compression_size() {
             return Err(Error::new(
                 ErrorKind::InvalidData,
@@ -218,7 +210,7 @@ pub fn records(image: &[u8], section: &Section, size: usize, format: Format) -> 
     ensures fits { IfOk result (λ r. r.at + size * r.count ≤ length image.now) }
     ensures format { IfOk result (λ r. r.format ≡ format) }
 {
-    if section.kind == NOBITS || section.size == 0 {
+    if section.kind == SHT_NOBITS || section.size == 0 {
         return Ok(Rows {
             format,
             at: 0,
@@ -245,7 +237,7 @@ fn name_index(header: &Header, sections: &SectionTable<'_>) -> usize
     requires { 2 ≤ length sections.now }
     ensures { name_index (header_view header.now) sections.now ≡ Some result }
 {
-    if header.shstrndx == XINDEX {
+    if header.shstrndx == SHN_XINDEX {
         sections.at(0).link as usize
     } else {
         header.shstrndx as usize

@@ -14,15 +14,10 @@ use crate::header::Header;
 use crate::number::word_in;
 use crate::section::first_section;
 use crate::span::{Rows, lie_inside, place_of};
+use blz_constants::elf::{PN_XNUM, PT_LOAD};
 use blz_error::{Error, ErrorKind, Result, Str};
 use blz_records::u32_in;
 use std::marker::Model;
-
-/// PT_LOAD.
-const LOAD: u32 = 1;
-
-/// PN_XNUM.
-const XNUM: u16 = 0xffff;
 
 /// What is read of a program header.
 #[derive(Clone, Copy)]
@@ -42,7 +37,7 @@ impl Segment {
     fn file_place(&self, addr: u64, size: u64) -> Option<u64>
         ensures { result ≡ file_place addr size (segment_view self.now) }
     {
-        if self.kind != LOAD || addr < self.addr {
+        if self.kind != PT_LOAD || addr < self.addr {
             return None;
         }
         let distance = addr - self.addr;
@@ -56,7 +51,7 @@ impl Segment {
     fn address_of(&self, offset: u64) -> Option<u64>
         ensures { result ≡ address_of offset (segment_view self.now) }
     {
-        if self.kind != LOAD || offset < self.offset || offset - self.offset >= self.file_size {
+        if self.kind != PT_LOAD || offset < self.offset || offset - self.offset >= self.file_size {
             return None;
         }
         (offset - self.offset).checked_add(self.addr)
@@ -82,7 +77,7 @@ fn segment_at(image: &[u8], at: usize, format: Format) -> Segment
 fn segment_count(image: &[u8], header: &Header) -> Result<u64>
     ensures { Exactly (λ n. n) result (segment_count image.now (header_view header.now)) }
 {
-    if header.phnum != XNUM {
+    if header.phnum != PN_XNUM {
         return Ok(u64::from(header.phnum));
     }
     if header.shoff == 0 {

@@ -15,6 +15,7 @@ use crate::format::{Class, Format};
 use crate::number::word_in;
 use crate::question::Question;
 use crate::span::{Rows, place_of};
+use blz_constants::elf::{STT_FUNC, STT_GNU_IFUNC, STT_NOTYPE, STT_OBJECT};
 use blz_records::{SymType, u16_in, u32_in};
 use std::marker::Model;
 
@@ -85,9 +86,12 @@ impl Symbol {
         ensures { result ≡ matches self.now.kind sym_type }
     {
         match sym_type {
-            SymType::Undefined => matches!(self.kind, 0 | 1 | 2 | 10),
-            SymType::Function => matches!(self.kind, 0 | 2 | 10),
-            SymType::Variable => matches!(self.kind, 0 | 1),
+            SymType::Undefined => matches!(
+                self.kind,
+                STT_NOTYPE | STT_OBJECT | STT_FUNC | STT_GNU_IFUNC
+            ),
+            SymType::Function => matches!(self.kind, STT_NOTYPE | STT_FUNC | STT_GNU_IFUNC),
+            SymType::Variable => matches!(self.kind, STT_NOTYPE | STT_OBJECT),
         }
     }
 
@@ -96,8 +100,8 @@ impl Symbol {
         ensures { result ≡ type_of (symbol_view self.now) }
     {
         match self.kind {
-            1 => SymType::Variable,
-            2 | 10 => SymType::Function,
+            STT_OBJECT => SymType::Variable,
+            STT_FUNC | STT_GNU_IFUNC => SymType::Function,
             _ => SymType::Undefined,
         }
     }

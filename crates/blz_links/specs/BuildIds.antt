@@ -1,6 +1,7 @@
 -- The build id of an image: in its sections of type SHT_NOTE, else in its segments of type PT_NOTE (ELF gABI, Note
 -- Section).
 use Rattle.std.specs.Prelude.{ℕ, ◌+◌, ◌==◌, List, [], ◌∷◌, length, map, slice_range, nat_le, Option, Some, None, if◌then◌else◌}
+use Rattle.blz_constants.specs.declared.elf.TheConstants.{PT_NOTE, SHT_NOTE}
 use Rattle.blz_error.specs.declared.kind.ErrorKind.TheVariants.{InvalidData}
 use Rattle.blz_model.specs.declared.byte_order.ByteOrder.{ByteOrder}
 use Rattle.blz_model.specs.Part.{Part, Good, Broken, ◌>>=◌}
@@ -22,14 +23,14 @@ Extent = ℕ × ℕ
 -- the bytes of a section of notes, and nothing of another
 abbrev pub section_notes : ElfN Elf64_Shdr Elf32_Shdr → Option Extent
 section_notes s =
-    if by_class (λ r. r.sh_type) (λ r. r.sh_type) s == 7
+    if by_class (λ r. r.sh_type) (λ r. r.sh_type) s == SHT_NOTE
     then Some (by_class (λ r. r.sh_offset) (λ r. r.sh_offset) s, by_class (λ r. r.sh_size) (λ r. r.sh_size) s)
     else None
 
 -- the bytes of a segment of notes, and nothing of another
 abbrev pub segment_notes : ElfN Elf64_Phdr Elf32_Phdr → Option Extent
 segment_notes s =
-    if by_class (λ r. r.p_type) (λ r. r.p_type) s == 4
+    if by_class (λ r. r.p_type) (λ r. r.p_type) s == PT_NOTE
     then Some (by_class (λ r. r.p_offset) (λ r. r.p_offset) s, by_class (λ r. r.p_filesz) (λ r. r.p_filesz) s)
     else None
 

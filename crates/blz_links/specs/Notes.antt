@@ -3,6 +3,7 @@ use Rattle.std.specs.Prelude.{ℕ, zero, suc, ◌+◌, ◌==◌, Bool, ◌&&◌,
 use Rattle.std.specs.Int.{next_multiple_of}
 use Rattle.std.specs.Option.{option_map}
 use Rattle.std.specs.Str.{bytes_eq}
+use Rattle.blz_constants.specs.declared.elf.TheConstants.{NT_GNU_BUILD_ID}
 use Rattle.blz_model.specs.declared.byte_order.ByteOrder.{ByteOrder}
 use Rattle.blz_model.specs.Reads.{Read, ◌>>=◌, number}
 use Rattle.blz_bytes.specs.Pieces.{piece}
@@ -47,7 +48,7 @@ gnu = 0x47 ∷ 0x4e ∷ 0x55 ∷ 0 ∷ []
 
 -- a note of type NT_GNU_BUILD_ID
 abbrev pub is_build_id : NoteValue → Bool
-is_build_id note = (note.kind == 3) && bytes_eq note.name gnu
+is_build_id note = (note.kind == NT_GNU_BUILD_ID) && bytes_eq note.name gnu
 
 -- the descriptor of the first of some notes that is a build id
 abbrev pub build_id_among : List NoteValue → Option (List ℕ)

@@ -7,14 +7,9 @@ ghost use Rattle.blz_links.specs.BuildIds.{build_id_of, extent_build_id, first_b
 use crate::notes::noted_build_id;
 use crate::refusal::invalid;
 use blz_bytes::{ByteOrder, piece_at};
+use blz_constants::elf::{PT_NOTE, SHT_NOTE};
 use blz_elf::{ElfN_Phdr, ElfN_Phdrs, ElfN_Shdr, ElfN_Shdrs, ElfParser};
 use blz_error::Result;
-
-/// SHT_NOTE.
-const NOTE_SECTION: u32 = 7;
-
-/// PT_NOTE.
-const NOTE_SEGMENT: u32 = 4;
 
 // the build id in the notes that some bytes of an image hold
 fn build_id_at<'b>(
@@ -39,7 +34,7 @@ fn in_section<'b>(
 ) -> Result<Option<&'b [u8]>>
     ensures { Exactly (option_map (λ id. id.now)) result (extent_build_id order image.now (section_notes section.now)) }
 {
-    if section.type_() != NOTE_SECTION {
+    if section.type_() != SHT_NOTE {
         return Ok(None);
     }
     build_id_at(image, order, section.offset(), section.size())
@@ -53,7 +48,7 @@ fn in_segment<'b>(
 ) -> Result<Option<&'b [u8]>>
     ensures { Exactly (option_map (λ id. id.now)) result (extent_build_id order image.now (segment_notes segment.now)) }
 {
-    if segment.type_() != NOTE_SEGMENT {
+    if segment.type_() != PT_NOTE {
         return Ok(None);
     }
     build_id_at(image, order, segment.offset(), segment.file_size())

@@ -5,9 +5,7 @@ ghost use Rattle.blz_links.specs.Notes.{build_id_among, is_build_id, note_at, no
 ghost use Rattle.blz_links.specs.NoteViews.{note_view};
 
 use blz_bytes::{ByteOrder, piece_at, u32_at};
-
-/// NT_GNU_BUILD_ID.
-const BUILD_ID: u32 = 3;
+use blz_constants::elf::NT_GNU_BUILD_ID;
 
 /// A note: its type, its name and its descriptor.
 #[derive(Clone, Copy)]
@@ -22,7 +20,7 @@ impl<'b> Note<'b> {
     fn is_build_id(&self) -> bool
         ensures { result ≡ is_build_id (note_view self.now) }
     {
-        self.kind == BUILD_ID && self.name == b"GNU\0".as_slice()
+        self.kind == NT_GNU_BUILD_ID && self.name == b"GNU\0".as_slice()
     }
 }
 
