@@ -46,8 +46,8 @@ fn found_in<L: Ledger>(index: &RangeIndex, count: u64, blank: Blank) -> u64
     let mut steps: Steps<L> = Steps::new(blank);
     let mut found: u64 = 0;
     for place in 0..count {
-        let probe = begin(place, count).wrapping_add(SIZE / 2);
-        if index.best_at(probe, &mut steps).is_some() {
+        let addr = begin(place, count).wrapping_add(SIZE / 2);
+        if index.best_at(addr, &mut steps).is_some() {
             found = found.saturating_add(1);
         }
     }

@@ -81,17 +81,17 @@ impl Functions {
     }
 
     /// The place of the best range that covers an address: the greatest begin, then the earlier place.
-    pub fn find_address<L: Ledger>(&self, probe: u64, steps: &mut Steps<L>) -> Option<usize>
-        ensures best { result ≡ best (items_of self.now.ranges) probe }
+    pub fn find_address<L: Ledger>(&self, addr: u64, steps: &mut Steps<L>) -> Option<usize>
+        ensures best { result ≡ best (items_of self.now.ranges) addr }
         ensures cost { self.now.ordered ≡ true → AreApart (items_of self.now.ranges) → 2 ^ (steps.new - steps.old) ≤ 4 * (2 * length self.now.ranges + 1) }
     {
-        self.ranges.best_at(probe, steps)
+        self.ranges.best_at(addr, steps)
     }
 
     /// The number of the function whose range is the best that covers an address.
-    pub fn find_function(&self, probe: u64) -> Option<usize>
-        ensures { result ≡ best_owner self.now.ranges probe }
+    pub fn find_function(&self, addr: u64) -> Option<usize>
+        ensures { result ≡ best_owner self.now.ranges addr }
     {
-        self.ranges.find(probe)
+        self.ranges.find(addr)
     }
 }

@@ -82,14 +82,14 @@ impl InlinedFunctions {
     /// The call of a depth whose range is the best of those that cover an address.
     pub fn at_depth<L: Ledger>(
         &self,
-        probe: u64,
+        addr: u64,
         depth: usize,
         steps: &mut Steps<L>,
     ) -> Option<usize>
-        ensures best { result ≡ at_depth self.now.ranges probe depth }
+        ensures best { result ≡ at_depth self.now.ranges addr depth }
         ensures cost { self.now.ordered ≡ true → AreApartInGroups (items_of self.now.ranges) → 2 ^ (steps.new - steps.old) ≤ 4 * (2 * length self.now.ranges + 1) }
     {
-        let place = self.index.best_in(depth, probe, steps);
+        let place = self.index.best_in(depth, addr, steps);
         self.owner(place)
     }
 
@@ -111,19 +111,19 @@ impl InlinedFunctions {
     fn chain<L: Ledger>(
         &self,
         alloc: Global,
-        probe: u64,
+        addr: u64,
         blank: Blank,
     ) -> Result<Vec<usize>, AllocError>
         requires name { blank.name ≡ L.name }
         requires parts { blank.parts ≡ L.parts }
         requires some { 0 < blank.parts }
-        ensures { IfOk result (λ v. v.items ≡ chain self.now.ranges (length self.now.calls) probe) }
+        ensures { IfOk result (λ v. v.items ≡ chain self.now.ranges (length self.now.calls) addr) }
     {
         let mut steps: Steps<L> = Steps::new(blank);
         let mut chain = Vec::new(alloc);
         let limit = self.count();
         for depth in 0..limit {
-            match self.at_depth(probe, depth, &mut steps) {
+            match self.at_depth(addr, depth, &mut steps) {
                 Some(call) => chain.push(call)?,
                 None => return Ok(chain),
             }
@@ -133,15 +133,11 @@ impl InlinedFunctions {
 
     /// The calls that cover an address, the outermost first: those of depth 0, 1, 2 and so on, up to the first depth
     /// without one. Only want of memory is refused.
-    pub fn find_inlined_functions(
-        &self,
-        alloc: Global,
-        probe: u64,
-    ) -> Result<Vec<usize>, AllocError>
-        ensures chain { IfOk result (λ v. v.items ≡ chain self.now.ranges (length self.now.calls) probe) }
-        ensures path { IfOk result (λ v. (tree : List TreeCall) → self.now.ranges ≡ ranges_of 0 tree → length self.now.calls ≡ length tree → IsTree tree → IsNested tree → IsPath tree probe v.items) }
+    pub fn find_inlined_functions(&self, alloc: Global, addr: u64) -> Result<Vec<usize>, AllocError>
+        ensures chain { IfOk result (λ v. v.items ≡ chain self.now.ranges (length self.now.calls) addr) }
+        ensures path { IfOk result (λ v. (tree : List TreeCall) → self.now.ranges ≡ ranges_of 0 tree → length self.now.calls ≡ length tree → IsTree tree → IsNested tree → IsPath tree addr v.items) }
     {
-        let chain = self.chain::<Brand>(alloc, probe, Blank::new(1))?;
+        let chain = self.chain::<Brand>(alloc, addr, Blank::new(1))?;
         Ok(chain)
     }
 }

@@ -43,16 +43,16 @@ impl<'r, 's, 'b> Reader<'r, 's, 'b> {
         caches: &mut Caches,
         number: usize,
         function: usize,
-        probe: u64,
+        addr: u64,
     ) -> Result<Vec<InlinedFunction>>
         requires readable { IsReadable self.now.dwarf.now }
         requires fits { AllFit (reader_files self.now) (reader_table self.now) caches.old }
-        ensures value { Gives (λ v. v.items) result (or_invalid (covering_calls (reader_files self.now) (reader_table self.now) probe number function)) }
+        ensures value { Gives (λ v. v.items) result (or_invalid (covering_calls (reader_files self.now) (reader_table self.now) addr number function)) }
         ensures fits { AllFit (reader_files self.now) (reader_table self.now) caches.new }
         ensures grows { UnitsGrowTo O.pair_places caches.old.units.items caches.new.units.items }
     {
         self.fill_calls(orders, caches, number, function)?;
-        chain_at(self.alloc, caches.units.as_slice(), number, function, probe)
+        chain_at(self.alloc, caches.units.as_slice(), number, function, addr)
     }
 
     /// Where a call stands in a file of its function's unit.
@@ -158,15 +158,15 @@ impl<'r, 's, 'b> Reader<'r, 's, 'b> {
         caches: &mut Caches,
         number: usize,
         function: usize,
-        probe: u64,
+        addr: u64,
     ) -> Result<InlinedSites<'b>>
         requires readable { IsReadable self.now.dwarf.now }
         requires fits { AllFit (reader_files self.now) (reader_table self.now) caches.old }
-        ensures value { Gives (λ s. s) result (inlined_at self.now.dwarf.now.texts (reader_files self.now) (reader_table self.now) probe number function) }
+        ensures value { Gives (λ s. s) result (inlined_at self.now.dwarf.now.texts (reader_files self.now) (reader_table self.now) addr number function) }
         ensures fits { AllFit (reader_files self.now) (reader_table self.now) caches.new }
         ensures grows { UnitsGrowTo O.pair_places caches.old.units.items caches.new.units.items }
     {
-        let calls = self.chain_in(orders, caches, number, function, probe)?;
+        let calls = self.chain_in(orders, caches, number, function, addr)?;
         self.inlined_each(orders, caches, number, calls.as_slice())
     }
 }

@@ -28,10 +28,10 @@ use std::sync::ledger::Ledger;
 fn first_function<L: Ledger>(
     units: &[UnitCaches],
     announcing: &mut UnitsAt<'_>,
-    probe: u64,
+    addr: u64,
     steps: &mut Steps<L>,
 ) -> Result<Option<(usize, usize)>>
-    ensures value { Repeats (λ r. r) result (first_kept units.now probe announcing.old.left) }
+    ensures value { Repeats (λ r. r) result (first_kept units.now addr announcing.old.left) }
     ensures there { IfOk result (λ r. IfSome r (λ r. is_value (functions_at units.now r.0) ≡ true)) }
 {
     loop {
@@ -39,7 +39,7 @@ fn first_function<L: Ledger>(
             Some(number) => number,
             None => return Ok(None),
         };
-        match unit_looks::function_at(units, number, probe, steps) {
+        match unit_looks::function_at(units, number, addr, steps) {
             Ok(Some(function)) => return Ok(Some((number, function))),
             Ok(None) => {},
             Err(fault) => return Err(fault),
@@ -52,17 +52,17 @@ fn first_location<'b, L: Ledger>(
     units: &[UnitCaches],
     announcing: &mut UnitsAt<'_>,
     texts: &Texts<'b>,
-    probe: u64,
+    addr: u64,
     steps: &mut Steps<L>,
 ) -> Result<Option<Location<'b>>>
-    ensures { Repeats (λ o. option_map location_view o) result (first_kept_line texts.now units.now probe announcing.old.left) }
+    ensures { Repeats (λ o. option_map location_view o) result (first_kept_line texts.now units.now addr announcing.old.left) }
 {
     loop {
         let number = match announcing.next_unit(steps) {
             Some(number) => number,
             None => return Ok(None),
         };
-        match unit_looks::location_at(units, texts, number, probe) {
+        match unit_looks::location_at(units, texts, number, addr) {
             Ok(Some(location)) => return Ok(Some(location)),
             Ok(None) => {},
             Err(fault) => return Err(fault),
@@ -74,12 +74,12 @@ fn first_location<'b, L: Ledger>(
 fn function_of<L: Ledger>(
     units: &[UnitCaches],
     announcing: &mut UnitsAt<'_>,
-    probe: u64,
+    addr: u64,
     steps: &mut Steps<L>,
 ) -> Result<Option<(usize, usize)>>
     requires fresh { announcing.old.fresh ≡ true }
     requires all { announcing.old.left ≡ owners_of announcing.old.announced.ranges (covering (items_of announcing.old.announced.ranges) announcing.old.address) }
-    ensures value { Repeats (λ r. r) result (first_kept units.now probe announcing.old.left) }
+    ensures value { Repeats (λ r. r) result (first_kept units.now addr announcing.old.left) }
     ensures there { IfOk result (λ r. IfSome r (λ r. is_value (functions_at units.now r.0) ≡ true)) }
     ensures cost { FewLooks announcing.old.announced units.now result (steps.new - steps.old) }
 {
@@ -87,9 +87,9 @@ fn function_of<L: Ledger>(
         Some(number) => number,
         None => return Ok(None),
     };
-    match unit_looks::function_at(units, number, probe, steps) {
+    match unit_looks::function_at(units, number, addr, steps) {
         Ok(Some(function)) => Ok(Some((number, function))),
-        Ok(None) => first_function(units, announcing, probe, steps),
+        Ok(None) => first_function(units, announcing, addr, steps),
         Err(fault) => Err(fault),
     }
 }
@@ -99,16 +99,16 @@ impl Units {
     /// entries than two halvings need, where no two ranges share an address and both orders were accepted.
     pub fn find_function_prepared<L: Ledger>(
         &self,
-        probe: u64,
+        addr: u64,
         steps: &mut Steps<L>,
     ) -> Result<Option<(usize, usize)>>
         requires { units_prepared self.now ≡ true }
-        ensures value { (f : Files) → UnitsFit f self.now → Exactly (λ r. r) result (or_invalid (function_at f (units_table self.now) probe)) }
+        ensures value { (f : Files) → UnitsFit f self.now → Exactly (λ r. r) result (or_invalid (function_at f (units_table self.now) addr)) }
         ensures there { IfOk result (λ r. IfSome r (λ r. functions_kept self.now r.0 ≡ true)) }
         ensures cost { LooksFew self.now result (steps.new - steps.old) }
     {
-        let mut announcing = UnitsAt::new(&self.table.announced, probe);
-        function_of(self.caches.units.as_slice(), &mut announcing, probe, steps)
+        let mut announcing = UnitsAt::new(&self.table.announced, addr);
+        function_of(self.caches.units.as_slice(), &mut announcing, addr, steps)
     }
 
     /// The language of a unit, as `language` has it, from what is kept: it takes no memory.
@@ -124,18 +124,18 @@ impl Units {
     pub fn find_location_prepared<'b, L: Ledger>(
         &self,
         texts: &Texts<'b>,
-        probe: u64,
+        addr: u64,
         steps: &mut Steps<L>,
     ) -> Result<Option<Location<'b>>>
         requires { units_prepared self.now ≡ true }
-        ensures { (f : Files) → UnitsFit f self.now → Exactly (λ o. option_map location_view o) result (location_at texts.now f (units_table self.now) probe) }
+        ensures { (f : Files) → UnitsFit f self.now → Exactly (λ o. option_map location_view o) result (location_at texts.now f (units_table self.now) addr) }
     {
-        let mut announcing = UnitsAt::new(&self.table.announced, probe);
+        let mut announcing = UnitsAt::new(&self.table.announced, addr);
         first_location(
             self.caches.units.as_slice(),
             &mut announcing,
             texts,
-            probe,
+            addr,
             steps,
         )
     }

@@ -45,18 +45,18 @@ impl<'r, 's, 'b> Reader<'r, 's, 'b> {
         orders: &mut O,
         caches: &mut Caches,
         number: usize,
-        probe: u64,
+        addr: u64,
         steps: &mut Steps<L>,
     ) -> Result<Option<usize>>
         requires readable { IsReadable self.now.dwarf.now }
         requires fits { AllFit (reader_files self.now) (reader_table self.now) caches.old }
-        ensures value { Gives (λ n. n) result (or_invalid (best_function (reader_files self.now) (reader_table self.now) probe number)) }
+        ensures value { Gives (λ n. n) result (or_invalid (best_function (reader_files self.now) (reader_table self.now) addr number)) }
         ensures there { IfOk result (λ _. is_value (functions_at caches.new.units.items number) ≡ true) }
         ensures fits { AllFit (reader_files self.now) (reader_table self.now) caches.new }
         ensures grows { UnitsGrowTo O.pair_places caches.old.units.items caches.new.units.items }
     {
         self.fill_functions(orders, caches, number)?;
-        unit_looks::function_at(caches.units.as_slice(), number, probe, steps)
+        unit_looks::function_at(caches.units.as_slice(), number, addr, steps)
     }
 
     /// The function of an address, of the units that announce it.
@@ -64,7 +64,7 @@ impl<'r, 's, 'b> Reader<'r, 's, 'b> {
         &self,
         orders: &mut O,
         caches: &mut Caches,
-        probe: u64,
+        addr: u64,
         blank: Blank,
     ) -> Result<Option<(usize, usize)>>
         requires name { blank.name ≡ L.name }
@@ -72,19 +72,19 @@ impl<'r, 's, 'b> Reader<'r, 's, 'b> {
         requires some { 0 < blank.parts }
         requires readable { IsReadable self.now.dwarf.now }
         requires fits { AllFit (reader_files self.now) (reader_table self.now) caches.old }
-        ensures value { Gives (λ r. r) result (or_invalid (function_at (reader_files self.now) (reader_table self.now) probe)) }
+        ensures value { Gives (λ r. r) result (or_invalid (function_at (reader_files self.now) (reader_table self.now) addr)) }
         ensures there { IfOk result (λ r. IfSome r (λ r. is_value (functions_at caches.new.units.items r.0) ≡ true)) }
         ensures fits { AllFit (reader_files self.now) (reader_table self.now) caches.new }
         ensures grows { UnitsGrowTo O.pair_places caches.old.units.items caches.new.units.items }
     {
         let mut steps: Steps<L> = Steps::new(blank);
-        let mut units = UnitsAt::new(&self.table.announced, probe);
+        let mut units = UnitsAt::new(&self.table.announced, addr);
         loop {
             let number = match units.next_unit(&mut steps) {
                 Some(number) => number,
                 None => return Ok(None),
             };
-            match self.function_in(orders, caches, number, probe, &mut steps) {
+            match self.function_in(orders, caches, number, addr, &mut steps) {
                 Ok(Some(function)) => return Ok(Some((number, function))),
                 Ok(None) => {},
                 Err(fault) => return Err(fault),
@@ -98,16 +98,16 @@ impl<'r, 's, 'b> Reader<'r, 's, 'b> {
         orders: &mut O,
         caches: &mut Caches,
         number: usize,
-        probe: u64,
+        addr: u64,
     ) -> Result<Option<Location<'b>>>
         requires readable { IsReadable self.now.dwarf.now }
         requires fits { AllFit (reader_files self.now) (reader_table self.now) caches.old }
-        ensures value { Gives (λ o. option_map location_view o) result (line_in self.now.dwarf.now.texts (reader_files self.now) (reader_table self.now) probe number) }
+        ensures value { Gives (λ o. option_map location_view o) result (line_in self.now.dwarf.now.texts (reader_files self.now) (reader_table self.now) addr number) }
         ensures fits { AllFit (reader_files self.now) (reader_table self.now) caches.new }
         ensures grows { UnitsGrowTo O.pair_places caches.old.units.items caches.new.units.items }
     {
         self.fill_lines(orders, caches, number)?;
-        unit_looks::location_at(caches.units.as_slice(), &self.dwarf.texts, number, probe)
+        unit_looks::location_at(caches.units.as_slice(), &self.dwarf.texts, number, addr)
     }
 
     /// The place of an address in the sources, of the units that announce it.
@@ -115,7 +115,7 @@ impl<'r, 's, 'b> Reader<'r, 's, 'b> {
         &self,
         orders: &mut O,
         caches: &mut Caches,
-        probe: u64,
+        addr: u64,
         blank: Blank,
     ) -> Result<Option<Location<'b>>>
         requires name { blank.name ≡ L.name }
@@ -123,18 +123,18 @@ impl<'r, 's, 'b> Reader<'r, 's, 'b> {
         requires some { 0 < blank.parts }
         requires readable { IsReadable self.now.dwarf.now }
         requires fits { AllFit (reader_files self.now) (reader_table self.now) caches.old }
-        ensures value { Gives (λ o. option_map location_view o) result (location_at self.now.dwarf.now.texts (reader_files self.now) (reader_table self.now) probe) }
+        ensures value { Gives (λ o. option_map location_view o) result (location_at self.now.dwarf.now.texts (reader_files self.now) (reader_table self.now) addr) }
         ensures fits { AllFit (reader_files self.now) (reader_table self.now) caches.new }
         ensures grows { UnitsGrowTo O.pair_places caches.old.units.items caches.new.units.items }
     {
         let mut steps: Steps<L> = Steps::new(blank);
-        let mut units = UnitsAt::new(&self.table.announced, probe);
+        let mut units = UnitsAt::new(&self.table.announced, addr);
         loop {
             let number = match units.next_unit(&mut steps) {
                 Some(number) => number,
                 None => return Ok(None),
             };
-            match self.location_in(orders, caches, number, probe) {
+            match self.location_in(orders, caches, number, addr) {
                 Ok(Some(location)) => return Ok(Some(location)),
                 Ok(None) => {},
                 Err(fault) => return Err(fault),

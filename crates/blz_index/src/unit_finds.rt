@@ -28,9 +28,9 @@ impl Units {
     }
 
     /// The units that announce an address: the greatest begin first, then the earlier place.
-    pub fn find_units(&self, probe: u64) -> UnitsAt<'_>
-        ensures { result ≡ announced_at (units_table self.now) (announced_ordered self.now) probe }
+    pub fn find_units(&self, addr: u64) -> UnitsAt<'_>
+        ensures { result ≡ announced_at (units_table self.now) (announced_ordered self.now) addr }
     {
-        self.table.find_units(probe)
+        self.table.find_units(addr)
     }
 }

@@ -123,15 +123,11 @@ pub fn language_of(units: &[UnitCaches], number: usize) -> Result<SrcLang>
 }
 
 /// The number of the function whose range is the best that covers an address.
-fn best_function<L: Ledger>(
-    functions: &Functions,
-    probe: u64,
-    steps: &mut Steps<L>,
-) -> Option<usize>
-    ensures best { result ≡ best_owner functions.now.ranges probe }
+fn best_function<L: Ledger>(functions: &Functions, addr: u64, steps: &mut Steps<L>) -> Option<usize>
+    ensures best { result ≡ best_owner functions.now.ranges addr }
     ensures cost { functions.now.ordered ≡ true → AreApart (items_of functions.now.ranges) → 2 ^ (steps.new - steps.old) ≤ 4 * (2 * length functions.now.ranges + 1) }
 {
-    match functions.find_address(probe, steps) {
+    match functions.find_address(addr, steps) {
         Some(place) => functions.function_of(place),
         None => None,
     }
@@ -141,14 +137,14 @@ fn best_function<L: Ledger>(
 pub fn function_at<L: Ledger>(
     units: &[UnitCaches],
     number: usize,
-    probe: u64,
+    addr: u64,
     steps: &mut Steps<L>,
 ) -> Result<Option<usize>>
-    ensures value { Repeats (λ n. n) result (kept_best units.now probe number) }
+    ensures value { Repeats (λ n. n) result (kept_best units.now addr number) }
     ensures cost { has_order (functions_at units.now number) ≡ true → AreApart (items_of (ranges_in (functions_at units.now number))) → 2 ^ (steps.new - steps.old) ≤ 4 * (2 * length (ranges_in (functions_at units.now number)) + 1) }
 {
     match functions_of(units, number) {
-        Ok(functions) => Ok(best_function(functions, probe, steps)),
+        Ok(functions) => Ok(best_function(functions, addr, steps)),
         Err(fault) => Err(fault),
     }
 }
@@ -169,12 +165,12 @@ pub fn location_at<'b>(
     units: &[UnitCaches],
     texts: &Texts<'b>,
     number: usize,
-    probe: u64,
+    addr: u64,
 ) -> Result<Option<Location<'b>>>
-    ensures { Repeats (λ o. option_map location_view o) result (kept_line texts.now units.now probe number) }
+    ensures { Repeats (λ o. option_map location_view o) result (kept_line texts.now units.now addr number) }
 {
     match lines_of(units, number)? {
-        Some(lines) => lines.find_location(texts, probe),
+        Some(lines) => lines.find_location(texts, addr),
         None => Ok(None),
     }
 }
@@ -209,12 +205,12 @@ pub fn chain_at(
     units: &[UnitCaches],
     number: usize,
     function: usize,
-    probe: u64,
+    addr: u64,
 ) -> Result<Vec<InlinedFunction>>
-    ensures { Gives (λ v. v.items) result (kept_chain units.now probe number function) }
+    ensures { Gives (λ v. v.items) result (kept_chain units.now addr number function) }
 {
     let calls = calls_of(units, number, function)?;
-    let numbers = calls.find_inlined_functions(alloc, probe)?;
+    let numbers = calls.find_inlined_functions(alloc, addr)?;
     chosen(alloc, calls.calls(), numbers.as_slice())
 }
 

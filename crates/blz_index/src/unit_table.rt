@@ -117,9 +117,9 @@ impl UnitTable {
     }
 
     /// The units that announce an address.
-    pub fn find_units(&self, probe: u64) -> UnitsAt<'_>
-        ensures { result ≡ announced_at (table_view self.now) self.now.announced.ordered probe }
+    pub fn find_units(&self, addr: u64) -> UnitsAt<'_>
+        ensures { result ≡ announced_at (table_view self.now) self.now.announced.ordered addr }
     {
-        UnitsAt::new(&self.announced, probe)
+        UnitsAt::new(&self.announced, addr)
     }
 }

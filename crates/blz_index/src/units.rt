@@ -91,11 +91,11 @@ impl Units {
         alloc: Global,
         orders: &mut O,
         dwarf: &Dwarf<'_, '_>,
-        probe: u64,
+        addr: u64,
     ) -> Result<Option<(usize, usize)>>
         requires readable { IsReadable dwarf.now }
         requires fits { UnitsFit (files_view dwarf.now) self.old }
-        ensures value { Gives (λ r. r) result (or_invalid (function_at (files_view dwarf.now) (units_table self.old) probe)) }
+        ensures value { Gives (λ r. r) result (or_invalid (function_at (files_view dwarf.now) (units_table self.old) addr)) }
         ensures there { IfOk result (λ r. IfSome r (λ r. functions_kept self.new r.0 ≡ true)) }
         ensures fits { UnitsFit (files_view dwarf.now) self.new }
         ensures prepared { units_prepared self.new ≡ units_prepared self.old }
@@ -106,7 +106,7 @@ impl Units {
             dwarf,
             table: &self.table,
         };
-        reader.find_function::<O, Brand>(orders, &mut self.caches, probe, Blank::new(1))
+        reader.find_function::<O, Brand>(orders, &mut self.caches, addr, Blank::new(1))
     }
 
     /// The place of an address in the sources: of the units that announce the address, greatest begin first, the first
@@ -117,11 +117,11 @@ impl Units {
         alloc: Global,
         orders: &mut O,
         dwarf: &Dwarf<'_, 'b>,
-        probe: u64,
+        addr: u64,
     ) -> Result<Option<Location<'b>>>
         requires readable { IsReadable dwarf.now }
         requires fits { UnitsFit (files_view dwarf.now) self.old }
-        ensures value { Gives (λ o. option_map location_view o) result (location_at dwarf.now.texts (files_view dwarf.now) (units_table self.old) probe) }
+        ensures value { Gives (λ o. option_map location_view o) result (location_at dwarf.now.texts (files_view dwarf.now) (units_table self.old) addr) }
         ensures fits { UnitsFit (files_view dwarf.now) self.new }
         ensures prepared { units_prepared self.new ≡ units_prepared self.old }
         ensures grows { UnitsGrow O.pair_places self.old self.new }
@@ -131,7 +131,7 @@ impl Units {
             dwarf,
             table: &self.table,
         };
-        reader.find_location::<O, Brand>(orders, &mut self.caches, probe, Blank::new(1))
+        reader.find_location::<O, Brand>(orders, &mut self.caches, addr, Blank::new(1))
     }
 
     /// The inlined calls of a function of a unit that cover an address, the outermost first, each with its name and the
@@ -142,14 +142,14 @@ impl Units {
         alloc: Global,
         orders: &mut O,
         dwarf: &Dwarf<'_, 'b>,
-        probe: u64,
+        addr: u64,
         unit: usize,
         function: usize,
     ) -> Result<InlinedSites<'b>>
         requires readable { IsReadable dwarf.now }
         requires fits { UnitsFit (files_view dwarf.now) self.old }
         requires there { unit < length (units_table self.old).kept }
-        ensures value { Gives (λ s. s) result (inlined_at dwarf.now.texts (files_view dwarf.now) (units_table self.old) probe unit function) }
+        ensures value { Gives (λ s. s) result (inlined_at dwarf.now.texts (files_view dwarf.now) (units_table self.old) addr unit function) }
         ensures fits { UnitsFit (files_view dwarf.now) self.new }
         ensures prepared { units_prepared self.new ≡ units_prepared self.old }
         ensures grows { UnitsGrow O.pair_places self.old self.new }
@@ -159,7 +159,7 @@ impl Units {
             dwarf,
             table: &self.table,
         };
-        reader.find_inlined(orders, &mut self.caches, unit, function, probe)
+        reader.find_inlined(orders, &mut self.caches, unit, function, addr)
     }
 
     /// A function of a unit by its number; Some exactly where the functions of the unit are kept, and the number is among

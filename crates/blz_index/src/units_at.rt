@@ -29,7 +29,7 @@ enum Turn {
 #[derive(Drop)]
 pub struct UnitsAt<'u> {
     announced: &'u OwnedRanges,
-    probe: u64,
+    addr: u64,
     turn: Turn,
 }
 
@@ -40,9 +40,9 @@ impl<'u> Model for UnitsAt<'u> {
 
     ghost Value = { Announcing };
 
-    ghost view = { λ u. record { announced = u.announced.now; address = u.probe; left = owners_of u.announced.now.ranges (places_left u.announced.now.ranges u.probe u.turn); fresh = is_first u.turn } };
+    ghost view = { λ u. record { announced = u.announced.now; address = u.addr; left = owners_of u.announced.now.ranges (places_left u.announced.now.ranges u.addr u.turn); fresh = is_first u.turn } };
 
-    ghost invariant = { λ u. IsTurn u.announced.now.ranges u.probe u.turn };
+    ghost invariant = { λ u. IsTurn u.announced.now.ranges u.addr u.turn };
 }
 
 fn turn_of(place: Option<usize>) -> Turn
@@ -57,17 +57,17 @@ fn turn_of(place: Option<usize>) -> Turn
 /// The place of the range whose turn it is.
 fn next_place<L: Ledger>(
     announced: &OwnedRanges,
-    probe: u64,
+    addr: u64,
     turn: Turn,
     steps: &mut Steps<L>,
 ) -> Option<usize>
-    requires { IsTurn announced.now.ranges probe turn }
-    ensures place { result ≡ slice_get (places_left announced.now.ranges probe turn) 0 }
+    requires { IsTurn announced.now.ranges addr turn }
+    ensures place { result ≡ slice_get (places_left announced.now.ranges addr turn) 0 }
     ensures cost { is_first turn ≡ true → announced.now.ordered ≡ true → AreApart (items_of announced.now.ranges) → 2 ^ (steps.new - steps.old) ≤ 4 * (2 * length announced.now.ranges + 1) }
 {
     match turn {
-        Turn::First => announced.best_at(probe, steps),
-        Turn::After(place) => announced.next_below(probe, place, steps),
+        Turn::First => announced.best_at(addr, steps),
+        Turn::After(place) => announced.next_below(addr, place, steps),
         Turn::Over => None,
     }
 }
@@ -84,12 +84,12 @@ fn owner_of(announced: &OwnedRanges, place: Option<usize>) -> Option<usize>
 
 impl<'u> UnitsAt<'u> {
     /// The units that announce an address.
-    pub(crate) fn new(announced: &'u OwnedRanges, probe: u64) -> UnitsAt<'u>
-        ensures { result ≡ record { announced = announced.now; address = probe; left = owners_of announced.now.ranges (covering (items_of announced.now.ranges) probe); fresh = true } }
+    pub(crate) fn new(announced: &'u OwnedRanges, addr: u64) -> UnitsAt<'u>
+        ensures { result ≡ record { announced = announced.now; address = addr; left = owners_of announced.now.ranges (covering (items_of announced.now.ranges) addr); fresh = true } }
     {
         UnitsAt {
             announced,
-            probe,
+            addr,
             turn: Turn::First,
         }
     }
@@ -101,7 +101,7 @@ impl<'u> UnitsAt<'u> {
         ensures left { self.new ≡ record self.old { left = drop 1 self.old.left; fresh = false } }
         ensures cost { self.old.fresh ≡ true → self.old.announced.ordered ≡ true → AreApart (items_of self.old.announced.ranges) → 2 ^ (steps.new - steps.old) ≤ 4 * (2 * length self.old.announced.ranges + 1) }
     {
-        let place = next_place(self.announced, self.probe, self.turn, steps);
+        let place = next_place(self.announced, self.addr, self.turn, steps);
         self.turn = turn_of(place);
         owner_of(self.announced, place)
     }

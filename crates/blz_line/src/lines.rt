@@ -180,28 +180,28 @@ impl Lines {
         Some(file_text(texts, &file))
     }
 
-    fn best_place(&self, probe: u64) -> Option<usize>
-        ensures { result ≡ best (spans_of self.now.table.sequences) probe }
+    fn best_place(&self, addr: u64) -> Option<usize>
+        ensures { result ≡ best (spans_of self.now.table.sequences) addr }
     {
-        self.index.find(probe)
+        self.index.find(addr)
     }
 
-    fn row_in(&self, probe: u64) -> Option<LineRow>
-        ensures { result ≡ row_in self.now.table.sequences probe }
+    fn row_in(&self, addr: u64) -> Option<LineRow>
+        ensures { result ≡ row_in self.now.table.sequences addr }
     {
-        let place = self.best_place(probe)?;
+        let place = self.best_place(addr)?;
         let sequence = self.sequences.get(place)?;
-        row_at(sequence.rows(), probe)
+        row_at(sequence.rows(), addr)
     }
 
     /// The place in the sources of an address: the last row that does not begin behind it, in the sequence that covers it
     /// and begins last; None where no sequence covers it. InvalidDwarf exactly where the row's file is not in the table.
     /// The texts are those of the sections that were parsed.
     #[tactic(auto, unfolding(crate::specs::Lookups::row_site))]
-    pub fn find_location<'b>(&self, texts: &Texts<'b>, probe: u64) -> Result<Option<Location<'b>>>
-        ensures { Exactly (λ o. option_map location_view o) result (line_at texts.now self.now.table probe) }
+    pub fn find_location<'b>(&self, texts: &Texts<'b>, addr: u64) -> Result<Option<Location<'b>>>
+        ensures { Exactly (λ o. option_map location_view o) result (line_at texts.now self.now.table addr) }
     {
-        let Some(row) = self.row_in(probe) else {
+        let Some(row) = self.row_in(addr) else {
             return Ok(None);
         };
         match self.file(texts, row.file_index) {

@@ -26,12 +26,12 @@ pub fn spans_of(alloc: Global, sequences: &[LineSequence]) -> Result<Vec<Span>, 
         .collect(alloc)
 }
 
-/// The last row whose address is not above the probe.
-pub fn row_at(rows: &[LineRow], probe: u64) -> Option<LineRow>
+/// The last row whose address is not above the addr.
+pub fn row_at(rows: &[LineRow], addr: u64) -> Option<LineRow>
     requires { IsRising rows.now }
-    ensures { result ≡ row_at rows.now probe }
+    ensures { result ≡ row_at rows.now addr }
 {
-    let count = rows.partition_point(|row| row.address <= probe);
+    let count = rows.partition_point(|row| row.address <= addr);
     if count == 0 {
         return None;
     }

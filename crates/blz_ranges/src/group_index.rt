@@ -40,12 +40,12 @@ fn preferred(
     place: usize,
     best: Option<Placed>,
     group: usize,
-    probe: u64,
+    addr: u64,
     after: &Option<Placed>,
 ) -> Option<Placed>
-    ensures { result ≡ (if (group_is group (Some range.now) && passes probe after.now place range.now.span) then better (record { place = place; span = range.now.span }) best else best) }
+    ensures { result ≡ (if (group_is group (Some range.now) && passes addr after.now place range.now.span) then better (record { place = place; span = range.now.span }) best else best) }
 {
-    if range.group == group && passes(probe, after, place, &range.span) {
+    if range.group == group && passes(addr, after, place, &range.span) {
         Placed {
             place,
             span: range.span,
@@ -61,11 +61,11 @@ fn preferred(
 fn scan<L: Ledger>(
     list: &Counted<Grouped>,
     group: usize,
-    probe: u64,
+    addr: u64,
     after: &Option<Placed>,
     steps: &mut Steps<L>,
 ) -> Option<Placed>
-    ensures { result ≡ best_by (in_group list.now group (passes probe after.now)) 0 (spans_of list.now) }
+    ensures { result ≡ best_by (in_group list.now group (passes addr after.now)) 0 (spans_of list.now) }
 {
     let mut best: Option<Placed> = None;
     let mut at = list.len();
@@ -74,7 +74,7 @@ fn scan<L: Ledger>(
         let Some(range) = list.look(at, steps) else {
             return best;
         };
-        best = preferred(&range, at, best, group, probe, after);
+        best = preferred(&range, at, best, group, addr, after);
     }
     best
 }
@@ -120,20 +120,15 @@ impl GroupIndex {
     }
 
     /// Of the ranges of a group that cover an address the one with the greatest begin, then the earlier place.
-    pub fn best_in<L: Ledger>(
-        &self,
-        group: usize,
-        probe: u64,
-        steps: &mut Steps<L>,
-    ) -> Option<usize>
-        ensures best { result ≡ best_in self.now.list group probe }
+    pub fn best_in<L: Ledger>(&self, group: usize, addr: u64, steps: &mut Steps<L>) -> Option<usize>
+        ensures best { result ≡ best_in self.now.list group addr }
         ensures cost { self.now.ordered ≡ true → AreApartInGroups self.now.list → 2 ^ (steps.new - steps.old) ≤ 4 * (2 * length self.now.list + 1) }
     {
         if self.ordered {
-            let high = split(&self.order, &Target::at(group, probe), steps);
-            place_found(&last_before(&self.order, &self.skips, group, probe, high, steps))
+            let high = split(&self.order, &Target::at(group, addr), steps);
+            place_found(&last_before(&self.order, &self.skips, group, addr, high, steps))
         } else {
-            place_of(&scan(&self.list, group, probe, &None, steps))
+            place_of(&scan(&self.list, group, addr, &None, steps))
         }
     }
 
@@ -141,12 +136,12 @@ impl GroupIndex {
     pub fn next_in<L: Ledger>(
         &self,
         group: usize,
-        probe: u64,
+        addr: u64,
         bound: usize,
         steps: &mut Steps<L>,
     ) -> Option<usize>
         requires { bound < length self.now.list }
-        ensures { result ≡ next_in self.now.list group probe bound }
+        ensures { result ≡ next_in self.now.list group addr bound }
     {
         let Some(range) = self.list.look(bound, steps) else {
             return None;
@@ -154,11 +149,11 @@ impl GroupIndex {
         let span = range.span;
         let after = Some(Placed { place: bound, span });
         if self.ordered {
-            let target = Target::after(group, probe, bound, span.begin);
+            let target = Target::after(group, addr, bound, span.begin);
             let high = split(&self.order, &target, steps);
-            place_found(&last_before(&self.order, &self.skips, group, probe, high, steps))
+            place_found(&last_before(&self.order, &self.skips, group, addr, high, steps))
         } else {
-            place_of(&scan(&self.list, group, probe, &after, steps))
+            place_of(&scan(&self.list, group, addr, &after, steps))
         }
     }
 }

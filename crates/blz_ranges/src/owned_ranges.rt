@@ -77,31 +77,31 @@ impl OwnedRanges {
     }
 
     /// The place of the best range that covers an address.
-    pub fn best_at<L: Ledger>(&self, probe: u64, steps: &mut Steps<L>) -> Option<usize>
-        ensures best { result ≡ best (items_of self.now.ranges) probe }
+    pub fn best_at<L: Ledger>(&self, addr: u64, steps: &mut Steps<L>) -> Option<usize>
+        ensures best { result ≡ best (items_of self.now.ranges) addr }
         ensures cost { self.now.ordered ≡ true → AreApart (items_of self.now.ranges) → 2 ^ (steps.new - steps.old) ≤ 4 * (2 * length self.now.ranges + 1) }
     {
-        self.index.best_at(probe, steps)
+        self.index.best_at(addr, steps)
     }
 
     /// The place of the next range that covers an address, after the one at a place.
     pub fn next_below<L: Ledger>(
         &self,
-        probe: u64,
+        addr: u64,
         bound: usize,
         steps: &mut Steps<L>,
     ) -> Option<usize>
         requires { bound < length self.now.ranges }
-        ensures { result ≡ next (items_of self.now.ranges) probe bound }
+        ensures { result ≡ next (items_of self.now.ranges) addr bound }
     {
-        self.index.next_below(probe, bound, steps)
+        self.index.next_below(addr, bound, steps)
     }
 
     /// What the best range that covers an address belongs to, for a caller that counts no looks.
-    pub fn find(&self, probe: u64) -> Option<usize>
-        ensures { result ≡ best_owner self.now.ranges probe }
+    pub fn find(&self, addr: u64) -> Option<usize>
+        ensures { result ≡ best_owner self.now.ranges addr }
     {
-        match self.index.find(probe) {
+        match self.index.find(addr) {
             Some(place) => self.owner(place),
             None => None,
         }

@@ -35,19 +35,19 @@ impl Placed {
 }
 
 /// Whether a range has an address.
-pub fn covers(span: &Span, probe: u64) -> bool
-    ensures { result ≡ covers span.now probe }
+pub fn covers(span: &Span, addr: u64) -> bool
+    ensures { result ≡ covers span.now addr }
 {
-    span.begin <= probe && probe < span.end
+    span.begin <= addr && addr < span.end
 }
 
 /// Whether a range covers an address, and comes after another one where that is asked.
-pub fn passes(probe: u64, after: &Option<Placed>, place: usize, span: &Span) -> bool
-    ensures { result ≡ passes probe after.now place span.now }
+pub fn passes(addr: u64, after: &Option<Placed>, place: usize, span: &Span) -> bool
+    ensures { result ≡ passes addr after.now place span.now }
 {
     match after {
-        None => covers(span, probe),
-        Some(bound) => covers(span, probe) && bound.is_before(place, span),
+        None => covers(span, addr),
+        Some(bound) => covers(span, addr) && bound.is_before(place, span),
     }
 }
 

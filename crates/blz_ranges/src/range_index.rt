@@ -63,40 +63,40 @@ impl RangeIndex {
     }
 
     /// Of the ranges that cover an address the one with the greatest begin, then the earlier place.
-    pub fn best_at<L: Ledger>(&self, probe: u64, steps: &mut Steps<L>) -> Option<usize>
-        ensures best { result ≡ best self.now.spans probe }
+    pub fn best_at<L: Ledger>(&self, addr: u64, steps: &mut Steps<L>) -> Option<usize>
+        ensures best { result ≡ best self.now.spans addr }
         ensures cost { self.now.ordered ≡ true → AreApart self.now.spans → 2 ^ (steps.new - steps.old) ≤ 4 * (2 * length self.now.spans + 1) }
     {
-        self.index.best_in(0, probe, steps)
+        self.index.best_in(0, addr, steps)
     }
 
     /// The next range that covers an address, after the one at a place.
     pub fn next_below<L: Ledger>(
         &self,
-        probe: u64,
+        addr: u64,
         bound: usize,
         steps: &mut Steps<L>,
     ) -> Option<usize>
         requires { bound < length self.now.spans }
-        ensures { result ≡ next self.now.spans probe bound }
+        ensures { result ≡ next self.now.spans addr bound }
     {
-        self.index.next_in(0, probe, bound, steps)
+        self.index.next_in(0, addr, bound, steps)
     }
 
-    fn best_from<L: Ledger>(&self, probe: u64, blank: Blank) -> Option<usize>
+    fn best_from<L: Ledger>(&self, addr: u64, blank: Blank) -> Option<usize>
         requires name { blank.name ≡ L.name }
         requires parts { blank.parts ≡ L.parts }
         requires some { 0 < blank.parts }
-        ensures { result ≡ best self.now.spans probe }
+        ensures { result ≡ best self.now.spans addr }
     {
         let mut steps: Steps<L> = Steps::new(blank);
-        self.best_at(probe, &mut steps)
+        self.best_at(addr, &mut steps)
     }
 
     /// The place of the best range that covers an address, for a caller that counts no looks.
-    pub fn find(&self, probe: u64) -> Option<usize>
-        ensures { result ≡ best self.now.spans probe }
+    pub fn find(&self, addr: u64) -> Option<usize>
+        ensures { result ≡ best self.now.spans addr }
     {
-        self.best_from::<Brand>(probe, Blank::new(1))
+        self.best_from::<Brand>(addr, Blank::new(1))
     }
 }

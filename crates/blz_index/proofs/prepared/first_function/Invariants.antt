@@ -3,7 +3,7 @@ use Rattle.blz_index.specs.KeptAnswers.{first_kept}
 use Rattle.blz_index.proofs.prepared.first_function.Given as goal
 
 abbrev pub invariant-loop-number : goal.invariant-loop-number
-invariant-loop-number g l = first_kept l.units l.probe l.announcing.left ≡ first_kept l.units l.probe l.fn.announcing.left
+invariant-loop-number g l = first_kept l.units l.addr l.announcing.left ≡ first_kept l.units l.addr l.fn.announcing.left
 
 abbrev pub decreases-loop-number : goal.decreases-loop-number
 decreases-loop-number g l = length l.announcing.left

@@ -6,7 +6,7 @@ use Rattle.blz_ranges.proofs.group_index.scan.Given as goal
 abbrev pub invariant-loop-at : goal.invariant-loop-at
 invariant-loop-at g l = record {
   within : l.at ≤ length l.list;
-  best_is : l.best ≡ best_by (in_group l.list l.group (passes l.probe l.after)) l.at (drop l.at (spans_of l.list));
+  best_is : l.best ≡ best_by (in_group l.list l.group (passes l.addr l.after)) l.at (drop l.at (spans_of l.list));
 }
 
 abbrev pub decreases-loop-at : goal.decreases-loop-at

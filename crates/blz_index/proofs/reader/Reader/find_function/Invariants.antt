@@ -9,7 +9,7 @@ abbrev pub invariant-loop-number : goal.invariant-loop-number
 invariant-loop-number g l = record {
   fits : AllFit (reader_files l.self) (reader_table l.self) l.caches;
   grows : UnitsGrowTo g.O.Orders.pair_places l.fn.caches.units.items l.caches.units.items;
-  rest : first_function (reader_files l.self) (reader_table l.self) l.probe l.units.left ≡ function_at (reader_files l.self) (reader_table l.self) l.probe;
+  rest : first_function (reader_files l.self) (reader_table l.self) l.addr l.units.left ≡ function_at (reader_files l.self) (reader_table l.self) l.addr;
 }
 
 abbrev pub decreases-loop-number : goal.decreases-loop-number

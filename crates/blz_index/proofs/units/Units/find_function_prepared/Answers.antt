@@ -8,4 +8,4 @@ pub returns-clause-value : goal.returns-clause-value
 unfolding function_at
 returns-clause-value g c = λ f fits.
     let u = c.args.self.now in
-    repeats_exactly (λ r. r) c.function_of.result (function_at f (units_table u) c.args.probe) (rw (c.new-announcing.ensures, c.as_slice.ensures.value, first_is f (units_table u) u.caches.units.items c.args.probe (announcing (units_table u) c.args.probe) fits.caches.units (fits.full c.requires)) at c.function_of.ensures.value)
+    repeats_exactly (λ r. r) c.function_of.result (function_at f (units_table u) c.args.addr) (rw (c.new-announcing.ensures, c.as_slice.ensures.value, first_is f (units_table u) u.caches.units.items c.args.addr (announcing (units_table u) c.args.addr) fits.caches.units (fits.full c.requires)) at c.function_of.ensures.value)

@@ -9,4 +9,4 @@ pub returns : goal.returns
 unfolding location_at
 returns g c = λ f fits.
     let u = c.args.self.now in
-    line_exactly c.args.texts.now f (units_table u) c.args.probe (announcing (units_table u) c.args.probe) c.first_location.result (rw (c.new-announcing.ensures, c.as_slice.ensures.value, first_line_is c.args.texts.now f (units_table u) u.caches.units.items c.args.probe (announcing (units_table u) c.args.probe) fits.caches.units (fits.full c.requires)) at c.first_location.ensures)
+    line_exactly c.args.texts.now f (units_table u) c.args.addr (announcing (units_table u) c.args.addr) c.first_location.result (rw (c.new-announcing.ensures, c.as_slice.ensures.value, first_line_is c.args.texts.now f (units_table u) u.caches.units.items c.args.addr (announcing (units_table u) c.args.addr) fits.caches.units (fits.full c.requires)) at c.first_location.ensures)
