@@ -13,7 +13,7 @@ owner_found ranges (Some place) = owner_at ranges place
 
 -- the call whose range is the best of those of a depth that cover an address
 abbrev pub at_depth : List (Owned Grouped) → ℕ → ℕ → Option ℕ
-at_depth ranges a depth = owner_found ranges (best_in (items_of ranges) depth a)
+at_depth ranges addr depth = owner_found ranges (best_in (items_of ranges) depth addr)
 
 abbrev pub with_next : Option ℕ → List ℕ → List ℕ
 with_next None rest = []
@@ -26,7 +26,7 @@ picked pick (suc n) depth = with_next (pick depth) (picked pick n (depth + 1))
 
 -- the calls of depth 0, 1, 2 and so on; none of n calls stands deeper than there are calls
 abbrev pub chain : List (Owned Grouped) → ℕ → ℕ → List ℕ
-chain ranges n a = picked (at_depth ranges a) n 0
+chain ranges n addr = picked (at_depth ranges addr) n 0
 
 -- a call: how many calls stand above it, the nearest of them, and its ranges
 pub record TreeCall : Type 0 where
@@ -54,18 +54,18 @@ pub record IsTree (calls : List TreeCall) : Type 0 where
   pub below : (c p : ℕ) (x : TreeCall) → slice_get calls c ≡ Some x → x.parent ≡ Some p → HasParent calls c p x
 
 -- a range of a call that covers an address
-pub record CoveredBy (calls : List TreeCall) (a c : ℕ) : Type 0 where
+pub record CoveredBy (calls : List TreeCall) (addr c : ℕ) : Type 0 where
   pub call : TreeCall
   pub is : slice_get calls c ≡ Some call
   pub span : Span
   pub place : ℕ
   pub at : slice_get call.ranges place ≡ Some span
-  pub covers : Covers span a
+  pub covers : Covers span addr
 
 -- Each call with a parent lies within it, and no two siblings share an address.
 pub record IsNested (calls : List TreeCall) : Type 0 where
-  pub within : (a c p : ℕ) (x : TreeCall) → slice_get calls c ≡ Some x → x.parent ≡ Some p → CoveredBy calls a c → CoveredBy calls a p
-  pub apart : (a c d : ℕ) (x y : TreeCall) → slice_get calls c ≡ Some x → slice_get calls d ≡ Some y → x.parent ≡ y.parent → CoveredBy calls a c → CoveredBy calls a d → c ≡ d
+  pub within : (addr c p : ℕ) (x : TreeCall) → slice_get calls c ≡ Some x → x.parent ≡ Some p → CoveredBy calls addr c → CoveredBy calls addr p
+  pub apart : (addr c d : ℕ) (x y : TreeCall) → slice_get calls c ≡ Some x → slice_get calls d ≡ Some y → x.parent ≡ y.parent → CoveredBy calls addr c → CoveredBy calls addr d → c ≡ d
 
 -- where a call stands in a list
 pub record Listed (list : List ℕ) (c : ℕ) : Type 0 where
@@ -78,8 +78,8 @@ pub record IsChild (calls : List TreeCall) (c : ℕ) (parent : Option ℕ) : Typ
   pub parent_is : call.parent ≡ parent
 
 -- A list of calls is the path of all that cover an address, each the parent of the next.
-pub record IsPath (calls : List TreeCall) (a : ℕ) (list : List ℕ) : Type 0 where
-  pub cover : (i c : ℕ) → slice_get list i ≡ Some c → CoveredBy calls a c
-  pub all : (c : ℕ) → CoveredBy calls a c → Listed list c
+pub record IsPath (calls : List TreeCall) (addr : ℕ) (list : List ℕ) : Type 0 where
+  pub cover : (i c : ℕ) → slice_get list i ≡ Some c → CoveredBy calls addr c
+  pub all : (c : ℕ) → CoveredBy calls addr c → Listed list c
   pub first : (c : ℕ) → slice_get list 0 ≡ Some c → IsChild calls c None
   pub next : (i c d : ℕ) → slice_get list i ≡ Some c → slice_get list (suc i) ≡ Some d → IsChild calls d (Some c)

@@ -9,5 +9,5 @@ ghost use Rattle.blz_functions.specs.Leaves.{UnitParts};
 /// chain of an address is the path of all calls that cover it, each the parent of the next.
 pub fn calls_are_tree()
     ensures tree { (refer : Refer) (u : UnitParts) (place : ℕ) (calls : List RangedCall) → calls_of refer u place ≡ Some calls → IsTreeOf (calls_with no_calls calls) (map tree_call calls) }
-    ensures path { (refer : Refer) (u : UnitParts) (place : ℕ) (calls : List RangedCall) (a : ℕ) → calls_of refer u place ≡ Some calls → IsNested (map tree_call calls) → IsPath (map tree_call calls) a (chain (calls_with no_calls calls).ranges (length (calls_with no_calls calls).calls) a) }
+    ensures path { (refer : Refer) (u : UnitParts) (place : ℕ) (calls : List RangedCall) (addr : ℕ) → calls_of refer u place ≡ Some calls → IsNested (map tree_call calls) → IsPath (map tree_call calls) addr (chain (calls_with no_calls calls).ranges (length (calls_with no_calls calls).calls) addr) }
 {}

@@ -18,7 +18,7 @@ pub record Announcing : Type 0 where
 
 -- the units that announce an address, before the first is asked for
 abbrev pub announced_at : UnitTable → Bool → ℕ → Announcing
-announced_at t ordered a = record { announced = record { ranges = t.announced; ordered = ordered }; address = a; left = announcing t a; fresh = true }
+announced_at t ordered addr = record { announced = record { ranges = t.announced; ordered = ordered }; address = addr; left = announcing t addr; fresh = true }
 
 -- the places behind one
 abbrev pub behind : ℕ → List ℕ → List ℕ
@@ -27,9 +27,9 @@ behind p (q ∷ places) = if q == p then places else behind p places
 
 -- the places that are still to come
 abbrev pub places_left : List (Owned Span) → ℕ → Turn → List ℕ
-places_left ranges a First = covering (items_of ranges) a
-places_left ranges a (After p) = behind p (covering (items_of ranges) a)
-places_left ranges a Over = []
+places_left ranges addr First = covering (items_of ranges) addr
+places_left ranges addr (After p) = behind p (covering (items_of ranges) addr)
+places_left ranges addr Over = []
 
 abbrev pub is_first : Turn → Bool
 is_first First = true
@@ -42,12 +42,12 @@ turn_of None = Over
 turn_of (Some p) = After p
 
 -- a place among those that cover an address
-pub record IsCovering (ranges : List (Owned Span)) (a p : ℕ) : Type 0 where
+pub record IsCovering (ranges : List (Owned Span)) (addr p : ℕ) : Type 0 where
   pub within : p < length ranges
   pub at : ℕ
-  pub is : slice_get (covering (items_of ranges) a) at ≡ Some p
+  pub is : slice_get (covering (items_of ranges) addr) at ≡ Some p
 
 abbrev pub IsTurn : List (Owned Span) → ℕ → Turn → Type 0
-IsTurn ranges a First = Unit {0}
-IsTurn ranges a (After p) = IsCovering ranges a p
-IsTurn ranges a Over = Unit {0}
+IsTurn ranges addr First = Unit {0}
+IsTurn ranges addr (After p) = IsCovering ranges addr p
+IsTurn ranges addr Over = Unit {0}

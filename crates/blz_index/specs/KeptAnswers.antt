@@ -38,10 +38,10 @@ abbrev pub kept_language : List UnitCaches → ℕ → Part SrcLang
 kept_language units k = kept_part (root_at units k) >>= language_by
 
 abbrev pub best_by_ranges : ℕ → FunctionRanges → Part (Option ℕ)
-best_by_ranges a x = Good (best_owner x.ranges a)
+best_by_ranges addr x = Good (best_owner x.ranges addr)
 
 abbrev pub kept_best : List UnitCaches → ℕ → ℕ → Part (Option ℕ)
-kept_best units a k = kept_part (functions_at units k) >>= best_by_ranges a
+kept_best units addr k = kept_part (functions_at units k) >>= best_by_ranges addr
 
 abbrev pub place_by : ℕ → FunctionRanges → Part ℕ
 place_by n x = or_invalid (place_in n (lists_view x))
@@ -50,16 +50,16 @@ abbrev pub kept_place : List UnitCaches → ℕ → ℕ → Part ℕ
 kept_place units k n = kept_part (functions_at units k) >>= place_by n
 
 abbrev pub line_by : Texts → ℕ → Option OrderedLines → Part (Option Site)
-line_by texts a o = line_of texts a (lines_view o)
+line_by texts addr o = line_of texts addr (lines_view o)
 
 abbrev pub kept_line : Texts → List UnitCaches → ℕ → ℕ → Part (Option Site)
-kept_line texts units a k = kept_part (lines_at units k) >>= line_by texts a
+kept_line texts units addr k = kept_part (lines_at units k) >>= line_by texts addr
 
 abbrev pub chain_by : ℕ → CallRanges → Part (List InlinedFunction)
-chain_by a x = or_invalid (chain_of a (calls_view x))
+chain_by addr x = or_invalid (chain_of addr (calls_view x))
 
 abbrev pub kept_chain : List UnitCaches → ℕ → ℕ → ℕ → Part (List InlinedFunction)
-kept_chain units a k n = kept_part (calls_at units k n) >>= chain_by a
+kept_chain units addr k n = kept_part (calls_at units k n) >>= chain_by addr
 
 abbrev pub site_by : Texts → InlinedFunction → ℕ → Option OrderedLines → Part (Option Site)
 site_by texts call file o = Good (site_of texts call file (lines_view o))
@@ -75,10 +75,10 @@ or_later k (Some n) rest = Good (Some (k, n))
 
 -- the first that has a function for an address
 unfoldable pub first_kept : List UnitCaches → ℕ → List ℕ → Part (Option (ℕ × ℕ))
-first_kept units a [] = Good None
-first_kept units a (k ∷ rest) = kept_best units a k >>= λ n. or_later k n (first_kept units a rest)
+first_kept units addr [] = Good None
+first_kept units addr (k ∷ rest) = kept_best units addr k >>= λ n. or_later k n (first_kept units addr rest)
 
 -- the first that has a line for an address
 unfoldable pub first_kept_line : Texts → List UnitCaches → ℕ → List ℕ → Part (Option Site)
-first_kept_line texts units a [] = Good None
-first_kept_line texts units a (k ∷ rest) = kept_line texts units a k >>= λ site. site_or site (first_kept_line texts units a rest)
+first_kept_line texts units addr [] = Good None
+first_kept_line texts units addr (k ∷ rest) = kept_line texts units addr k >>= λ site. site_or site (first_kept_line texts units addr rest)

@@ -72,20 +72,20 @@ chosen calls (n ∷ rest) = do
   Some (call ∷ others)
 
 abbrev pub chain_of : ℕ → CallLists → Option (List InlinedFunction)
-chain_of a l = chosen l.calls (chain l.ranges (length l.calls) a)
+chain_of addr l = chosen l.calls (chain l.ranges (length l.calls) addr)
 
 -- the inlined calls of a function of a unit that cover an address, the outermost first
 unfoldable pub covering_calls : Files → UnitTable → ℕ → ℕ → ℕ → Option (List InlinedFunction)
-covering_calls f t a k n = function_calls f t k n >>= chain_of a
+covering_calls f t addr k n = function_calls f t k n >>= chain_of addr
 
 -- ---- the function of an address
 
 -- the function of the best range of a unit that covers an address
 abbrev pub best_of : ℕ → Lists → Option (Option ℕ)
-best_of a l = Some (best_owner l.ranges a)
+best_of addr l = Some (best_owner l.ranges addr)
 
 unfoldable pub best_function : Files → UnitTable → ℕ → ℕ → Option (Option ℕ)
-best_function f t a k = unit_functions f t k >>= best_of a
+best_function f t addr k = unit_functions f t k >>= best_of addr
 
 abbrev pub found_or : ℕ → Option ℕ → Option (Option (ℕ × ℕ)) → Option (Option (ℕ × ℕ))
 found_or k None rest = rest
@@ -94,12 +94,12 @@ found_or k (Some n) rest = Some (Some (k, n))
 -- Of some units the first whose best range covers an address, and the number of the function of that range there. Later
 -- units are not read.
 unfoldable pub first_function : Files → UnitTable → ℕ → List ℕ → Option (Option (ℕ × ℕ))
-first_function f t a [] = Some None
-first_function f t a (k ∷ units) = best_function f t a k >>= λ n. found_or k n (first_function f t a units)
+first_function f t addr [] = Some None
+first_function f t addr (k ∷ units) = best_function f t addr k >>= λ n. found_or k n (first_function f t addr units)
 
 -- the function of an address, of the units that announce it
 unfoldable pub function_at : Files → UnitTable → ℕ → Option (Option (ℕ × ℕ))
-function_at f t a = first_function f t a (announcing t a)
+function_at f t addr = first_function f t addr (announcing t addr)
 
 -- ---- functions by their names
 

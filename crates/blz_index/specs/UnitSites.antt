@@ -21,11 +21,11 @@ use Rattle.blz_index.specs.UnitTables.{UnitTable, announcing}
 
 -- the line of an address in a unit, which may have no lines
 abbrev pub line_of : Texts → ℕ → Option LineTable → Part (Option Site)
-line_of texts a None = Good None
-line_of texts a (Some table) = line_at texts table a
+line_of texts addr None = Good None
+line_of texts addr (Some table) = line_at texts table addr
 
 unfoldable pub line_in : Texts → Files → UnitTable → ℕ → ℕ → Part (Option Site)
-line_in texts f t a k = or_invalid (unit_lines f t k) >>= line_of texts a
+line_in texts f t addr k = or_invalid (unit_lines f t k) >>= line_of texts addr
 
 abbrev pub site_or : Option Site → Part (Option Site) → Part (Option Site)
 site_or None rest = rest
@@ -33,12 +33,12 @@ site_or (Some site) rest = Good (Some site)
 
 -- Of some units the line of the first that has one. Later units are not read.
 unfoldable pub first_line : Texts → Files → UnitTable → ℕ → List ℕ → Part (Option Site)
-first_line texts f t a [] = Good None
-first_line texts f t a (k ∷ units) = line_in texts f t a k >>= λ site. site_or site (first_line texts f t a units)
+first_line texts f t addr [] = Good None
+first_line texts f t addr (k ∷ units) = line_in texts f t addr k >>= λ site. site_or site (first_line texts f t addr units)
 
 -- the line of an address, of the units that announce it
 unfoldable pub location_at : Texts → Files → UnitTable → ℕ → Part (Option Site)
-location_at texts f t a = first_line texts f t a (announcing t a)
+location_at texts f t addr = first_line texts f t addr (announcing t addr)
 
 -- ---- inlined calls
 
@@ -70,4 +70,4 @@ inlined_by texts lines call = do
 
 -- The inlined calls of a function of a unit that cover an address, the outermost first.
 unfoldable pub inlined_at : Texts → Files → UnitTable → ℕ → ℕ → ℕ → Part (List Inlined)
-inlined_at texts f t a k n = or_invalid (covering_calls f t a k n) >>= λ calls. all_good (map (inlined_by texts (unit_lines f t k)) calls)
+inlined_at texts f t addr k n = or_invalid (covering_calls f t addr k n) >>= λ calls. all_good (map (inlined_by texts (unit_lines f t k)) calls)

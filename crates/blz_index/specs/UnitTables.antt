@@ -152,4 +152,4 @@ reach_of f t = record {
 -- The units that announce an address, by the ranges that cover it: the greatest begin first, then the earlier place. A
 -- unit may stand there more than once.
 abbrev pub announcing : UnitTable → ℕ → List ℕ
-announcing t a = owners_of t.announced (covering (items_of t.announced) a)
+announcing t addr = owners_of t.announced (covering (items_of t.announced) addr)

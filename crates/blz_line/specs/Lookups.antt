@@ -21,19 +21,19 @@ spans_of sequences = map span_of sequences
 
 -- of those that cover an address the one with the greatest start, then the earlier
 abbrev pub best_sequence : List Sequence → ℕ → Option Sequence
-best_sequence sequences a = option_and_then (λ place. slice_get sequences place) (best (spans_of sequences) a)
+best_sequence sequences addr = option_and_then (λ place. slice_get sequences place) (best (spans_of sequences) addr)
 
 abbrev pub later_row : Option LineRow → LineRow → ℕ → Option LineRow
-later_row None row a = if nat_le row.address a then Some row else None
-later_row (Some later) row a = Some later
+later_row None row addr = if nat_le row.address addr then Some row else None
+later_row (Some later) row addr = Some later
 
 -- the last row whose address is not above
 unfoldable pub row_at : List LineRow → ℕ → Option LineRow
-row_at [] a = None
-row_at (row ∷ rest) a = later_row (row_at rest a) row a
+row_at [] addr = None
+row_at (row ∷ rest) addr = later_row (row_at rest addr) row addr
 
 abbrev pub row_in : List Sequence → ℕ → Option LineRow
-row_in sequences a = option_and_then (λ (s : Sequence). row_at s.rows a) (best_sequence sequences a)
+row_in sequences addr = option_and_then (λ (s : Sequence). row_at s.rows addr) (best_sequence sequences addr)
 
 -- a row in its file; where the line is 0 there is neither a line nor a column
 abbrev pub site_of : List ℕ × List ℕ → LineRow → Site
@@ -53,7 +53,7 @@ row_site t table (Some row) = do
 
 -- the line of an address
 abbrev pub line_at : Texts → LineTable → ℕ → Part (Option Site)
-line_at t table a = row_site t table (row_in table.sequences a)
+line_at t table addr = row_site t table (row_in table.sequences addr)
 
 abbrev pub location_view : Location → Site
 location_view l = record { dir = Some l.dir; file = l.file.now; line = l.line; column = l.column }

@@ -6,12 +6,12 @@ use Rattle.blz_ranges.specs.declared.placed.Placed.{Placed}
 
 -- a range has the addresses from its begin up to but not including its end
 abbrev pub covers : Span → ℕ → Bool
-covers s a = nat_le s.begin a && nat_lt a s.end
+covers s addr = nat_le s.begin addr && nat_lt addr s.end
 
 -- the same as facts
-pub record Covers (s : Span) (a : ℕ) : Type 0 where
-  pub from : s.begin ≤ a
-  pub below : a < s.end
+pub record Covers (s : Span) (addr : ℕ) : Type 0 where
+  pub from : s.begin ≤ addr
+  pub below : addr < s.end
 
 -- the better of a range, and of the best of those behind it
 abbrev pub better : Placed → Option Placed → Option Placed
@@ -39,16 +39,16 @@ comes_after b at s = nat_lt s.begin b.span.begin || (s.begin == b.span.begin && 
 
 -- whether a range covers an address, and comes after another one where that is asked
 abbrev pub passes : ℕ → Option Placed → ℕ → Span → Bool
-passes a None at s = covers s a
-passes a (Some b) at s = covers s a && comes_after b at s
+passes addr None at s = covers s addr
+passes addr (Some b) at s = covers s addr && comes_after b at s
 
 -- the best of the ranges that cover an address
 abbrev pub best : List Span → ℕ → Option ℕ
-best spans a = place_of (best_by (λ at s. covers s a) 0 spans)
+best spans addr = place_of (best_by (λ at s. covers s addr) 0 spans)
 
 -- the next one that covers it, after the one at a place
 abbrev pub next : List Span → ℕ → ℕ → Option ℕ
-next spans a bound = place_of (best_by (λ at s. covers s a && comes_after (placed spans bound) at s) 0 spans)
+next spans addr bound = place_of (best_by (λ at s. covers s addr && comes_after (placed spans bound) at s) 0 spans)
 
 -- What tells the best one from all that pass.
 pub record NotAfter (p : ℕ) (s : Span) (q : ℕ) (t : Span) : Type 0 where

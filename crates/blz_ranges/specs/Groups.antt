@@ -18,11 +18,11 @@ in_group list g test at s = group_is g (slice_get list at) && test at s
 
 -- the best of the ranges of a group that cover an address
 abbrev pub best_in : List Grouped → ℕ → ℕ → Option ℕ
-best_in list g a = place_of (best_by (in_group list g (passes a None)) 0 (spans_of list))
+best_in list g addr = place_of (best_by (in_group list g (passes addr None)) 0 (spans_of list))
 
 -- the next one, after the one at a place
 abbrev pub next_in : List Grouped → ℕ → ℕ → ℕ → Option ℕ
-next_in list g a bound = place_of (best_by (in_group list g (passes a (Some (placed (spans_of list) bound)))) 0 (spans_of list))
+next_in list g addr bound = place_of (best_by (in_group list g (passes addr (Some (placed (spans_of list) bound)))) 0 (spans_of list))
 
 abbrev pub grouped : ℕ → Span → Grouped
 grouped g s = record { group = g; span = s }

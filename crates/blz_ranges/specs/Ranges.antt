@@ -37,4 +37,4 @@ owner_of ranges (Some place) = owner_at ranges place
 
 -- the owner of the best range that covers an address
 abbrev pub best_owner : List (Owned Span) → ℕ → Option ℕ
-best_owner ranges a = owner_of ranges (best (items_of ranges) a)
+best_owner ranges addr = owner_of ranges (best (items_of ranges) addr)

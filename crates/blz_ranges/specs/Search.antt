@@ -8,11 +8,11 @@ use Rattle.blz_ranges.specs.Best.{NotAfter, passes}
 
 -- from the ranges of a group that begin at or below an address
 abbrev pub target_at : ℕ → ℕ → Target
-target_at g a = record { group = g; begin = a; behind = None }
+target_at g addr = record { group = g; begin = addr; behind = None }
 
 -- the same, of those that come after a range of which the place and the begin are given
 abbrev pub target_after : ℕ → ℕ → ℕ → ℕ → Target
-target_after g a place begin = if nat_le begin a then record { group = g; begin = begin; behind = Some place } else target_at g a
+target_after g addr place begin = if nat_le begin addr then record { group = g; begin = begin; behind = Some place } else target_at g addr
 
 abbrev pub is_behind : Option ℕ → ℕ → Bool
 is_behind None place = true
@@ -40,33 +40,33 @@ pub record IsSplit (entries : List Ordered) (t : Target) (at : ℕ) : Type 0 whe
 
 -- whether an entry is of a group, covers an address, and comes after another range where that is asked
 abbrev pub tests : ℕ → ℕ → Option Placed → Ordered → Bool
-tests g a after e = e.group == g && passes a after e.place e.span
+tests g addr after e = e.group == g && passes addr after e.place e.span
 
 -- Of the entries before an index those of the group pass that end above the address; from there on none does.
-pub record IsStart (entries : List Ordered) (g a : ℕ) (after : Option Placed) (at : ℕ) : Type 0 where
+pub record IsStart (entries : List Ordered) (g addr : ℕ) (after : Option Placed) (at : ℕ) : Type 0 where
   pub no_later : (i : ℕ) (e : Ordered) → i < at → slice_get entries i ≡ Some e → e.group ≤ g
-  pub passing : (i : ℕ) (e : Ordered) → i < at → slice_get entries i ≡ Some e → e.group ≡ g → a < e.span.end → tests g a after e ≡ true
-  pub past : (i : ℕ) (e : Ordered) → at ≤ i → slice_get entries i ≡ Some e → tests g a after e ≡ true → ⊥
+  pub passing : (i : ℕ) (e : Ordered) → i < at → slice_get entries i ≡ Some e → e.group ≡ g → addr < e.span.end → tests g addr after e ≡ true
+  pub past : (i : ℕ) (e : Ordered) → at ≤ i → slice_get entries i ≡ Some e → tests g addr after e ≡ true → ⊥
 
 -- the best entry that passes
-pub record IsFirst (entries : List Ordered) (g a : ℕ) (after : Option Placed) (b : Ordered) : Type 0 where
+pub record IsFirst (entries : List Ordered) (g addr : ℕ) (after : Option Placed) (b : Ordered) : Type 0 where
   pub at : ℕ
   pub is : slice_get entries at ≡ Some b
-  pub passes : tests g a after b ≡ true
-  pub first : (i : ℕ) (e : Ordered) → slice_get entries i ≡ Some e → tests g a after e ≡ true → NotAfter b.place b.span e.place e.span
+  pub passes : tests g addr after b ≡ true
+  pub first : (i : ℕ) (e : Ordered) → slice_get entries i ≡ Some e → tests g addr after e ≡ true → NotAfter b.place b.span e.place e.span
 
 abbrev pub IsFound : List Ordered → ℕ → ℕ → Option Placed → Option Ordered → Type 0
-IsFound entries g a after None = (i : ℕ) (e : Ordered) → slice_get entries i ≡ Some e → tests g a after e ≡ true → ⊥
-IsFound entries g a after (Some b) = IsFirst entries g a after b
+IsFound entries g addr after None = (i : ℕ) (e : Ordered) → slice_get entries i ≡ Some e → tests g addr after e ≡ true → ⊥
+IsFound entries g addr after (Some b) = IsFirst entries g addr after b
 
 abbrev pub place_found : Option Ordered → Option ℕ
 place_found None = None
 place_found (Some e) = Some e.place
 
 -- Of the entries from an index up to another none of the group ends above the address.
-pub record IsPassed (entries : List Ordered) (g a at high : ℕ) : Type 0 where
+pub record IsPassed (entries : List Ordered) (g addr at high : ℕ) : Type 0 where
   pub within : at ≤ high
-  pub low : (i : ℕ) (e : Ordered) → at ≤ i → i < high → slice_get entries i ≡ Some e → e.group ≡ g → e.span.end ≤ a
+  pub low : (i : ℕ) (e : Ordered) → at ≤ i → i < high → slice_get entries i ≡ Some e → e.group ≡ g → e.span.end ≤ addr
 
 -- the size that is left of n, after looks whose power is given
 pub record Halved (power size n : ℕ) : Type 0 where

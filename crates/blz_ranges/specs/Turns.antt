@@ -17,9 +17,9 @@ in_turn test at (s ∷ rest) = if test at s then put (record { place = at; span 
 
 -- the places of the ranges that cover an address, the greatest begin first, then the earlier place
 abbrev pub covering : List Span → ℕ → List ℕ
-covering spans a = map (λ (p : Placed). p.place) (in_turn (λ at s. covers s a) 0 spans)
+covering spans addr = map (λ (p : Placed). p.place) (in_turn (λ at s. covers s addr) 0 spans)
 
 -- The first is the best one, and behind each stands the next.
-pub record IsTurns (spans : List Span) (a : ℕ) (places : List ℕ) : Type 0 where
-  pub first : slice_get places 0 ≡ best spans a
-  pub then_next : (i p : ℕ) → slice_get places i ≡ Some p → slice_get places (suc i) ≡ next spans a p
+pub record IsTurns (spans : List Span) (addr : ℕ) (places : List ℕ) : Type 0 where
+  pub first : slice_get places 0 ≡ best spans addr
+  pub then_next : (i p : ℕ) → slice_get places i ≡ Some p → slice_get places (suc i) ≡ next spans addr p

@@ -5,5 +5,5 @@ ghost use Rattle.blz_ranges.specs.Turns.{IsTurns, covering};
 
 /// Asking for the best range, and then for the next one, gives all ranges that cover an address, in their order.
 pub fn best_and_next_give_all()
-    ensures { (spans : List Span) (a : ℕ) → IsTurns spans a (covering spans a) }
+    ensures { (spans : List Span) (addr : ℕ) → IsTurns spans addr (covering spans addr) }
 {}

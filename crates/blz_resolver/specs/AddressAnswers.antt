@@ -63,13 +63,13 @@ function_symbol t b at = do
 
 -- the place of the address, where it is asked
 unfoldable pub direct_site : Texts → Book → ℕ → FindSymOpts → Part (Option Site)
-direct_site t b a opts = if asks_code_info opts then location_at t b.files b.table a else Good None
+direct_site t b addr opts = if asks_code_info opts then location_at t b.files b.table addr else Good None
 
 -- the places of a function and of the calls inlined in it, where they are asked; no calls without the place of the address
 unfoldable pub places_of : Texts → Book → ℕ → FindSymOpts → ℕ × ℕ → Option Site → Part Places
-places_of t b a opts at None = Good no_places
-places_of t b a opts at (Some direct) = if asks_inlined_fns opts then (do
-  calls ← inlined_at t b.files b.table a at.0 at.1
+places_of t b addr opts at None = Good no_places
+places_of t b addr opts at (Some direct) = if asks_inlined_fns opts then (do
+  calls ← inlined_at t b.files b.table addr at.0 at.1
   Good (frames direct calls))
     else Good (one_place direct)
 
@@ -77,42 +77,42 @@ abbrev pub placed : Resolved → Places → Resolved
 placed symbol places = record symbol { site = places.site; inlined = places.inlined }
 
 unfoldable pub function_answer : Texts → Book → ℕ → FindSymOpts → ℕ × ℕ → Part Answer
-function_answer t b a opts at = do
+function_answer t b addr opts at = do
   symbol ← function_symbol t b at
-  direct ← direct_site t b a opts
-  places ← places_of t b a opts at direct
+  direct ← direct_site t b addr opts
+  places ← places_of t b addr opts at direct
   Good (Known (placed symbol places))
 
 -- ---- where no function covers it
 
 -- A symbol of the debug file, and its place. Where there is no symbol, no line is read.
 unfoldable pub with_place : Texts → Book → ℕ → FindSymOpts → Answer → Part Answer
-with_place t b a opts (Unknown reason) = Good (Unknown reason)
-with_place t b a opts (Known symbol) = do
-  direct ← direct_site t b a opts
+with_place t b addr opts (Unknown reason) = Good (Unknown reason)
+with_place t b addr opts (Known symbol) = do
+  direct ← direct_site t b addr opts
   Good (Known (placed symbol (one_place_if direct)))
 
 unfoldable pub symbol_answer : Texts → Book → ℕ → FindSymOpts → Part Answer
-symbol_answer t b a opts = do
-  answer ← image_symbol (debug_file b.images).image (debug_file b.images).module_name a
-  with_place t b a opts answer
+symbol_answer t b addr opts = do
+  answer ← image_symbol (debug_file b.images).image (debug_file b.images).module_name addr
+  with_place t b addr opts answer
 
 -- ---- the answer
 
 unfoldable pub answer_by : Texts → Book → ℕ → FindSymOpts → Option (ℕ × ℕ) → Part Answer
-answer_by t b a opts None = symbol_answer t b a opts
-answer_by t b a opts (Some at) = function_answer t b a opts at
+answer_by t b addr opts None = symbol_answer t b addr opts
+answer_by t b addr opts (Some at) = function_answer t b addr opts at
 
 -- the answer of an address, with texts that lie somewhere
 unfoldable pub answer_in : Texts → Book → ℕ → FindSymOpts → Part Answer
-answer_in t b a opts = do
-  at ← or_invalid (function_at b.files b.table a)
-  answer_by t b a opts at
+answer_in t b addr opts = do
+  at ← or_invalid (function_at b.files b.table addr)
+  answer_by t b addr opts at
 
 abbrev pub answer : Book → ℕ → FindSymOpts → Part Answer
-answer b a opts = answer_in (texts_of b.files) b a opts
+answer b addr opts = answer_in (texts_of b.files) b addr opts
 
 -- The answer of a bundle, with its debug information or without: then it is the symbol of the image.
 abbrev pub answer_of : ImageSet → Bool → ℕ → FindSymOpts → Part Answer
-answer_of images false a opts = image_symbol images.main.image images.main.module_name a
-answer_of images true a opts = frame_of images >>= λ book. answer book a opts
+answer_of images false addr opts = image_symbol images.main.image images.main.module_name addr
+answer_of images true addr opts = frame_of images >>= λ book. answer book addr opts

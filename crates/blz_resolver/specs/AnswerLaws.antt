@@ -17,27 +17,27 @@ use Rattle.blz_resolver.specs.Books.{Book}
 use Rattle.blz_resolver.specs.FileTexts.{texts_of}
 
 -- a range of the function of a number, which covers an address
-pub record HasRange (lists : Lists) (n a : ℕ) : Type 0 where
+pub record HasRange (lists : Lists) (n addr : ℕ) : Type 0 where
   pub place : ℕ
   pub range : Owned Span
   pub there : slice_get lists.ranges place ≡ Some range
   pub owner : range.owner ≡ n
-  pub covers : Covers range.item a
+  pub covers : Covers range.item addr
 
 -- a function of a unit covers an address by one of its ranges
-pub record IsCovered (f : Files) (t : UnitTable) (a k n : ℕ) : Type 0 where
+pub record IsCovered (f : Files) (t : UnitTable) (addr k n : ℕ) : Type 0 where
   pub lists : Lists
   pub read : unit_functions f t k ≡ Some lists
-  pub range : HasRange lists n a
+  pub range : HasRange lists n addr
 
 -- the functions of all units can be read
 abbrev pub AllRead : Files → UnitTable → Type 0
 AllRead f t = (k : ℕ) → k < length t.kept → is_some (unit_functions f t k) ≡ true
 
 -- a function answers an address, and has a name that is UTF-8
-pub record IsNamedAt (b : Book) (a k n : ℕ) (name : List ℕ) : Type 0 where
+pub record IsNamedAt (b : Book) (addr k n : ℕ) (name : List ℕ) : Type 0 where
   pub function : Function
-  pub answers : function_at b.files b.table a ≡ Some (Some (k, n))
+  pub answers : function_at b.files b.table addr ≡ Some (Some (k, n))
   pub read : function_numbered b (k, n) ≡ Good function
   pub named : is_some function.name ≡ true
   pub utf8 : call_name (texts_of b.files) function.name ≡ Good name
