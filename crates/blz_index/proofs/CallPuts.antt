@@ -4,7 +4,7 @@ use Rattle.std.proofs.lemmas.Option.{get_or_from_slice_get}
 use Rattle.std.specs.List.{slice_get, slice_set}
 use Rattle.std.specs.Prelude.{MatchResult}
 use Rattle.blz_model.specs.declared.cache.Cache.{Cache}
-use Rattle.blz_index.specs.declared.unit_caches.UnitCaches.{UnitCaches}
+use Rattle.blz_index.specs.declared.units.caches.UnitCaches.{UnitCaches}
 use Rattle.blz_index.specs.KeptParts.{call_cache}
 use Rattle.blz_index.specs.Putting.{HasCalls, PutsCalls}
 use Rattle.blz_functions.specs.FunctionRanges.{CallRanges}

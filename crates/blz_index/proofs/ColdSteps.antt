@@ -11,8 +11,8 @@ use Rattle.blz_index.specs.declared.built_unit.BuiltUnit.{BuiltUnit}
 use Rattle.blz_index.specs.declared.built_units.Side.{Side}
 use Rattle.blz_index.specs.declared.built_units.Side.TheVariants.{File, Sup}
 use Rattle.blz_index.specs.declared.built_units.SideUnits.{SideUnits}
-use Rattle.blz_index.specs.declared.unit_caches.UnitCaches.{UnitCaches}
-use Rattle.blz_index.specs.declared.unit_caches.Caches.{Caches}
+use Rattle.blz_index.specs.declared.units.caches.UnitCaches.{UnitCaches}
+use Rattle.blz_index.specs.declared.units.caches.Caches.{Caches}
 use Rattle.blz_index.specs.BuiltUnits.{Files, built_view, BuiltFits}
 use Rattle.blz_index.specs.Cold.{NothingKept, HasNothing, IsCold}
 use Rattle.blz_index.specs.KeptParts.{or_empty, unit_root, unit_of, lists_view, lines_view, calls_view, kept_root, kept_functions, kept_lines, kept_calls, side_sections, CachesFit, AllBuilt, SideFits, AllFit}

@@ -14,7 +14,7 @@ use Rattle.blz_entry.specs.Marks.{or_invalid}
 use Rattle.blz_entry.specs.declared.root.UnitRoot.{UnitRoot}
 use Rattle.blz_entry.specs.declared.text.Texts.{Texts}
 use Rattle.blz_functions.specs.declared.inlined_functions.InlinedFunction.{InlinedFunction}
-use Rattle.blz_index.specs.declared.unit_caches.UnitCaches.{UnitCaches}
+use Rattle.blz_index.specs.declared.units.caches.UnitCaches.{UnitCaches}
 use Rattle.blz_index.specs.BuiltUnits.{Files}
 use Rattle.blz_index.specs.KeptAnswers.{Repeats, kept_part, language_by, kept_language, best_by_ranges, kept_best, place_by, kept_place, line_by, kept_line, chain_by, kept_chain, site_by, kept_site, or_later, first_kept, first_kept_line}
 use Rattle.blz_index.specs.KeptParts.{unit_root, lists_view, lines_view, calls_view, is_empty, call_cache, kept_root, kept_functions, kept_lines, kept_calls, root_at, functions_at, lines_at, calls_at, lacks_root, lacks_functions, lacks_lines, lacks_calls, PartsFit, AllFull}

@@ -11,7 +11,7 @@ use Rattle.blz_model.specs.declared.cache.Cache.TheVariants.{Empty, Value, Mark}
 use Rattle.blz_entry.specs.Marks.{or_invalid}
 use Rattle.blz_entry.proofs.Marked.{good_some, marks_on}
 use Rattle.blz_entry.specs.declared.text.Texts.{Texts}
-use Rattle.blz_index.specs.declared.unit_caches.UnitCaches.{UnitCaches}
+use Rattle.blz_index.specs.declared.units.caches.UnitCaches.{UnitCaches}
 use Rattle.blz_index.specs.BuiltUnits.{Files}
 use Rattle.blz_functions.specs.FunctionList.{Lists}
 use Rattle.blz_index.specs.Growing.{Told, Made, AreOrdered, UnitsGrowTo}

@@ -5,7 +5,7 @@ use Rattle.blz_error.specs.declared.kind.ErrorKind.{ErrorKind}
 use Rattle.blz_model.specs.Answers.{Site}
 use Rattle.blz_model.specs.Part.{Good, Broken}
 use Rattle.blz_entry.specs.declared.text.Texts.{Texts}
-use Rattle.blz_index.specs.declared.unit_caches.UnitCaches.{UnitCaches}
+use Rattle.blz_index.specs.declared.units.caches.UnitCaches.{UnitCaches}
 use Rattle.blz_index.specs.BuiltUnits.{Files}
 use Rattle.blz_index.specs.KeptAnswers.{kept_best, kept_line, or_later, first_kept, first_kept_line}
 use Rattle.blz_index.specs.UnitAnswers.{best_function, found_or, first_function}

@@ -5,7 +5,7 @@ use Rattle.std.specs.Prelude.{⊤}
 use Rattle.std.proofs.lemmas.Option.{slice_get_past}
 use Rattle.blz_model.specs.declared.cache.Cache.{Cache}
 use Rattle.blz_model.specs.declared.cache.Cache.TheVariants.{Empty, Value, Mark}
-use Rattle.blz_index.specs.declared.unit_caches.UnitCaches.{UnitCaches}
+use Rattle.blz_index.specs.declared.units.caches.UnitCaches.{UnitCaches}
 use Rattle.blz_index.specs.declared.units.Units.{Units}
 use Rattle.blz_index.specs.BuiltUnits.{Files}
 use Rattle.blz_index.specs.Growing.{Told, Made, AreOrdered, LinesOrdered, CallsOrdered, CachesGrow, UnitsGrowTo}

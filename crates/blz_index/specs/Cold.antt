@@ -6,8 +6,8 @@ use Rattle.blz_model.specs.declared.cache.Cache.TheVariants.{Empty}
 use Rattle.blz_entry.specs.FileSections.{FileSections}
 use Rattle.blz_index.specs.declared.built_unit.BuiltUnit.{BuiltUnit}
 use Rattle.blz_index.specs.declared.built_units.SideUnits.{SideUnits}
-use Rattle.blz_index.specs.declared.unit_caches.UnitCaches.{UnitCaches}
-use Rattle.blz_index.specs.declared.unit_caches.Caches.{Caches}
+use Rattle.blz_index.specs.declared.units.caches.UnitCaches.{UnitCaches}
+use Rattle.blz_index.specs.declared.units.caches.Caches.{Caches}
 use Rattle.blz_index.specs.KeptParts.{or_empty, kept_root, kept_functions, kept_lines, kept_calls}
 use Rattle.blz_index.specs.Sharing.{AreShared}
 

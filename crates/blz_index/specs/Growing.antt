@@ -6,7 +6,7 @@ use Rattle.blz_model.specs.declared.cache.Cache.TheVariants.{Empty, Value, Mark}
 use Rattle.blz_bytes.specs.declared.orders.Key.{Key}
 use Rattle.blz_line.specs.Lookups.{spans_of}
 use Rattle.blz_line.specs.UnitLines.{OrderedLines}
-use Rattle.blz_index.specs.declared.unit_caches.UnitCaches.{UnitCaches}
+use Rattle.blz_index.specs.declared.units.caches.UnitCaches.{UnitCaches}
 use Rattle.blz_index.specs.KeptParts.{kept_root, kept_functions, kept_lines, kept_calls}
 use Rattle.blz_ranges.specs.Keyed.{IsAccepted, begin_key, group_key}
 use Rattle.blz_ranges.specs.Owned.{items_of}

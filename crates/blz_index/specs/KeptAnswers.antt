@@ -13,7 +13,7 @@ use Rattle.blz_entry.specs.declared.root.UnitRoot.{UnitRoot}
 use Rattle.blz_entry.specs.declared.text.Texts.{Texts}
 use Rattle.blz_line.specs.UnitLines.{OrderedLines}
 use Rattle.blz_functions.specs.declared.inlined_functions.InlinedFunction.{InlinedFunction}
-use Rattle.blz_index.specs.declared.unit_caches.UnitCaches.{UnitCaches}
+use Rattle.blz_index.specs.declared.units.caches.UnitCaches.{UnitCaches}
 use Rattle.blz_index.specs.KeptParts.{root_at, functions_at, lines_at, calls_at, lists_view, lines_view, calls_view}
 use Rattle.blz_functions.specs.FunctionRanges.{FunctionRanges, CallRanges}
 use Rattle.blz_ranges.specs.Ranges.{best_owner}

@@ -17,8 +17,8 @@ use Rattle.blz_index.specs.declared.built_units.BuiltUnits as built
 use Rattle.blz_index.specs.declared.built_units.Side.{Side}
 use Rattle.blz_index.specs.declared.built_units.SideUnits.{SideUnits}
 use Rattle.blz_index.specs.declared.built_units.Side.TheVariants.{File, Sup}
-use Rattle.blz_index.specs.declared.unit_caches.Caches.{Caches}
-use Rattle.blz_index.specs.declared.unit_caches.UnitCaches.{UnitCaches}
+use Rattle.blz_index.specs.declared.units.caches.Caches.{Caches}
+use Rattle.blz_index.specs.declared.units.caches.UnitCaches.{UnitCaches}
 use Rattle.blz_index.specs.BuiltUnits.{Files, reading, sup_built, built_view, or_main, BuiltFits}
 use Rattle.blz_functions.specs.CallTree.{CallLists}
 use Rattle.blz_functions.specs.FunctionList.{Lists}

@@ -2,7 +2,7 @@
 use Rattle.std.specs.Prelude.{◌≡◌, ℕ, List}
 use Rattle.std.specs.List.{slice_set}
 use Rattle.blz_model.specs.declared.cache.Cache.{Cache}
-use Rattle.blz_index.specs.declared.unit_caches.UnitCaches.{UnitCaches}
+use Rattle.blz_index.specs.declared.units.caches.UnitCaches.{UnitCaches}
 use Rattle.blz_index.specs.KeptParts.{call_cache}
 use Rattle.blz_functions.specs.FunctionRanges.{CallRanges}
 

@@ -9,7 +9,7 @@ use Rattle.blz_entry.specs.Marks.{or_invalid}
 use Rattle.blz_entry.specs.declared.text.Texts.{Texts}
 use Rattle.blz_moves.specs.declared.flow.Flow.{Flow}
 use Rattle.blz_functions.specs.declared.functions.Function.{Function}
-use Rattle.blz_index.specs.declared.unit_caches.UnitCaches.{UnitCaches}
+use Rattle.blz_index.specs.declared.units.caches.UnitCaches.{UnitCaches}
 use Rattle.blz_index.specs.declared.units.Units.{Units}
 use Rattle.blz_functions.specs.FunctionList.{Lists}
 use Rattle.blz_index.specs.KeptAnswers.{kept_part}

@@ -8,7 +8,7 @@ use Rattle.blz_model.specs.declared.cache.Cache.TheVariants.{Empty, Value, Mark}
 use Rattle.blz_ranges.specs.declared.span.Span.{Span}
 use Rattle.blz_line.specs.UnitLines.{OrderedLines}
 use Rattle.blz_functions.specs.declared.functions.Function.{Function}
-use Rattle.blz_index.specs.declared.unit_caches.UnitCaches.{UnitCaches}
+use Rattle.blz_index.specs.declared.units.caches.UnitCaches.{UnitCaches}
 use Rattle.blz_index.specs.declared.units.Units.{Units}
 use Rattle.blz_index.specs.BuiltUnits.{Files}
 use Rattle.blz_functions.specs.CallTree.{CallLists}

@@ -16,7 +16,7 @@ use crate::address_sets::AddressSets;
 use crate::built_unit::BuiltUnit;
 use crate::dwarf::{Dwarf, Origin};
 use crate::shared_parts::SharedParts;
-use crate::unit_parts::may_be_split;
+use crate::units::read::may_be_split;
 use blz_bytes::AsTheyStand;
 use blz_entry::{Span, UnitHeader, UnitKind};
 use blz_error::{Error, ErrorKind, Result};

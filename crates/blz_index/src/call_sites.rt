@@ -13,8 +13,8 @@ ghost use Rattle.blz_index.specs.UnitSites.{call_name, call_site, inlined_by, in
 
 use crate::reader::Reader;
 use crate::sites::{InlinedSite, InlinedSites};
-use crate::unit_caches::Caches;
-use crate::unit_looks::{chain_at, site_at};
+use crate::units::caches::Caches;
+use crate::units::look::{chain_at, site_at};
 use blz_bytes::Orders;
 use blz_entry::{StrPlace, Texts, invalid};
 use blz_error::Result;

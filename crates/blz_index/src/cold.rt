@@ -7,7 +7,7 @@ ghost use Rattle.blz_entry.specs.FileSections.{FileSections};
 use crate::built_unit::BuiltUnit;
 use crate::built_units::{BuiltUnits, SideUnits};
 use crate::shared_parts::SharedParts;
-use crate::unit_caches::{Caches, UnitCaches};
+use crate::units::caches::{Caches, UnitCaches};
 use blz_model::Cache;
 use std::alloc::{AllocError, Global};
 

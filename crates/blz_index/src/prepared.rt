@@ -13,9 +13,8 @@ ghost use Rattle.blz_index.specs.UnitAnswers.{unit_language, function_at};
 ghost use Rattle.blz_index.specs.UnitSites.{location_at};
 ghost use Rattle.blz_index.specs.UnitsWarm.{units_table, units_prepared, functions_kept, is_value, UnitsFit, FewLooks, LooksFew};
 
-use crate::unit_caches::UnitCaches;
-use crate::unit_looks;
-use crate::units::Units;
+use crate::units::caches::UnitCaches;
+use crate::units::{Units, look};
 use crate::units_at::UnitsAt;
 use blz_bytes::Steps;
 use blz_entry::Texts;
@@ -39,7 +38,7 @@ fn first_function<L: Ledger>(
             Some(number) => number,
             None => return Ok(None),
         };
-        match unit_looks::function_at(units, number, addr, steps) {
+        match look::function_at(units, number, addr, steps) {
             Ok(Some(function)) => return Ok(Some((number, function))),
             Ok(None) => {},
             Err(fault) => return Err(fault),
@@ -62,7 +61,7 @@ fn first_location<'b, L: Ledger>(
             Some(number) => number,
             None => return Ok(None),
         };
-        match unit_looks::location_at(units, texts, number, addr) {
+        match look::location_at(units, texts, number, addr) {
             Ok(Some(location)) => return Ok(Some(location)),
             Ok(None) => {},
             Err(fault) => return Err(fault),
@@ -87,7 +86,7 @@ fn function_of<L: Ledger>(
         Some(number) => number,
         None => return Ok(None),
     };
-    match unit_looks::function_at(units, number, addr, steps) {
+    match look::function_at(units, number, addr, steps) {
         Ok(Some(function)) => Ok(Some((number, function))),
         Ok(None) => first_function(units, announcing, addr, steps),
         Err(fault) => Err(fault),
@@ -117,7 +116,7 @@ impl Units {
         requires there { unit < length (units_table self.now).kept }
         ensures { (f : Files) → UnitsFit f self.now → Exactly (λ l. l) result (or_invalid (unit_language f (units_table self.now) unit)) }
     {
-        unit_looks::language_of(self.caches.units.as_slice(), unit)
+        look::language_of(self.caches.units.as_slice(), unit)
     }
 
     /// The place of an address in the sources, as `find_location` has it, from what is kept: it takes no memory.

@@ -14,13 +14,23 @@ ghost use Rattle.blz_index.specs.UnitSites.{location_at, inlined_at};
 ghost use Rattle.blz_index.specs.UnitTables.{units_of};
 ghost use Rattle.blz_index.specs.UnitsWarm.{units_table, announced_ordered, units_prepared, functions_kept, kept_function, UnitsFit, UnitsGrow, AreCold, LooksFew};
 
+mod ask;
+pub(crate) mod caches;
+mod fill;
+mod find;
+mod lend;
+mod listing;
+pub(crate) mod look;
+mod names;
+mod prepare;
+pub(crate) mod read;
+
 use crate::cold::cold_caches;
 use crate::dwarf::Dwarf;
 use crate::reader::Reader;
 use crate::sites::InlinedSites;
-use crate::unit_caches::Caches;
-use crate::unit_looks;
 use crate::unit_table::UnitTable;
+use crate::units::caches::Caches;
 use blz_bytes::Orders;
 use blz_error::Result;
 use blz_functions::Function;
@@ -167,7 +177,7 @@ impl Units {
     pub fn function(&self, unit: usize, function: usize) -> Option<&Function>
         ensures { option_map (λ f. f.now) result ≡ kept_function self.now unit function }
     {
-        match unit_looks::functions_of(self.caches.units.as_slice(), unit) {
+        match look::functions_of(self.caches.units.as_slice(), unit) {
             Ok(functions) => functions.functions().get(function),
             Err(_) => None,
         }

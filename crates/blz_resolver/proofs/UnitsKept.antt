@@ -14,7 +14,7 @@ use Rattle.blz_index.specs.KeptParts.{lists_view, lines_at, kept_functions, kept
 use Rattle.blz_functions.specs.FunctionRanges.{FunctionRanges}
 use Rattle.blz_index.specs.UnitAnswers.{unit_functions}
 use Rattle.blz_index.specs.UnitsWarm.{units_table, units_prepared, functions_cache, functions_kept, kept_function, function_in, lines_kept, is_value, has_order, UnitsFit, UnitsGrow}
-use Rattle.blz_index.specs.declared.unit_caches.UnitCaches.{UnitCaches}
+use Rattle.blz_index.specs.declared.units.caches.UnitCaches.{UnitCaches}
 use Rattle.blz_index.specs.declared.units.Units.{Units}
 use Rattle.blz_resolver.specs.Reading.{FunctionsStay, UnitsStay}
 

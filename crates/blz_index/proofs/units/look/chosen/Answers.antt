@@ -1,7 +1,7 @@
 use Rattle.std.proofs.Common.{refl, sym, ap}
 use Rattle.blz_entry.specs.Marks.{or_invalid}
 use Rattle.blz_index.proofs.Choosing.{more, none, over}
-use Rattle.blz_index.proofs.unit_looks.chosen.Goals as goal
+use Rattle.blz_index.proofs.units.look.chosen.Goals as goal
 
 pub returns-in-None : goal.returns-in-None
 returns-in-None c = λ _. rw (c.invalid.ensures, none c.args.calls.now c.args.numbers.now c.loop-number.number-index _ c.loop-number.some.items _ c.loop-number-test.true (sym c.in-None.ensures) c.loop-number.invariant) refl

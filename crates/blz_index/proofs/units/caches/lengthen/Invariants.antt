@@ -1,7 +1,7 @@
 use Rattle.std.proofs.Common.{◌≡◌, ◌-◌, ◌+◌, ℕ, length}
 use Rattle.std.specs.List.{slice_get}
 use Rattle.blz_index.specs.KeptParts.{or_empty}
-use Rattle.blz_index.proofs.unit_caches.lengthen.Given as goal
+use Rattle.blz_index.proofs.units.caches.lengthen.Given as goal
 
 abbrev pub invariant-loop-calls : goal.invariant-loop-calls
 invariant-loop-calls l = (n : ℕ) → or_empty (slice_get l.calls.items n) ≡ or_empty (slice_get l.fn.calls.items n)

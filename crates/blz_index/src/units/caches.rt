@@ -1,7 +1,7 @@
 //! What is kept of units.
 ghost use Rattle.std.specs.Prelude.{◌≡◌, ℕ, ◌<◌, length, Some, IfOk, MatchResult};
 ghost use Rattle.std.specs.List.{slice_get, slice_set};
-ghost use Rattle.blz_index.specs.declared.unit_caches.UnitCaches.{UnitCaches};
+ghost use Rattle.blz_index.specs.declared.units.caches.UnitCaches.{UnitCaches};
 ghost use Rattle.blz_index.specs.KeptParts.{or_empty, call_cache, is_empty, lacks_root, lacks_functions, lacks_lines, lacks_calls};
 ghost use Rattle.blz_index.specs.Putting.{HasCalls, PutsCalls};
 

@@ -5,8 +5,8 @@ ghost use Rattle.blz_index.specs.UnitAnswers.{is_called};
 ghost use Rattle.blz_index.specs.UnitNames.{kept_called};
 ghost use Rattle.blz_functions.specs.declared.functions.Function.{Function};
 
-use crate::unit_caches::UnitCaches;
-use crate::unit_looks::functions_of;
+use crate::units::caches::UnitCaches;
+use crate::units::look::functions_of;
 use blz_entry::{StrPlace, Texts};
 use blz_error::Result;
 use blz_functions::Function;

@@ -7,7 +7,7 @@ ghost use Rattle.blz_index.specs.KeptParts.{functions_at, functions_count, lacks
 ghost use Rattle.blz_index.specs.Readers.{reader_files, reader_table};
 
 use crate::reader::Reader;
-use crate::unit_caches::{Caches, UnitCaches};
+use crate::units::caches::{Caches, UnitCaches};
 use blz_bytes::Orders;
 use blz_model::Cache;
 use std::alloc::AllocError;

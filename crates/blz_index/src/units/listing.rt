@@ -13,10 +13,10 @@ ghost use Rattle.blz_index.specs.UnitsWarm.{units_table, units_prepared, functio
 
 use crate::dwarf::Dwarf;
 use crate::reader::Reader;
-use crate::unit_caches::{Caches, UnitCaches};
-use crate::unit_looks::functions_of;
-use crate::unit_names::called_in;
 use crate::units::Units;
+use crate::units::caches::{Caches, UnitCaches};
+use crate::units::look::functions_of;
+use crate::units::names::called_in;
 use crate::visit_function::{VisitFunction, show_functions};
 use blz_bytes::Orders;
 use blz_error::Result;

@@ -13,7 +13,7 @@ ghost use Rattle.blz_index.specs.UnitAnswers.{chosen};
 ghost use Rattle.blz_index.specs.UnitSites.{site_in};
 ghost use Rattle.blz_index.specs.UnitsWarm.{has_order, ranges_in, value_in};
 
-use crate::unit_caches::UnitCaches;
+use crate::units::caches::UnitCaches;
 use blz_bytes::{DirPath, Steps};
 use blz_entry::{Texts, UnitRoot, invalid};
 use blz_error::{Error, Result, Str};

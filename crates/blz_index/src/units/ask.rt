@@ -15,8 +15,8 @@ ghost use Rattle.blz_index.specs.UnitsWarm.{is_value};
 
 use crate::reader::Reader;
 use crate::sites::InlinedSite;
-use crate::unit_caches::Caches;
-use crate::unit_looks;
+use crate::units::caches::Caches;
+use crate::units::look;
 use crate::units_at::UnitsAt;
 use blz_bytes::{Orders, Steps};
 use blz_entry::{StrPlace, Texts, invalid};
@@ -36,7 +36,7 @@ impl<'r, 's, 'b> Reader<'r, 's, 'b> {
         ensures grows { (told : Told) → UnitsGrowTo told caches.old.units.items caches.new.units.items }
     {
         self.fill_root(caches, number)?;
-        unit_looks::language_of(caches.units.as_slice(), number)
+        look::language_of(caches.units.as_slice(), number)
     }
 
     /// The number of the function of an address in a unit.
@@ -56,7 +56,7 @@ impl<'r, 's, 'b> Reader<'r, 's, 'b> {
         ensures grows { UnitsGrowTo O.pair_places caches.old.units.items caches.new.units.items }
     {
         self.fill_functions(orders, caches, number)?;
-        unit_looks::function_at(caches.units.as_slice(), number, addr, steps)
+        look::function_at(caches.units.as_slice(), number, addr, steps)
     }
 
     /// The function of an address, of the units that announce it.
@@ -107,7 +107,7 @@ impl<'r, 's, 'b> Reader<'r, 's, 'b> {
         ensures grows { UnitsGrowTo O.pair_places caches.old.units.items caches.new.units.items }
     {
         self.fill_lines(orders, caches, number)?;
-        unit_looks::location_at(caches.units.as_slice(), &self.dwarf.texts, number, addr)
+        look::location_at(caches.units.as_slice(), &self.dwarf.texts, number, addr)
     }
 
     /// The place of an address in the sources, of the units that announce it.

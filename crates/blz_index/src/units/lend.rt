@@ -14,9 +14,8 @@ ghost use Rattle.blz_index.specs.UnitsWarm.{units_table, lines_kept, units_prepa
 
 use crate::dwarf::Dwarf;
 use crate::reader::Reader;
-use crate::unit_caches::Caches;
-use crate::unit_looks;
-use crate::units::Units;
+use crate::units::caches::Caches;
+use crate::units::{Units, look};
 use blz_bytes::Orders;
 use blz_error::Result;
 use blz_functions::{Functions, InlinedFunctions};
@@ -40,7 +39,7 @@ impl<'r, 's, 'b> Reader<'r, 's, 'b> {
         ensures grows { UnitsGrowTo O.pair_places caches.old.units.items caches.new.units.items }
     {
         self.fill_calls(orders, caches, number, function)?;
-        match unit_looks::calls_of(caches.units.as_slice(), number, function) {
+        match look::calls_of(caches.units.as_slice(), number, function) {
             Ok(_) => Ok(()),
             Err(fault) => Err(fault),
         }
@@ -53,7 +52,7 @@ impl Units {
         ensures kept { option_map (λ x. x.now) result ≡ value_in (functions_cache self.now unit) }
         ensures value { IfSome result (λ x. (f : Files) → UnitsFit f self.now → unit_functions f (units_table self.now) unit ≡ Some (lists_view x.now)) }
     {
-        unit_looks::functions_there(self.caches.units.as_slice(), unit)
+        look::functions_there(self.caches.units.as_slice(), unit)
     }
 
     /// The functions of a unit. InvalidDwarf exactly where the unit they are read from cannot be built, or one of its
@@ -110,7 +109,7 @@ impl Units {
         ensures value { (f : Files) → UnitsFit f self.now → Exactly (λ o. option_map (λ l. l.now.table) o) result (or_invalid (unit_lines f (units_table self.now) unit)) }
         ensures kept { Repeats (λ o. option_map (λ l. l.now) o) result (kept_part (lines_cache self.now unit)) }
     {
-        match unit_looks::lines_of(self.caches.units.as_slice(), unit) {
+        match look::lines_of(self.caches.units.as_slice(), unit) {
             Ok(Some(lines)) => Ok(Some(lines)),
             Ok(None) => Ok(None),
             Err(fault) => Err(fault),
@@ -167,7 +166,7 @@ impl Units {
         ensures kept { option_map (λ x. x.now) result ≡ value_in (calls_cache self.now unit function) }
         ensures value { IfSome result (λ x. (f : Files) → UnitsFit f self.now → function_calls f (units_table self.now) unit function ≡ Some (calls_view x.now)) }
     {
-        unit_looks::calls_there(self.caches.units.as_slice(), unit, function)
+        look::calls_there(self.caches.units.as_slice(), unit, function)
     }
 
     /// The inlined calls of a function of a unit. InvalidDwarf exactly where the functions of the unit have no value,

@@ -13,11 +13,11 @@ ghost use Rattle.blz_index.specs.UnitAnswers.{unit_functions, unit_lines, functi
 
 use crate::built_units::BuiltUnits;
 use crate::reader::Reader;
-use crate::unit_caches::{
+use crate::units::caches::{
     Caches, UnitCaches, lacks_calls, lacks_functions, lacks_lines, lacks_root, put_calls,
     put_functions, put_lines, put_root,
 };
-use crate::unit_looks::{function_place, root_of};
+use crate::units::look::{function_place, root_of};
 use blz_bytes::Orders;
 use blz_entry::UnitRoot;
 use blz_error::ErrorKind;

@@ -1,7 +1,7 @@
 use Rattle.std.proofs.Common.{arith}
 use Rattle.std.proofs.lemmas.Option.{slice_get_within}
 use Rattle.blz_index.proofs.CallPuts.{puts_in, same_item}
-use Rattle.blz_index.proofs.unit_caches.put_calls.Goals as goal
+use Rattle.blz_index.proofs.units.caches.put_calls.Goals as goal
 
 pub returns-then-number-len : goal.returns-then-number-len
 returns-then-number-len c = λ unit is. absurd (let k = slice_get_within c.args.units.now.items c.args.number unit is in omega (arith, k))
