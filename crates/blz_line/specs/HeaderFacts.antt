@@ -9,7 +9,7 @@ pub record IsReady (r : Rules) : Type 0 where
   pub range : 0 < r.line_range
   pub base : 0 < r.opcode_base
 
--- its places lie inside the section
+-- its offsets lie inside the section
 pub record IsInside (h : LineHeader) (bytes : List ℕ) : Type 0 where
   pub counts_in : h.counts + (h.opcode_base - 1) ≤ length bytes
   pub program_in : h.program ≤ h.end

@@ -64,7 +64,7 @@ usable_rules_at e s at = do
 abbrev pub paths_at : Encoding → Contents → ℕ → Option Paths
 paths_at e s at = if e.version == 5 then formatted_paths e s at else listed_paths s.bytes at
 
--- the fields of a header as one value; `counts` is the place of the numbers of operands
+-- the fields of a header as one value; `counts` is the offset of the numbers of operands
 abbrev pub header_from : Rules → ℕ → ℕ → ℕ → Paths → LineHeader
 header_from r program end counts paths = record {
   version = r.version;
@@ -88,7 +88,7 @@ fields_at e program end s at = do
   paths ← paths_at e s counts_end
   Some (header_from rules.0 program end rules.1 paths)
 
--- the header at a place; bytes between the tables and the header's end are passed over
+-- the header at an offset; bytes between the tables and the header's end are passed over
 unfoldable pub header_at : Contents → ℕ → ℕ → Option LineHeader
 header_at s at address_size = do
   extent ← extent_at s at

@@ -21,7 +21,7 @@ spans_of sequences = map span_of sequences
 
 -- of those that cover an address the one with the greatest start, then the earlier
 abbrev pub best_sequence : List Sequence → ℕ → Option Sequence
-best_sequence sequences addr = option_and_then (λ place. slice_get sequences place) (best (spans_of sequences) addr)
+best_sequence sequences addr = option_and_then (λ index. slice_get sequences index) (best (spans_of sequences) addr)
 
 abbrev pub later_row : Option LineRow → LineRow → ℕ → Option LineRow
 later_row None row addr = if nat_le row.address addr then Some row else None

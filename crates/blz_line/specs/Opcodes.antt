@@ -49,7 +49,7 @@ standard_at r counts s code at =
     if code == dwarf.DW_LNS_set_isa then (uleb s.bytes at >>= λ n. Some (Nothing, n.1)) else
     (ulebs_passed (slice_index counts (code - 1)) s.bytes at >>= λ next. Some (Nothing, next)))))))))))
 
--- the opcode at a place; from `opcode_base` up it is special, also where the table of standard opcodes has it
+-- the opcode at an offset; from `opcode_base` up it is special, also where the table of standard opcodes has it
 unfoldable pub op_at : Rules → List ℕ → Contents → ℕ → Read Op
 op_at r counts s at = do
   code ← byte s.bytes at

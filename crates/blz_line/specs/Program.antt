@@ -71,8 +71,8 @@ step r s op = do
   g ← moved_by r s.registers op
   Some (noted op (record s { registers = g }))
 
--- The program from a place to the end of the bytes, in at most n steps. An opcode takes a byte at least, so as many steps
--- as there are bytes are enough.
+-- The program from an offset to the end of the bytes, in at most n steps. An opcode takes a byte at least, so as many
+-- steps as there are bytes are enough.
 unfoldable pub run_in : Rules → List ℕ → Contents → ℕ → State → ℕ → Option State
 run_in r counts s zero state at = None
 run_in r counts s (suc n) state at = if nat_lt at (length s.bytes) then (do

@@ -30,7 +30,7 @@ fn format_at(bytes: &[u8], at: usize) -> Option<(EntryFormat, usize)>
     Some((EntryFormat { content, form }, next))
 }
 
-/// So many formats, and the place behind them.
+/// So many formats, and the offset behind them.
 fn formats_from(
     alloc: Global,
     count: u8,
@@ -40,18 +40,18 @@ fn formats_from(
     ensures { Gives (λ r. (r.0.items, r.1)) result (or_mark (formats_in count [] bytes.now at) InvalidDwarf) }
 {
     let mut formats = Vec::new(alloc);
-    let mut place = at;
+    let mut offset = at;
     for _ in 0..count {
-        let Some((format, next)) = format_at(bytes, place) else {
+        let Some((format, next)) = format_at(bytes, offset) else {
             return Err(broken());
         };
         formats.push(format)?;
-        place = next;
+        offset = next;
     }
-    Ok((formats, place))
+    Ok((formats, offset))
 }
 
-/// The formats of a table, and the place behind them.
+/// The formats of a table, and the offset behind them.
 #[tactic(auto, unfolding(crate::specs::Formats::formats_at))]
 fn formats_at(alloc: Global, bytes: &[u8], at: usize) -> Result<(Vec<EntryFormat>, usize)>
     ensures { Gives (λ r. (r.0.items, r.1)) result (or_mark (formats_at bytes.now at) InvalidDwarf) }
@@ -78,7 +78,7 @@ fn with_content(content: u64, value: AttrValue, entry: FileEntry) -> FileEntry
     }
 }
 
-/// An entry, and the place behind it.
+/// An entry, and the offset behind it.
 #[tactic(auto, unfolding(crate::specs::Formats::entry_at))]
 fn entry_at(
     encoding: Encoding,
@@ -92,7 +92,7 @@ fn entry_at(
         path: AttrValue::Other,
         directory: 0,
     };
-    let mut place = at;
+    let mut offset = at;
     for format in formats {
         let (value, next) = form_value(
             section,
@@ -101,15 +101,15 @@ fn entry_at(
             encoding.wide,
             encoding.address_size,
             format.form,
-            place,
+            offset,
         )?;
         entry = with_content(format.content, value, entry);
-        place = next;
+        offset = next;
     }
-    Some((entry, place))
+    Some((entry, offset))
 }
 
-/// So many entries, and the place behind them.
+/// So many entries, and the offset behind them.
 fn entries_at(
     alloc: Global,
     encoding: Encoding,
@@ -121,15 +121,15 @@ fn entries_at(
     ensures { Gives (λ r. r) result (or_mark (entries_in encoding (section_view section.now) formats.now count [] at) InvalidDwarf) }
 {
     let mut table = Table::new(alloc);
-    let mut place = at;
+    let mut offset = at;
     for _ in 0..count {
-        let Some((entry, next)) = entry_at(encoding, section, formats, place) else {
+        let Some((entry, next)) = entry_at(encoding, section, formats, offset) else {
             return Err(broken());
         };
         table.push(entry)?;
-        place = next;
+        offset = next;
     }
-    Ok((table, place))
+    Ok((table, offset))
 }
 
 /// So many entries where there is one at least. Where the first takes no bytes, no other does, and all are equal: their
@@ -163,7 +163,7 @@ fn path_count(formats: &[EntryFormat]) -> usize
         .count()
 }
 
-/// A table, and the place behind it.
+/// A table, and the offset behind it.
 #[tactic(auto, unfolding(crate::specs::Formats::formatted_at, crate::specs::Formats::entries_in))]
 fn formatted_at(
     alloc: Global,

@@ -101,7 +101,7 @@ fn header_len_at(wide: bool, section: &Section<'_, '_>, at: usize) -> Option<(u6
     }
 }
 
-/// Where the program begins, and the place behind the header's length.
+/// Where the program begins, and the offset behind the header's length.
 #[tactic(auto, unfolding(crate::specs::Headers::program_at))]
 fn program_at(wide: bool, section: &Section<'_, '_>, at: usize) -> Option<(usize, usize)>
     ensures value { result ≡ program_at wide (section_view section.now) at }
@@ -209,7 +209,7 @@ fn fields_at(
 ) -> Result<LineHeader>
     ensures value { Gives (λ h. h) result (or_mark (fields_at encoding program end (section_view section.now) at) InvalidDwarf) }
     ensures ready { IfOk result (λ h. IsReady (rules_of h)) }
-    ensures places { IfOk result (λ h. (h.program ≡ program) × (h.end ≡ end) × (h.counts + (h.opcode_base - 1) ≤ length section.now.bytes.now)) }
+    ensures offsets { IfOk result (λ h. (h.program ≡ program) × (h.end ≡ end) × (h.counts + (h.opcode_base - 1) ≤ length section.now.bytes.now)) }
 {
     let Some((rules, counts)) = usable_rules_at(encoding, section, at) else {
         return Err(broken());
@@ -234,7 +234,7 @@ fn fields_at(
     })
 }
 
-/// The header at a place of `.debug_line`.
+/// The header at an offset of `.debug_line`.
 #[tactic(auto, unfolding(crate::specs::Headers::header_at))]
 pub(crate) fn header_at(
     alloc: Global,

@@ -180,7 +180,7 @@ impl Lines {
         Some(file_text(texts, &file))
     }
 
-    fn best_place(&self, addr: u64) -> Option<usize>
+    fn best_index(&self, addr: u64) -> Option<usize>
         ensures { result ≡ best (spans_of self.now.table.sequences) addr }
     {
         self.index.find(addr)
@@ -189,8 +189,8 @@ impl Lines {
     fn row_in(&self, addr: u64) -> Option<LineRow>
         ensures { result ≡ row_in self.now.table.sequences addr }
     {
-        let place = self.best_place(addr)?;
-        let sequence = self.sequences.get(place)?;
+        let index = self.best_index(addr)?;
+        let sequence = self.sequences.get(index)?;
         row_at(sequence.rows(), addr)
     }
 

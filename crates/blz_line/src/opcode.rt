@@ -43,12 +43,12 @@ fn ulebs_passed(count: u8, bytes: &[u8], at: usize) -> Option<usize>
     ensures value { result ≡ ulebs_passed count bytes.now at }
     ensures within { IfSome result (λ n. (at ≤ n) × (n ≤ length bytes.now)) }
 {
-    let mut place = at;
+    let mut offset = at;
     for _ in 0..count {
-        let (_, next) = uleb_at(bytes, place)?;
-        place = next;
+        let (_, next) = uleb_at(bytes, offset)?;
+        offset = next;
     }
-    Some(place)
+    Some(offset)
 }
 
 #[tactic(auto, unfolding(crate::specs::Opcodes::extended_op))]
@@ -137,8 +137,8 @@ fn standard_at(
     }
 }
 
-/// The opcode at a place, and the next place; None where its bytes are not whole. `counts` has the number of operands of
-/// each standard opcode.
+/// The opcode at an offset, and the next offset; None where its bytes are not whole. `counts` has the number of
+/// operands of each standard opcode.
 #[tactic(auto, unfolding(crate::specs::Opcodes::op_at))]
 pub fn op_at(
     rules: Rules,

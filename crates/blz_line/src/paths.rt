@@ -76,7 +76,7 @@ fn entry_behind(kind: Kind, path: AttrValue, bytes: &[u8], at: usize) -> Option<
     }
 }
 
-/// The entries up to an empty path, and the place behind it.
+/// The entries up to an empty path, and the offset behind it.
 fn listed_at(
     alloc: Global,
     kind: Kind,
@@ -86,19 +86,19 @@ fn listed_at(
     ensures { Gives (λ r. r) result (or_mark (listed_at kind bytes.now at) InvalidDwarf) }
 {
     let mut table = Table::new(alloc);
-    let mut place = at;
+    let mut offset = at;
     for _ in 0..bytes.len() {
-        let Some((path, behind)) = zero_ended_at(bytes, place) else {
+        let Some((path, behind)) = zero_ended_at(bytes, offset) else {
             return Err(broken());
         };
         if path.is_empty() {
             return Ok((table, behind));
         }
-        let Some((entry, next)) = entry_behind(kind, text_place(place, path), bytes, behind) else {
+        let Some((entry, next)) = entry_behind(kind, text_place(offset, path), bytes, behind) else {
             return Err(broken());
         };
         table.push(entry)?;
-        place = next;
+        offset = next;
     }
     Err(broken())
 }

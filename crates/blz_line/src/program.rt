@@ -127,7 +127,7 @@ impl Machine {
     }
 }
 
-/// Runs the program from a place to the end of the section's bytes; InvalidDwarf where it has no value.
+/// Runs the program from an offset to the end of the section's bytes; InvalidDwarf where it has no value.
 pub fn run(
     alloc: Global,
     rules: Rules,
@@ -142,17 +142,17 @@ pub fn run(
     requires range { 0 < rules.line_range }
     ensures { MatchResult result (λ _. run_from rules counts.now (section_view section.now) machine.old at ≡ Some machine.new) (λ e. Fails e.kind (or_mark (run_from rules counts.now (section_view section.now) machine.old at) InvalidDwarf)) }
 {
-    let mut place = at;
+    let mut offset = at;
     // an opcode takes a byte at least, so the bytes end first
     for _ in 0..section.bytes.len() + 1 {
-        if place >= section.bytes.len() {
+        if offset >= section.bytes.len() {
             return Ok(());
         }
-        let Some((op, next)) = op_at(rules, counts, section, place) else {
+        let Some((op, next)) = op_at(rules, counts, section, offset) else {
             return Err(broken());
         };
         machine.step(alloc, rules, op)?;
-        place = next;
+        offset = next;
     }
     Err(broken())
 }

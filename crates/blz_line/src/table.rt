@@ -58,7 +58,7 @@ impl<T: Copy> Table<T> {
         (self.repeated, self.listed.as_slice())
     }
 
-    /// The entry at a place.
+    /// The entry at an index.
     pub fn get(&self, index: u64) -> Option<T>
         ensures { result ≡ slice_get self.now index }
     {

@@ -9,8 +9,8 @@ pub loop-init : goal.loop-init
 unfolding run_from
 loop-init c = record { within = c.requires.within; rest = ap (λ n. run_in c.args.rules c.args.counts.now (section_view c.args.section.now) n c.args.machine.now c.args.at) (omega arith) }
 
-pub returns-then-place-section : goal.returns-then-place-section
-returns-then-place-section c = sym c.loop.invariant.rest ∙ run_done _ _ _ _ (length c.args.section.now.bytes.now - c.loop.counter) _ _ (omega arith) (omega arith)
+pub returns-then-offset-section : goal.returns-then-offset-section
+returns-then-offset-section c = sym c.loop.invariant.rest ∙ run_done _ _ _ _ (length c.args.section.now.bytes.now - c.loop.counter) _ _ (omega arith) (omega arith)
 
 pub loop-preserved : goal.loop-preserved
 loop-preserved c = record {

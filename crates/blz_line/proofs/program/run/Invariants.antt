@@ -5,6 +5,6 @@ use Rattle.blz_line.proofs.program.run.Given as goal
 
 abbrev pub invariant-loop : goal.invariant-loop
 invariant-loop l = record {
-  within : l.place ≤ length l.section.bytes.now;
-  rest : run_in l.rules l.counts (section_view l.section) (length l.section.bytes.now + 1 - l.counter) l.machine l.place ≡ run_from l.rules l.counts (section_view l.section) l.fn.machine l.at;
+  within : l.offset ≤ length l.section.bytes.now;
+  rest : run_in l.rules l.counts (section_view l.section) (length l.section.bytes.now + 1 - l.counter) l.machine l.offset ≡ run_from l.rules l.counts (section_view l.section) l.fn.machine l.at;
 }
