@@ -1,6 +1,8 @@
 //! The language of a function.
 ghost use Rattle.std.specs.Prelude.{◌≡◌};
 
+use blz_constants::dwarf;
+
 /// A source language, as far as a demangler has to know it.
 #[derive(Clone, Copy, Debug, PartialEq, Eq)]
 pub enum SrcLang {
@@ -20,8 +22,15 @@ impl SrcLang {
         ensures { result ≡ language_of code }
     {
         match code {
-            Some(0x1c) => SrcLang::Rust,
-            Some(0x04 | 0x19 | 0x1a | 0x21 | 0x2a | 0x2b) => SrcLang::Cpp,
+            Some(dwarf::DW_LANG_Rust) => SrcLang::Rust,
+            Some(
+                dwarf::DW_LANG_C_plus_plus
+                | dwarf::DW_LANG_C_plus_plus_03
+                | dwarf::DW_LANG_C_plus_plus_11
+                | dwarf::DW_LANG_C_plus_plus_14
+                | dwarf::DW_LANG_C_plus_plus_17
+                | dwarf::DW_LANG_C_plus_plus_20,
+            ) => SrcLang::Cpp,
             _ => SrcLang::Unknown,
         }
     }

@@ -2,6 +2,7 @@
 ghost use Rattle.std.specs.Prelude.{◌≡◌};
 
 use crate::{Elf64_Sym, ElfN_Sym};
+use blz_constants::elf::{STT_FUNC, STT_GNU_IFUNC, STT_NOTYPE, STT_OBJECT};
 
 /// What a symbol names, or what is asked for.
 #[derive(Clone, Copy, PartialEq, Eq, Hash, Default)]
@@ -18,14 +19,17 @@ pub enum SymType {
 impl SymType {
     ghost use Rattle.blz_records.specs.SymbolTypes.{matches, sym_type_of};
 
-    // whether a symbol of this code (STT_NOTYPE 0, STT_OBJECT 1, STT_FUNC 2, STT_GNU_IFUNC 10) is asked for
+    // whether a symbol of this code is asked for
     pub(crate) fn takes(self, code: u8) -> bool
         ensures { result ≡ matches code self }
     {
         match self {
-            SymType::Undefined => matches!(code, 0 | 1 | 2 | 10),
-            SymType::Function => matches!(code, 0 | 2 | 10),
-            SymType::Variable => matches!(code, 0 | 1),
+            SymType::Undefined => matches!(
+                code,
+                STT_NOTYPE | STT_OBJECT | STT_FUNC | STT_GNU_IFUNC
+            ),
+            SymType::Function => matches!(code, STT_NOTYPE | STT_FUNC | STT_GNU_IFUNC),
+            SymType::Variable => matches!(code, STT_NOTYPE | STT_OBJECT),
         }
     }
 
@@ -33,9 +37,9 @@ impl SymType {
         ensures { result ≡ sym_type_of code }
     {
         match code {
-            0 => Some(SymType::Undefined),
-            1 => Some(SymType::Variable),
-            2 | 10 => Some(SymType::Function),
+            STT_NOTYPE => Some(SymType::Undefined),
+            STT_OBJECT => Some(SymType::Variable),
+            STT_FUNC | STT_GNU_IFUNC => Some(SymType::Function),
             _ => None,
         }
     }
