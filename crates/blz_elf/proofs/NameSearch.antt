@@ -18,8 +18,9 @@ use Rattle.blz_bytes.proofs.NameOrdering.{both_ways}
 use Rattle.blz_elf.specs.declared.names.SymbolName.{SymbolName}
 use Rattle.blz_elf.specs.NameRule.{Named, is_called}
 use Rattle.blz_elf.specs.NameSteps.{with_named}
-use Rattle.blz_elf.specs.NameOrders.{name_view, span_of, named_in, no_name, named_at, AreSorted, SplitsNames}
+use Rattle.blz_elf.specs.NameOrders.{name_view, span_of, named_in, no_name, named_at, listed_name, AreSorted, SplitsNames}
 use Rattle.blz_elf.proofs.Folds.{filter_up_to}
+use Rattle.blz_elf.proofs.Halving.{SplitBy}
 
 -- ---- from the spans to the names
 
@@ -48,34 +49,20 @@ names_sorted strings spans listed places e order = by (rw e at order)
         within : (k : ℕ) → k < length places → get_or places k 0 < length listed
         within k lt = omega (arith, o.each.within k (get_or places k 0) (slice_get-get_or places k 0 lt), count_of span_of listed)
 
--- ---- the halves of a list whose middle was looked at
+-- ---- the places below a name
 
--- a name up to the middle is below what the middle is below
-pub below_too : (names : List Named) (places : List ℕ) (name : List ℕ) (m k : ℕ) → AreSorted names places → k ≤ m → m < length places → is_gt (name_cmp name (named_at names places m).name) ≡ true → is_gt (name_cmp name (named_at names places k).name) ≡ true
-below_too names places name m k s le lt h = by (eqb_tells k m)
+-- a name before one that is below another is below that too
+pub below_falls : (names : List Named) (places name : List ℕ) (j k : ℕ) → AreSorted names places → j < k → k < length places → is_gt (name_cmp name (listed_name names (get_or places k 0))) ≡ true → is_gt (name_cmp name (listed_name names (get_or places j 0))) ≡ true
+below_falls names places name j k s lt in-list h = by (is_gt (name_cmp name (named_at names places j).name)) refl
   where
-    by : ((eqb k m ≡ true) × (k ≡ m)) ⊎ ((eqb k m ≡ false) × (k ≢ m)) → is_gt (name_cmp name (named_at names places k).name) ≡ true
-    by (inl e) = rw (e.1) h
-    by (inr n) = test (is_gt (name_cmp name (named_at names places k).name)) refl
-      where
-        test : (t : Bool) → is_gt (name_cmp name (named_at names places k).name) ≡ t → t ≡ true
-        test true e = refl
-        test false e =
-            let d = n.1 in
-            let r = s.rising k m (omega arith) lt in
-            let up = upto nat_list_cmp_total name (named_at names places k).name (named_at names places m).name e r.not_above in
-            absurd cc
+    by : (t : Bool) → is_gt (name_cmp name (named_at names places j).name) ≡ t → t ≡ true
+    by true e = refl
+    by false e =
+        let up = upto nat_list_cmp_total name (named_at names places j).name (named_at names places k).name e (s.rising j k lt in-list).not_above in
+        absurd cc
 
--- a name from the middle on is not below what the middle is not below
-pub not_below_too : (names : List Named) (places : List ℕ) (name : List ℕ) (m k : ℕ) → AreSorted names places → m ≤ k → k < length places → is_gt (name_cmp name (named_at names places m).name) ≡ false → is_gt (name_cmp name (named_at names places k).name) ≡ false
-not_below_too names places name m k s le lt h = by (eqb_tells m k)
-  where
-    by : ((eqb m k ≡ true) × (m ≡ k)) ⊎ ((eqb m k ≡ false) × (m ≢ k)) → is_gt (name_cmp name (named_at names places k).name) ≡ false
-    by (inl e) = rw (← e.1) h
-    by (inr n) =
-        let d = n.1 in
-        let r = s.rising m k (omega arith) lt in
-        upto nat_list_cmp_total name (named_at names places m).name (named_at names places k).name h r.not_above
+pub splits_names : (names : List Named) (places name : List ℕ) (n : ℕ) → n ≤ length places → SplitBy (λ i. is_gt (name_cmp name (listed_name names i))) places n → SplitsNames names places n name
+splits_names names places name n within s = record { within = within; low = s.low; high = s.high }
 
 -- ---- one name more
 

@@ -1,7 +1,7 @@
 -- A search over an accepted order answers by the symbol rule.
 use Rattle.std.proofs.Common.{◌≡◌, ◌≢◌, ◌⊎◌, inl, inr, ℕ, ◌+◌, ◌-◌, ◌<◌, ◌≤◌, Bool, true, false, ◌&&◌, List, length, get_or, filter, Some, None, refl, sym, ap, ◌∙◌, arith, eqb, leb}
 use Rattle.std.specs.Prelude.{nat_le}
-use Rattle.std.proofs.lemmas.Bool.{eqb-true, leb-true, eq-eqb}
+use Rattle.std.proofs.lemmas.Bool.{eqb-true, leb-true, leb-false, le-leb, eq-eqb}
 use Rattle.std.proofs.lemmas.Bool.Decides.{nat_tests, eqb_tells, leb_tells}
 use Rattle.std.proofs.lemmas.Option.{slice_get-get_or, slice_get_within, get_or_from_slice_get}
 use Rattle.blz_bytes.specs.declared.orders.Key.{Key}
@@ -10,8 +10,9 @@ use Rattle.blz_bytes.specs.PairOrder.{key_at, IsOrder}
 use Rattle.blz_elf.specs.declared.question.Question.{Question}
 use Rattle.blz_elf.specs.SymbolTables.{Symbol}
 use Rattle.blz_elf.specs.SymbolRule.{is_typed, is_candidate, may_answer, answers, covering, greatest, largest}
-use Rattle.blz_elf.specs.Accepted.{Before, no_symbol, at_place, IsAccepted, IsKey, AreKeys, SplitsAt, SplitsBelow}
+use Rattle.blz_elf.specs.Accepted.{Before, no_symbol, at_place, value_at, IsAccepted, IsKey, AreKeys, SplitsAt, SplitsBelow}
 use Rattle.blz_elf.specs.Needed.{IsSearchable}
+use Rattle.blz_elf.proofs.Halving.{SplitBy}
 use Rattle.blz_elf.proofs.Greatest.{Passes, greatest_is, largest_is, none_pass, filter_within, each_passes}
 
 -- ---- from the keys to the symbols
@@ -217,21 +218,16 @@ search_found xs places q to from m s low high may before = rw (greatest_here xs 
         let v : (at_place xs places m).value ≡ (get_or xs i no_symbol).value = value ∙ sym b.value ∙ b.own in
         o.by_size v
 
--- ---- the halves of a list whose middle was looked at
+-- ---- the places up to an address
 
-pub splits_low : (xs : List Symbol) (places : List ℕ) (m addr k : ℕ) → IsSearchable xs places → k ≤ m → m < length places → (at_place xs places m).value ≤ addr → (at_place xs places k).value ≤ addr
-splits_low xs places m addr k a le lt h = by (eqb_tells k m)
-  where
-    by : ((eqb k m ≡ true) × (k ≡ m)) ⊎ ((eqb k m ≡ false) × (k ≢ m)) → (at_place xs places k).value ≤ addr
-    by (inl e) = rw (e.1) h
-    by (inr n) = let d = n.1 in let b = (a.rising k m (omega arith) lt).by_value in omega arith
+pub value_falls : (xs : List Symbol) (places : List ℕ) (addr j k : ℕ) → IsSearchable xs places → j < k → k < length places → nat_le (value_at xs (get_or places k 0)) addr ≡ true → nat_le (value_at xs (get_or places j 0)) addr ≡ true
+value_falls xs places addr j k s lt in-list e =
+    let up = (s.rising j k lt in-list).by_value in
+    let top = leb-true (at_place xs places k).value addr e in
+    le-leb (at_place xs places j).value addr (omega arith)
 
-pub splits_high : (xs : List Symbol) (places : List ℕ) (m addr k : ℕ) → IsSearchable xs places → m ≤ k → k < length places → addr < (at_place xs places m).value → addr < (at_place xs places k).value
-splits_high xs places m addr k a le lt h = by (eqb_tells m k)
-  where
-    by : ((eqb m k ≡ true) × (m ≡ k)) ⊎ ((eqb m k ≡ false) × (m ≢ k)) → addr < (at_place xs places k).value
-    by (inl e) = rw (← e.1) h
-    by (inr n) = let d = n.1 in let b = (a.rising m k (omega arith) lt).by_value in omega arith
+pub splits_at : (xs : List Symbol) (places : List ℕ) (addr n : ℕ) → n ≤ length places → SplitBy (λ i. nat_le (value_at xs i) addr) places n → SplitsAt xs places n addr
+splits_at xs places addr n inside s = record { inside = inside; low = λ k lt. leb-true (at_place xs places k).value addr (s.low k lt); high = λ k ge lt. leb-false (at_place xs places k).value addr (s.high k ge lt) }
 
 -- ---- the symbols of the answered types
 

@@ -38,6 +38,10 @@ pub record AreKeys (keys : List Key) (xs : List Symbol) : Type 0 where
 
 -- ---- the search
 
+-- the value of the symbol at an index, 0 outside
+abbrev pub value_at : List Symbol → ℕ → ℕ
+value_at xs i = (get_or xs i no_symbol).value
+
 -- the first n places have values up to an address, and the others above it
 pub record SplitsAt (xs : List Symbol) (places : List ℕ) (n addr : ℕ) : Type 0 where
   pub inside : n ≤ length places

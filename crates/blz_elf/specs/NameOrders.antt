@@ -38,6 +38,10 @@ no_name = record { symbol = no_symbol; name = [] }
 abbrev pub named_at : List Named → List ℕ → ℕ → Named
 named_at names places k = get_or names (get_or places k 0) no_name
 
+-- the name at an index, empty outside
+abbrev pub listed_name : List Named → ℕ → List ℕ
+listed_name names i = (get_or names i no_name).name
+
 -- each place in the list, each name at one, and rising
 pub record AreSorted (names : List Named) (places : List ℕ) : Type 0 where
   pub inside : (k : ℕ) → k < length places → get_or places k 0 < length names

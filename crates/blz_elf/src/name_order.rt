@@ -4,7 +4,7 @@ ghost use Rattle.std.specs.Option.{option_map};
 ghost use Rattle.std.specs.Ordering.{is_gt};
 ghost use Rattle.blz_bytes.specs.NameOrder.{name_cmp};
 ghost use Rattle.blz_model.specs.Part.{Gives};
-ghost use Rattle.blz_elf.specs.NameOrders.{AreSorted, NamesFit, OrderFits, SplitsNames, named_at, named_in, names_view, span_of};
+ghost use Rattle.blz_elf.specs.NameOrders.{AreSorted, NamesFit, OrderFits, SplitsNames, listed_name, named_at, named_in, names_view, span_of};
 ghost use Rattle.blz_elf.specs.NameRule.{asked_names, is_called};
 ghost use Rattle.blz_elf.specs.NameSteps.{named_view, passes};
 ghost use Rattle.blz_elf.specs.Places.{SpanFits, span_in};
@@ -83,14 +83,21 @@ fn name_at_place<'b>(
     listed[places[k]].named(strings)
 }
 
-/// Whether the k-th name is below another.
-fn is_below(strings: &[u8], listed: &[SymbolName], places: &[usize], k: usize, name: &[u8]) -> bool
-    requires sorted { AreSorted (named_in strings.now listed.now) places.now }
-    requires inside { k < length places.now }
-    ensures { result ≡ is_gt (name_cmp name.now (named_at (named_in strings.now listed.now) places.now k).name) }
+/// The name at an index, empty outside.
+fn listed_name<'b>(strings: &'b [u8], listed: &[SymbolName], index: usize) -> &'b [u8]
+    ensures { result.now ≡ listed_name (named_in strings.entry.now listed.now) index }
 {
-    name.cmp(name_at_place(strings, listed, places, k).name)
-        .is_gt()
+    match listed.get(index) {
+        Some(name) => name.named(strings).name,
+        None => &[],
+    }
+}
+
+/// Whether the name at an index is below another.
+fn is_below(strings: &[u8], listed: &[SymbolName], index: usize, name: &[u8]) -> bool
+    ensures { result ≡ is_gt (name_cmp name.now (listed_name (named_in strings.now listed.now) index)) }
+{
+    name.cmp(listed_name(strings, listed, index)).is_gt()
 }
 
 /// How many places have a name below another.
@@ -98,17 +105,7 @@ fn count_below(strings: &[u8], listed: &[SymbolName], places: &[usize], name: &[
     requires { AreSorted (named_in strings.now listed.now) places.now }
     ensures { SplitsNames (named_in strings.now listed.now) places.now result name.now }
 {
-    let mut low = 0;
-    let mut high = places.len();
-    while low < high {
-        let middle = low + (high - low) / 2;
-        if is_below(strings, listed, places, middle, name) {
-            low = middle + 1;
-        } else {
-            high = middle;
-        }
-    }
-    low
+    places.partition_point(|index| is_below(strings, listed, *index, name))
 }
 
 /// The symbols of a name, by an order.

@@ -5,7 +5,7 @@ ghost use Rattle.blz_bytes.specs.ToldPlaces.{counting};
 ghost use Rattle.blz_elf.specs.SymbolRule.{is_typed, covering};
 ghost use Rattle.blz_elf.specs.Views.{symbol_view};
 ghost use Rattle.blz_elf.specs.Tables.{Sorts};
-ghost use Rattle.blz_elf.specs.Accepted.{AreKeys, no_symbol, SplitsAt, SplitsBelow};
+ghost use Rattle.blz_elf.specs.Accepted.{AreKeys, no_symbol, value_at, SplitsAt, SplitsBelow};
 ghost use Rattle.blz_elf.specs.Needed.{IsSearchable};
 
 use crate::needed::{needed_places, symbol_at_place};
@@ -23,22 +23,22 @@ pub struct Sorted {
     pub order: Option<Vec<usize>>,
 }
 
+/// The value of the symbol at an index, 0 outside.
+fn value_at(typed: &[Symbol], index: usize) -> u64
+    ensures { result ≡ value_at (map symbol_view typed.now) index }
+{
+    match typed.get(index) {
+        Some(symbol) => symbol.value,
+        None => 0,
+    }
+}
+
 /// How many places have a value up to an address.
 fn count_up_to(typed: &[Symbol], places: &[usize], addr: u64) -> usize
     requires accepted { IsSearchable (map symbol_view typed.now) places.now }
     ensures { SplitsAt (map symbol_view typed.now) places.now result addr }
 {
-    let mut low = 0;
-    let mut high = places.len();
-    while low < high {
-        let middle = low + (high - low) / 2;
-        if symbol_at_place(typed, places, middle).value <= addr {
-            low = middle + 1;
-        } else {
-            high = middle;
-        }
-    }
-    low
+    places.partition_point(|index| value_at(typed, *index) <= addr)
 }
 
 /// How many places have a value below another.

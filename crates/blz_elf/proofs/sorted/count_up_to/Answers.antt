@@ -1,20 +1,17 @@
-use Rattle.std.proofs.Common.{◌+◌, ◌-◌, ◌/◌, map, arith}
+use Rattle.std.proofs.Common.{ℕ, map, rules, of_calls}
+use Rattle.std.specs.Prelude.{nat_le}
+use Rattle.std.proofs.lemmas.Fn.{always_returns_same}
+use Rattle.blz_elf.specs.Accepted.{value_at}
 use Rattle.blz_elf.specs.Views.{symbol_view}
-use Rattle.blz_elf.proofs.Search.{splits_low, splits_high}
+use Rattle.blz_elf.proofs.Halving.{split_by}
+use Rattle.blz_elf.proofs.Search.{value_falls, splits_at}
 use Rattle.blz_elf.proofs.sorted.count_up_to.Goals as goal
 
-pub loop-low-preserved-then-symbol_at_place-addr : goal.loop-low-preserved-then-symbol_at_place-addr
-loop-low-preserved-then-symbol_at_place-addr c = record {
-  ordered = omega arith;
-  inside = omega arith;
-  low = λ k lt. splits_low (map symbol_view c.args.typed.now) c.args.places.now (c.loop-low.low + (c.loop-low.high - c.loop-low.low) / 2) c.args.addr k c.requires.accepted (omega arith) (omega arith) (rw (← c.symbol_at_place.ensures) c.if-symbol_at_place-addr.true);
-  high = c.loop-low.invariant.high;
-}
-
-pub loop-low-preserved : goal.loop-low-preserved
-loop-low-preserved c = record {
-  ordered = omega arith;
-  inside = omega arith;
-  low = c.loop-low.invariant.low;
-  high = λ k le lt. splits_high (map symbol_view c.args.typed.now) c.args.places.now (c.loop-low.low + (c.loop-low.high - c.loop-low.low) / 2) c.args.addr k c.requires.accepted le lt (rw (← c.symbol_at_place.ensures) (omega arith));
-}
+pub returns : goal.returns
+returns c =
+    let xs = map symbol_view c.args.typed.now in
+    let places = c.args.places.now in
+    let is_up_to = λ (i : ℕ). nat_le (value_at xs i) c.args.addr in
+    splits_at xs places c.args.addr c.partition_point.result c.partition_point.ensures.bound
+    (split_by is_up_to places c.partition_point.result (λ j k. value_falls xs places c.args.addr j k c.requires.accepted)
+    (c.partition_point.ensures.partitioned is_up_to (always_returns_same _ _ _ (λ a r f k. search (rules, of_calls)))))
