@@ -2,7 +2,8 @@
 use Rattle.std.proofs.Common.{◌≡◌, ℕ, ◌+◌, ◌<◌, true, false, List, length, get_or, drop, Option, Some, None, sym, ap, ◌∙◌}
 use Rattle.std.specs.Option.{is_some}
 use Rattle.std.proofs.lemmas.List.{at_drop_more}
-use Rattle.blz_elf.specs.Segments.{Segment, or_else, first_given}
+use Rattle.blz_elf.specs.Segments.{or_else, first_given}
+use Rattle.blz_elf.specs.declared.segments.Segment.{Segment}
 
 step : (f : Segment → Option ℕ) (xs : List Segment) (i : ℕ) (s : Segment) → i < length xs → ((d : Segment) → get_or xs i d ≡ s) → first_given f (drop i xs) ≡ or_else (f s) (first_given f (drop (i + 1) xs))
 step f xs i s lt here = at_drop_more (first_given f) xs i s lt ∙ ap (λ (t : Segment). or_else (f t) (first_given f (drop (i + 1) xs))) (here s)

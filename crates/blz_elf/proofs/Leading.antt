@@ -3,7 +3,7 @@ use Rattle.std.proofs.Common.{◌≡◌, ◌≢◌, ◌⊎◌, inl, inr, ℕ, �
 use Rattle.std.proofs.lemmas.Bool.Decides.{eqb_tells}
 use Rattle.std.proofs.lemmas.List.{take_all}
 use Rattle.blz_elf.specs.declared.question.Question.{Question}
-use Rattle.blz_elf.specs.SymbolTables.{Symbol}
+use Rattle.blz_elf.specs.declared.symbols.Symbol.{Symbol}
 use Rattle.blz_elf.specs.SymbolRule.{is_candidate, answers, greatest, largest, covering}
 use Rattle.blz_elf.specs.Accepted.{no_symbol}
 use Rattle.blz_elf.proofs.Folds.{fold_filter_more}

@@ -4,7 +4,7 @@ use Rattle.std.proofs.lemmas.List.{append-nil, at_drop_more, at_drop_all}
 use Rattle.blz_error.specs.declared.kind.ErrorKind.{ErrorKind}
 use Rattle.blz_model.specs.Part.{Part, Good, Broken, ◌>>=◌, all_good}
 use Rattle.blz_model.proofs.PartLemmas.{after_front}
-use Rattle.blz_elf.specs.SymbolTables.{Symbol}
+use Rattle.blz_elf.specs.declared.symbols.Symbol.{Symbol}
 use Rattle.blz_elf.specs.NameRule.{Named, read_name}
 use Rattle.blz_elf.specs.NameSteps.{with_symbol}
 

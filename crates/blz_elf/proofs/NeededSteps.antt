@@ -8,7 +8,7 @@ use Rattle.std.proofs.lemmas.Bool.Decides.{nat_tests, eqb_tells}
 use Rattle.blz_records.specs.SymbolTypes.{matches}
 use Rattle.blz_elf.specs.declared.question.TableKind.{TableKind}
 use Rattle.blz_elf.specs.declared.question.Question.{Question}
-use Rattle.blz_elf.specs.SymbolTables.{Symbol}
+use Rattle.blz_elf.specs.declared.symbols.Symbol.{Symbol}
 use Rattle.blz_elf.specs.SymbolRule.{covers, may_answer}
 use Rattle.blz_elf.specs.Accepted.{Before, no_symbol, at_place, IsAccepted}
 use Rattle.blz_elf.specs.Needed.{stands_for, HasStandIn, Answers, AreInside, IsSearchable}

@@ -8,7 +8,7 @@ use Rattle.blz_bytes.specs.declared.orders.Key.{Key}
 use Rattle.blz_bytes.specs.PairOrder as pairs
 use Rattle.blz_bytes.specs.PairOrder.{key_at, IsOrder}
 use Rattle.blz_elf.specs.declared.question.Question.{Question}
-use Rattle.blz_elf.specs.SymbolTables.{Symbol}
+use Rattle.blz_elf.specs.declared.symbols.Symbol.{Symbol}
 use Rattle.blz_elf.specs.SymbolRule.{is_typed, is_candidate, may_answer, answers, covering, greatest, largest}
 use Rattle.blz_elf.specs.Accepted.{Before, no_symbol, at_place, value_at, IsAccepted, IsKey, AreKeys, SplitsAt, SplitsBelow}
 use Rattle.blz_elf.specs.Needed.{IsSearchable}

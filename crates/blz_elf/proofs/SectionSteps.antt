@@ -4,7 +4,7 @@ use Rattle.std.proofs.lemmas.List.{at_drop_more, at_drop_all}
 use Rattle.blz_error.specs.declared.kind.ErrorKind.{ErrorKind}
 use Rattle.blz_model.specs.Part.{Part, Good, Broken}
 use Rattle.blz_elf.specs.declared.format.Format.{Format}
-use Rattle.blz_elf.specs.Sections.{Section}
+use Rattle.blz_elf.specs.declared.section.Section.{Section}
 use Rattle.blz_moves.specs.Relocations.{SectionMap}
 use Rattle.blz_elf.specs.RelocationTables.{with_section, with_sections}
 

@@ -3,7 +3,7 @@ use Rattle.std.specs.Prelude.{◌≡◌, ℕ, ◌+◌, ◌-◌, ◌^◌, ◌<◌
 use Rattle.blz_bytes.specs.declared.orders.Key.{Key}
 use Rattle.blz_bytes.specs.PairOrder.{key_at}
 use Rattle.blz_bytes.specs.Rising.{StandsAt}
-use Rattle.blz_elf.specs.SymbolTables.{Symbol}
+use Rattle.blz_elf.specs.declared.symbols.Symbol.{Symbol}
 
 -- the value rises, or the size falls, or the index rises
 pub record Before (s : Symbol) (i : ℕ) (t : Symbol) (j : ℕ) : Type 0 where

@@ -9,7 +9,8 @@ use Rattle.blz_model.specs.declared.byte_order.ByteOrder.{ByteOrder}
 use Rattle.blz_model.specs.Part.{Part, Good, ◌>>=◌, or_mark, all_good}
 use Rattle.blz_model.specs.Texts.{name_at}
 use Rattle.blz_elf.specs.Headers.{Header, header_of}
-use Rattle.blz_elf.specs.Sections.{Section, is_nobits, sections_of, raw_data, data_of}
+use Rattle.blz_elf.specs.Sections.{is_nobits, sections_of, raw_data, data_of}
+use Rattle.blz_elf.specs.declared.section.Section.{Section}
 
 -- The index of the table of the sections' names; SHN_XINDEX says that it stands in the first section header.
 abbrev pub name_index : Header → List Section → Option ℕ

@@ -15,10 +15,9 @@ use Rattle.blz_elf.specs.Accepted.{no_symbol}
 use Rattle.blz_elf.specs.Images.{Elf}
 use Rattle.blz_elf.specs.NameRule.{Named, symbol_names}
 use Rattle.blz_elf.specs.Places.{SpanFits, span_in}
-use Rattle.blz_elf.specs.Views.{symbol_view}
 
 abbrev pub name_view : List ℕ → SymbolName → Named
-name_view strings n = record { symbol = symbol_view n.symbol; name = text_in strings (Some n.name) }
+name_view strings n = record { symbol = n.symbol; name = text_in strings (Some n.name) }
 
 abbrev pub span_of : SymbolName → NameSpan
 span_of n = n.name

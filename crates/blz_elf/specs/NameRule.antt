@@ -12,8 +12,10 @@ use Rattle.blz_records.specs.SymbolTypes.{matches, sym_type_of}
 use Rattle.blz_elf.specs.declared.question.TableKind.{TableKind}
 use Rattle.blz_elf.specs.declared.question.TableKind.TheVariants.{Symtab, Dynsym}
 use Rattle.blz_elf.specs.Images.{Elf, elf_of}
-use Rattle.blz_elf.specs.Sections.{Section, is_nobits}
-use Rattle.blz_elf.specs.SymbolTables.{Symbol, SymbolTable, table_of}
+use Rattle.blz_elf.specs.Sections.{is_nobits}
+use Rattle.blz_elf.specs.declared.section.Section.{Section}
+use Rattle.blz_elf.specs.SymbolTables.{SymbolTable, table_of}
+use Rattle.blz_elf.specs.declared.symbols.Symbol.{Symbol}
 use Rattle.blz_elf.specs.SymbolRule.{is_typed, covering}
 use Rattle.blz_elf.specs.Infos.{Info}
 

@@ -1,15 +1,14 @@
 -- One symbol more of a table whose names are read, and one name more of a list.
 use Rattle.std.specs.Prelude.{ℕ, Bool, List, [], ◌∷◌, ◌++◌, if◌then◌else◌}
 use Rattle.blz_model.specs.Part.{Part, Good, ◌>>=◌}
-use Rattle.blz_elf.specs.SymbolTables.{Symbol}
+use Rattle.blz_elf.specs.declared.symbols.Symbol.{Symbol}
 use Rattle.blz_elf.specs.NameRule.{Named, read_name, is_called, is_of_type}
 use Rattle.blz_elf.specs.declared.names.Wanted.{Wanted}
 use Rattle.blz_elf.specs.declared.names.Wanted.TheVariants.{Called, OfType}
 use Rattle.blz_elf.specs.declared.names.NamedSymbol.{NamedSymbol}
-use Rattle.blz_elf.specs.Views.{symbol_view}
 
 abbrev pub named_view : NamedSymbol → Named
-named_view n = record { symbol = symbol_view n.symbol; name = n.name.now }
+named_view n = record { symbol = n.symbol; name = n.name.now }
 
 -- the test of what is wanted
 abbrev pub passes : Wanted → Named → Bool

@@ -3,7 +3,7 @@ use Rattle.std.specs.Prelude.{ℕ, Bool, false, List, [], drop, map, Option, Som
 use Rattle.std.specs.Str.{bytes_eq}
 use Rattle.blz_model.specs.Part.{Part, Good, Broken}
 use Rattle.blz_model.specs.Texts.{name_at}
-use Rattle.blz_elf.specs.Sections.{Section}
+use Rattle.blz_elf.specs.declared.section.Section.{Section}
 
 abbrev pub value_or : {A : Type 0} → A → Part A → A
 value_or d (Good x) = x

@@ -2,7 +2,7 @@
 use Rattle.std.specs.Prelude.{◌≡◌, ℕ, ◌<◌, ◌⊎◌, Bool, true, ◌&&◌, ◌||◌, not, ◌==◌, List, length, get_or}
 use Rattle.blz_constants.specs.declared.elf.TheConstants.{SHN_UNDEF}
 use Rattle.blz_elf.specs.declared.question.Question.{Question}
-use Rattle.blz_elf.specs.SymbolTables.{Symbol}
+use Rattle.blz_elf.specs.declared.symbols.Symbol.{Symbol}
 use Rattle.blz_elf.specs.SymbolRule.{may_answer}
 use Rattle.blz_elf.specs.Accepted.{Before, no_symbol, at_place}
 

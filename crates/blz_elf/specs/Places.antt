@@ -8,6 +8,8 @@ use Rattle.blz_elf.specs.declared.format.Class.{Class}
 use Rattle.blz_elf.specs.declared.format.Format.{Format}
 use Rattle.blz_elf.specs.declared.span.Span.{Span}
 use Rattle.blz_elf.specs.declared.span.Rows.{Rows}
+use Rattle.blz_elf.specs.declared.section.Section.{Section}
+use Rattle.blz_elf.specs.declared.symbols.Symbol.{Symbol}
 
 -- bytes that lie in the image
 abbrev pub SpanFits : List ℕ → Span → Type 0
@@ -26,8 +28,8 @@ run_of r = record { start = r.at; count = r.count }
 abbrev pub rows_in : {A : Type 0} → (Format → List ℕ → ℕ → A) → (Class → ℕ) → List ℕ → Rows → List A
 rows_in record_at size image r = map (λ i. record_at r.format image (r.at + size r.format.class * i)) (range_with_len 0 r.count)
 
-abbrev pub sections_in : List ℕ → Rows → List sections.Section
+abbrev pub sections_in : List ℕ → Rows → List Section
 sections_in image r = rows_in sections.section_at section_size image r
 
-abbrev pub symbols_in : List ℕ → Rows → List symbols.Symbol
+abbrev pub symbols_in : List ℕ → Rows → List Symbol
 symbols_in image r = rows_in symbols.symbol_at symbol_size image r

@@ -14,8 +14,10 @@ use Rattle.blz_moves.specs.declared.relocation.Relocation.{Relocation}
 use Rattle.blz_moves.specs.declared.relocation.Relocation.TheVariants.{Replaces, Adds}
 use Rattle.blz_elf.specs.Formats.{word, word_at, symbol_size, rela_size, rel_size}
 use Rattle.blz_elf.specs.Headers.{Header, header_of}
-use Rattle.blz_elf.specs.Sections.{Section, sections_of, records_of}
-use Rattle.blz_elf.specs.SymbolTables.{Symbol, symbol_at}
+use Rattle.blz_elf.specs.Sections.{sections_of, records_of}
+use Rattle.blz_elf.specs.declared.section.Section.{Section}
+use Rattle.blz_elf.specs.SymbolTables.{symbol_at}
+use Rattle.blz_elf.specs.declared.symbols.Symbol.{Symbol}
 use Rattle.blz_moves.specs.Relocations.{SectionMap, with_relocation}
 
 -- an entry: the place of the field, the index of the symbol, and the addend where the entry has one

@@ -8,16 +8,7 @@ use Rattle.blz_model.specs.Part.{Part, Good, Broken, ◌>>=◌, check}
 use Rattle.blz_elf.specs.declared.format.Format.{Format}
 use Rattle.blz_elf.specs.Formats.{word, section_size, compression_size, word_at}
 use Rattle.blz_elf.specs.Headers.{Header}
-
-pub record Section : Type 0 where
-  pub name_offset : ℕ
-  pub kind : ℕ
-  pub flags : ℕ
-  pub addr : ℕ
-  pub offset : ℕ
-  pub size : ℕ
-  pub link : ℕ
-  pub info : ℕ
+use Rattle.blz_elf.specs.declared.section.Section.{Section}
 
 -- the section header at a place
 abbrev pub section_at : Format → List ℕ → ℕ → Section

@@ -9,12 +9,7 @@ use Rattle.blz_elf.specs.declared.format.Format.{Format}
 use Rattle.blz_elf.specs.Formats.{word, word_at, segment_size}
 use Rattle.blz_elf.specs.Headers.{Header, header_of}
 use Rattle.blz_elf.specs.Sections.{first_section}
-
-pub record Segment : Type 0 where
-  pub kind : ℕ
-  pub offset : ℕ
-  pub addr : ℕ
-  pub file_size : ℕ
+use Rattle.blz_elf.specs.declared.segments.Segment.{Segment}
 
 -- the program header at a place
 abbrev pub segment_at : Format → List ℕ → ℕ → Segment

@@ -14,7 +14,8 @@ use Rattle.blz_elf.specs.declared.question.Question.{Question}
 use Rattle.blz_records.specs.declared.sym_type.SymType.TheVariants.{Undefined}
 use Rattle.blz_records.specs.SymbolTypes.{matches}
 use Rattle.blz_elf.specs.Images.{Elf, elf_of}
-use Rattle.blz_elf.specs.SymbolTables.{Symbol, SymbolTable, table_of}
+use Rattle.blz_elf.specs.SymbolTables.{SymbolTable, table_of}
+use Rattle.blz_elf.specs.declared.symbols.Symbol.{Symbol}
 
 -- STT_NOTYPE, STT_OBJECT, STT_FUNC and STT_GNU_IFUNC: the types that are answered
 abbrev pub is_typed : Symbol → Bool

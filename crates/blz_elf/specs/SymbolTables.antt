@@ -11,13 +11,7 @@ use Rattle.blz_elf.specs.Sections.{raw_data, records_of, if_there}
 use Rattle.blz_elf.specs.declared.question.TableKind.{TableKind}
 use Rattle.blz_elf.specs.declared.question.TableKind.TheVariants.{Symtab, Dynsym}
 use Rattle.blz_elf.specs.Images.{Elf, elf_of, section_named, section_called}
-
-pub record Symbol : Type 0 where
-  pub name_offset : ℕ
-  pub value : ℕ
-  pub size : ℕ
-  pub kind : ℕ
-  pub section : ℕ
+use Rattle.blz_elf.specs.declared.symbols.Symbol.{Symbol}
 
 -- where st_info stands in a symbol
 abbrev pub info_place : Class → ℕ

@@ -6,21 +6,21 @@ use Rattle.blz_elf.specs.declared.question.TableKind.{TableKind}
 use Rattle.blz_elf.specs.Images.{Elf}
 use Rattle.blz_elf.specs.SymbolTables as symbols
 use Rattle.blz_elf.specs.SymbolTables.{table_of}
+use Rattle.blz_elf.specs.declared.symbols.Symbol.{Symbol}
 use Rattle.blz_elf.specs.SymbolRule.{is_typed}
 use Rattle.blz_elf.specs.declared.table.Table.{Table}
 use Rattle.blz_elf.specs.declared.sorted.Sorted.{Sorted}
 use Rattle.blz_elf.specs.Formats.{symbol_size}
 use Rattle.blz_elf.specs.Places.{SpanFits, span_in, RowsFit, symbols_in}
-use Rattle.blz_elf.specs.Views.{symbol_view}
 use Rattle.blz_elf.specs.Needed.{IsSearchable}
 
 abbrev pub table_view : List ℕ → Table → symbols.SymbolTable
 table_view image t = record { symbols = symbols_in image t.symbols; strings = span_in image t.strings }
 
 -- the symbols of the answered types, and what a search needs of an accepted order of them
-pub record Sorts (symbols : List symbols.Symbol) (s : Sorted) : Type 0 where
-  pub typed : map symbol_view s.typed.items ≡ filter is_typed symbols
-  pub order : IfSome s.order (λ o. IsSearchable (map symbol_view s.typed.items) o.items)
+pub record Sorts (symbols : List Symbol) (s : Sorted) : Type 0 where
+  pub typed : s.typed.items ≡ filter is_typed symbols
+  pub order : IfSome s.order (λ o. IsSearchable s.typed.items o.items)
 
 pub record TableFits (image : List ℕ) (t : Table) : Type 0 where
   pub symbols : RowsFit symbol_size image t.symbols

@@ -7,7 +7,6 @@ ghost use Rattle.blz_elf.specs.declared.format.Class.TheVariants.{Elf32};
 ghost use Rattle.blz_elf.specs.EntryPlaces.{entries_in};
 ghost use Rattle.blz_elf.specs.EntryViews.{entry_view};
 ghost use Rattle.blz_elf.specs.Places.{RowsFit};
-ghost use Rattle.blz_elf.specs.Views.{section_view};
 
 use crate::format::{Class, Format};
 use crate::number::word_in;
@@ -39,7 +38,7 @@ pub struct Entry {
 
 /// The kind of the entries of a section, where it has some.
 pub fn entry_kind(section: &Section) -> Option<EntryKind>
-    ensures { result ≡ entry_kind (section_view section.now) }
+    ensures { result ≡ entry_kind section.now }
 {
     match section.kind {
         SHT_RELA => Some(EntryKind::Rela),

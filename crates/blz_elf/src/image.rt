@@ -3,7 +3,6 @@ ghost use Rattle.std.specs.Prelude.{◌≡◌, IfOk, slice_get};
 ghost use Rattle.std.specs.Option.{option_map};
 ghost use Rattle.blz_elf.specs.Images.{elf_of, names_of, section_named, section_called, data_named, holds_bytes, is_relocatable};
 ghost use Rattle.blz_elf.specs.Names.{names_in};
-ghost use Rattle.blz_elf.specs.Views.{section_view};
 ghost use Rattle.blz_model.specs.Part.{Good};
 ghost use Rattle.blz_elf.specs.Headers.{header_of};
 ghost use Rattle.blz_elf.specs.Sections.{sections_of};
@@ -15,6 +14,7 @@ ghost use Rattle.blz_elf.specs.Frames.{FrameFits, frame_view};
 
 use crate::format::Format;
 use crate::header::Header;
+use crate::record::Records;
 use crate::section::{Section, SectionTable, data, names};
 use crate::span::{Rows, Span};
 use crate::text::{is_text_at, next_name};
@@ -58,7 +58,7 @@ fn check_names(texts: &[u8], sections: &SectionTable<'_>) -> Result<()>
 {
     let mut last = None;
     for i in 1..sections.len() {
-        last = Some(next_name(texts, last, sections.at(i).name)?);
+        last = Some(next_name(texts, last, sections.at(i).name_offset)?);
     }
     Ok(())
 }
@@ -72,7 +72,7 @@ pub fn read_frame(image: &[u8], header: Header, rows: Rows) -> Result<Frame>
     ensures value { Exactly (frame_view image.now) result (elf_of image.now) }
     ensures fits { IfOk result (FrameFits image.now) }
 {
-    let sections = SectionTable::open(image, rows);
+    let sections = Records::open(image, rows);
     let texts = names(image, &header, &sections)?;
     check_names(&image[texts.at..texts.at + texts.len], &sections)?;
     Ok(Frame {
@@ -91,7 +91,7 @@ impl<'b> Image<'b> {
         Image {
             bytes,
             header: frame.header,
-            sections: SectionTable::open(bytes, frame.sections),
+            sections: Records::open(bytes, frame.sections),
             texts: &bytes[frame.texts.at..frame.texts.at + frame.texts.len],
         }
     }
@@ -101,7 +101,7 @@ impl<'b> Image<'b> {
         ensures { result ≡ section_named self.now name.now }
     {
         for i in 1..self.sections.len() {
-            if is_text_at(self.texts, self.sections.at(i).name, name.as_bytes()) {
+            if is_text_at(self.texts, self.sections.at(i).name_offset, name.as_bytes()) {
                 return Some(i);
             }
         }
@@ -116,7 +116,7 @@ impl<'b> Image<'b> {
 
     #[tactic(auto, unfolding(crate::specs::Images::section_called))]
     pub fn section_called(&self, name: &str) -> Option<Section>
-        ensures { option_map section_view result ≡ section_called self.now name.now }
+        ensures { result ≡ section_called self.now name.now }
     {
         let index = self.find(name)?;
         self.section(index)
@@ -159,7 +159,7 @@ impl<'b> Image<'b> {
 
     /// The section header at an index, none outside the table.
     pub fn section(&self, index: usize) -> Option<Section>
-        ensures { option_map section_view result ≡ slice_get self.now.sections index }
+        ensures { result ≡ slice_get self.now.sections index }
     {
         if index < self.sections.len() {
             Some(self.sections.at(index))

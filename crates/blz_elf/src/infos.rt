@@ -5,7 +5,6 @@ ghost use Rattle.blz_model.specs.Part.{Exactly, Gives, all_good};
 ghost use Rattle.blz_elf.specs.Infos.{info_view};
 ghost use Rattle.blz_elf.specs.NameRule.{place_in, symbol_place, place_if, info_of};
 ghost use Rattle.blz_elf.specs.NameSteps.{named_view};
-ghost use Rattle.blz_elf.specs.Views.{section_view, symbol_view};
 
 use crate::image::Image;
 use crate::names::NamedSymbol;
@@ -19,7 +18,7 @@ use std::alloc::Global;
 
 /// The place of a symbol in the file, by its section.
 fn place_in(section: &Section, symbol: &Symbol) -> Option<u64>
-    ensures { result ≡ place_in (section_view section.now) (symbol_view symbol.now) }
+    ensures { result ≡ place_in section.now symbol.now }
 {
     if section.kind == SHT_NOBITS {
         return None;
@@ -42,7 +41,7 @@ fn place_in(section: &Section, symbol: &Symbol) -> Option<u64>
 /// The place of a symbol in the file.
 #[tactic(auto, unfolding(crate::specs::NameRule::symbol_place))]
 fn symbol_place(image: &Image<'_>, symbol: &Symbol) -> Result<Option<u64>>
-    ensures { Exactly (λ p. p) result (symbol_place image.now (symbol_view symbol.now)) }
+    ensures { Exactly (λ p. p) result (symbol_place image.now symbol.now) }
 {
     // from here on an index names no section
     if symbol.section >= SHN_LORESERVE {
@@ -57,7 +56,7 @@ fn symbol_place(image: &Image<'_>, symbol: &Symbol) -> Result<Option<u64>>
 /// The same, where it is asked.
 #[tactic(auto, unfolding(crate::specs::NameRule::place_if))]
 fn place_if(asked: bool, image: &Image<'_>, symbol: &Symbol) -> Result<Option<u64>>
-    ensures { Exactly (λ p. p) result (place_if asked image.now (symbol_view symbol.now)) }
+    ensures { Exactly (λ p. p) result (place_if asked image.now symbol.now) }
 {
     if asked {
         symbol_place(image, symbol)

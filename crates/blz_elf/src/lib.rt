@@ -18,6 +18,7 @@ mod number;
 mod opts;
 mod parser;
 mod question;
+mod record;
 mod record_slice;
 mod relocating;
 mod section;

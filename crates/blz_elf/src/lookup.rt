@@ -5,7 +5,6 @@ ghost use Rattle.blz_model.specs.Part.{Exactly};
 ghost use Rattle.blz_elf.specs.Tables.{TableFits, table_view};
 ghost use Rattle.blz_elf.specs.SymbolRule.{named, answer_in};
 ghost use Rattle.blz_elf.specs.AnswerView.{answer_view};
-ghost use Rattle.blz_elf.specs.Views.{symbol_view};
 
 use crate::answer::{Answer, InlinedFns, ResolvedSym};
 use crate::question::Question;
@@ -26,9 +25,9 @@ fn named<'b>(
     symbol: &Symbol,
 ) -> Result<Answer<'b>>
     requires { TableFits image.now table.now }
-    ensures { Exactly answer_view result (named (option_map (λ m. m.now) module_name.entry) (table_view image.now table.now) (symbol_view symbol.now)) }
+    ensures { Exactly answer_view result (named (option_map (λ m. m.now) module_name.entry) (table_view image.now table.now) symbol.now) }
 {
-    let name = name(table.strings_in(image), symbol.name)?;
+    let name = name(table.strings_in(image), symbol.name_offset)?;
     Ok(Answer::Sym(ResolvedSym {
         name,
         module: module_name,

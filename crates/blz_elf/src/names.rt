@@ -7,10 +7,10 @@ ghost use Rattle.blz_elf.specs.NameRule.{is_excluded, is_asked, read_name, asked
 ghost use Rattle.blz_elf.specs.NameSteps.{named_view, passes, with_named, with_symbol};
 ghost use Rattle.blz_elf.specs.Places.{span_in};
 ghost use Rattle.blz_elf.specs.Tables.{TableFits, table_view};
-ghost use Rattle.blz_elf.specs.Views.{symbol_view};
 
 use crate::question::{Question, TableKind};
-use crate::symbols::{Symbol, Symbols};
+use crate::record::Records;
+use crate::symbols::Symbol;
 use crate::table::Table;
 use crate::text::{bytes_at, name};
 use blz_bytes::NameSpan;
@@ -90,7 +90,7 @@ impl Wanted<'_> {
 #[tactic(auto, unfolding(crate::specs::NameRule::is_excluded))]
 fn is_excluded(image: &[u8], symtab: &Table, symbol: &Symbol) -> bool
     requires { TableFits image.now symtab.now }
-    ensures { result ≡ is_excluded (table_view image.now symtab.now) (symbol_view symbol.now) }
+    ensures { result ≡ is_excluded (table_view image.now symtab.now) symbol.now }
 {
     let question = Question {
         table: TableKind::Symtab,
@@ -98,7 +98,7 @@ fn is_excluded(image: &[u8], symtab: &Table, symbol: &Symbol) -> bool
         sym_type: symbol.sym_type(),
     };
     match symtab.covering(image, &question) {
-        Some(found) => name(symtab.strings_in(image), found.name).is_ok(),
+        Some(found) => name(symtab.strings_in(image), found.name_offset).is_ok(),
         None => false,
     }
 }
@@ -106,7 +106,7 @@ fn is_excluded(image: &[u8], symtab: &Table, symbol: &Symbol) -> bool
 /// Whether the name of a symbol is read.
 fn is_asked(image: &[u8], symtab: Option<&Table>, symbol: &Symbol) -> bool
     requires { IfSome symtab (λ t. TableFits image.now t.now) }
-    ensures { result ≡ is_asked (option_map (λ t. table_view image.now t.now) symtab.entry) (symbol_view symbol.now) }
+    ensures { result ≡ is_asked (option_map (λ t. table_view image.now t.now) symtab.entry) symbol.now }
 {
     if !symbol.is_typed() {
         return false;
@@ -120,13 +120,13 @@ fn is_asked(image: &[u8], symtab: Option<&Table>, symbol: &Symbol) -> bool
 /// A symbol with the place of its name.
 #[tactic(auto, unfolding(crate::specs::NameRule::read_name, blz_model::specs::Texts::name_bytes))]
 fn read_name(strings: &[u8], symbol: &Symbol) -> Result<SymbolName>
-    ensures { Exactly (name_view strings.now) result (read_name strings.now (symbol_view symbol.now)) }
+    ensures { Exactly (name_view strings.now) result (read_name strings.now symbol.now) }
 {
-    match bytes_at(strings, symbol.name) {
+    match bytes_at(strings, symbol.name_offset) {
         Some(name) => Ok(SymbolName {
             symbol: *symbol,
             name: NameSpan {
-                start: symbol.name as usize,
+                start: symbol.name_offset as usize,
                 len: name.len(),
             },
         }),
@@ -144,7 +144,7 @@ fn ask_symbol(
     symbol: &Symbol,
 ) -> Result<()>
     requires { IfSome symtab (λ t. TableFits image.now t.now) }
-    ensures { Gives (λ _. named_in strings.now names.new.items) result (with_symbol (is_asked (option_map (λ t. table_view image.now t.now) symtab.entry)) strings.now (named_in strings.now names.old.items) (symbol_view symbol.now)) }
+    ensures { Gives (λ _. named_in strings.now names.new.items) result (with_symbol (is_asked (option_map (λ t. table_view image.now t.now) symtab.entry)) strings.now (named_in strings.now names.old.items) symbol.now) }
 {
     if !is_asked(image, symtab, symbol) {
         return Ok(());
@@ -164,7 +164,7 @@ pub fn asked_names(
     requires table { TableFits image.now table.now }
     ensures { Gives (λ v. named_in (span_in image.now table.now.strings) v.items) result (asked_names (option_map (λ t. table_view image.now t.now) symtab.entry) (table_view image.now table.now)) }
 {
-    let symbols = Symbols::open(image, table.symbols);
+    let symbols = Records::open(image, table.symbols);
     let strings = table.strings_in(image);
     let mut names = Vec::new(alloc);
     for i in 0..symbols.len() {

@@ -4,7 +4,6 @@ ghost use Rattle.std.specs.Prelude.{◌≡◌, ◌<◌, length, map, IfOk};
 ghost use Rattle.std.specs.Bool.{OnTrue};
 ghost use Rattle.blz_elf.specs.Accepted.{at_place, IsAccepted};
 ghost use Rattle.blz_elf.specs.Needed.{AreInside, HasStandIn, IsSearchable, stands_for};
-ghost use Rattle.blz_elf.specs.Views.{symbol_view};
 
 use crate::symbols::Symbol;
 use blz_constants::elf::SHN_UNDEF;
@@ -12,16 +11,16 @@ use std::alloc::{AllocError, Global};
 
 /// The symbol at the k-th place.
 pub fn symbol_at_place(typed: &[Symbol], places: &[usize], k: usize) -> Symbol
-    requires all { AreInside (map symbol_view typed.now) places.now }
+    requires all { AreInside typed.now places.now }
     requires inside { k < length places.now }
-    ensures { symbol_view result ≡ at_place (map symbol_view typed.now) places.now k }
+    ensures { result ≡ at_place typed.now places.now k }
 {
     typed[places[k]]
 }
 
 /// Whether a later symbol answers nothing that an earlier one of its value does not.
 fn stands_for(earlier: &Symbol, later: &Symbol) -> bool
-    ensures { result ≡ stands_for (symbol_view earlier.now) (symbol_view later.now) }
+    ensures { result ≡ stands_for earlier.now later.now }
 {
     earlier.value == later.value
         && (later.section == SHN_UNDEF
@@ -32,8 +31,8 @@ fn stands_for(earlier: &Symbol, later: &Symbol) -> bool
 
 /// Whether one of the kept places, from a number of them on, has a symbol that stands for another.
 fn has_stand_in(typed: &[Symbol], kept: &[usize], from: usize, symbol: &Symbol) -> bool
-    requires { AreInside (map symbol_view typed.now) kept.now }
-    ensures { OnTrue result (HasStandIn (map symbol_view typed.now) kept.now (symbol_view symbol.now)) }
+    requires { AreInside typed.now kept.now }
+    ensures { OnTrue result (HasStandIn typed.now kept.now symbol.now) }
 {
     for k in from..kept.len() {
         if stands_for(&symbol_at_place(typed, kept, k), symbol) {
@@ -45,7 +44,7 @@ fn has_stand_in(typed: &[Symbol], kept: &[usize], from: usize, symbol: &Symbol) 
 
 /// Whether the last of the kept places has another value.
 fn is_new_value(typed: &[Symbol], kept: &[usize], symbol: &Symbol) -> bool
-    requires { AreInside (map symbol_view typed.now) kept.now }
+    requires { AreInside typed.now kept.now }
 {
     let count = kept.len();
     count == 0 || symbol_at_place(typed, kept, count - 1).value != symbol.value
@@ -57,8 +56,8 @@ pub fn needed_places(
     typed: &[Symbol],
     places: &[usize],
 ) -> Result<Vec<usize>, AllocError>
-    requires { IsAccepted (map symbol_view typed.now) places.now }
-    ensures { IfOk result (λ v. IsSearchable (map symbol_view typed.now) v.items) }
+    requires { IsAccepted typed.now places.now }
+    ensures { IfOk result (λ v. IsSearchable typed.now v.items) }
 {
     let mut kept = Vec::new(alloc);
     // where the places of the last value begin

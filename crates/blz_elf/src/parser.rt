@@ -24,8 +24,9 @@ use crate::header::{Header, read_header};
 use crate::image::{Frame, Image, read_frame};
 use crate::opts::FindSymOpts;
 use crate::question::TableKind;
+use crate::record::Records;
 use crate::section::{data_at, sections};
-use crate::segments::{SegmentTable, segments};
+use crate::segments::{address_of, file_place, segments};
 use crate::span::Rows;
 use crate::warm::ElfWarm;
 use blz_bytes::{ByteOrder, Orders};
@@ -274,7 +275,7 @@ impl<'b> ElfParser<'b> {
     {
         let header = self.header()?;
         let rows = segments(self.image, &header)?;
-        Ok(SegmentTable::open(self.image, rows).file_place(addr, size))
+        Ok(file_place(&Records::open(self.image, rows), addr, size))
     }
 
     /// The address of a place in the file, by the first loaded segment that holds it; none where no segment does.
@@ -286,7 +287,7 @@ impl<'b> ElfParser<'b> {
     {
         let header = self.header()?;
         let rows = segments(self.image, &header)?;
-        Ok(SegmentTable::open(self.image, rows).address_of(offset))
+        Ok(address_of(&Records::open(self.image, rows), offset))
     }
 
     /// The symbol of an address: of the symbols with the greatest value up to it, the largest that is defined and covers

@@ -1,7 +1,6 @@
 //! What is asked of a table of symbols.
 ghost use Rattle.std.specs.Prelude.{◌≡◌};
 ghost use Rattle.blz_elf.specs.SymbolRule.{covers, may_answer};
-ghost use Rattle.blz_elf.specs.Views.{symbol_view};
 
 use crate::symbols::Symbol;
 use blz_constants::elf::SHN_UNDEF;
@@ -29,7 +28,7 @@ pub struct Question {
 
 impl Question {
     fn is_covered(&self, symbol: &Symbol) -> bool
-        ensures { result ≡ covers self.now.table self.now.addr (symbol_view symbol.now) }
+        ensures { result ≡ covers self.now.table self.now.addr symbol.now }
     {
         if symbol.size == 0 {
             return match self.table {
@@ -42,7 +41,7 @@ impl Question {
 
     /// Whether a symbol is defined, covers the address, and is of the type that is asked for.
     pub fn may_be_answered(&self, symbol: &Symbol) -> bool
-        ensures { result ≡ may_answer self.now (symbol_view symbol.now) }
+        ensures { result ≡ may_answer self.now symbol.now }
     {
         symbol.section != SHN_UNDEF && self.is_covered(symbol) && symbol.matches(self.sym_type)
     }

@@ -8,11 +8,12 @@ ghost use Rattle.blz_elf.specs.Places.{RowsFit, sections_in};
 ghost use Rattle.blz_elf.specs.RelocationTables.{value_at, entry_at, entry_size, put_entry, with_entries, with_section, with_sections, relocations_of};
 ghost use Rattle.blz_elf.specs.EntryPlaces.{entries_in};
 ghost use Rattle.blz_elf.specs.EntryViews.{entry_view};
-ghost use Rattle.blz_elf.specs.Views.{header_view, section_view};
+ghost use Rattle.blz_elf.specs.Views.{header_view};
 
 use crate::entries::{Entry, EntryKind, RelocationEntries, entry_kind, entry_size};
 use crate::format::Format;
 use crate::header::Header;
+use crate::record::Records;
 use crate::section::{Section, SectionTable, records};
 use crate::span::Rows;
 use crate::symbols::Symbols;
@@ -76,7 +77,7 @@ fn put_entries(
 /// The place of the entries of a section.
 #[tactic(auto, unfolding(crate::specs::Sections::records_of))]
 fn entries_of(image: &[u8], section: &Section, kind: EntryKind, format: Format) -> Result<Rows>
-    ensures value { Exactly (entries_in kind image.now) result (records_of (entry_at kind format) (entry_size kind format.class) image.now (section_view section.now)) }
+    ensures value { Exactly (entries_in kind image.now) result (records_of (entry_at kind format) (entry_size kind format.class) image.now section.now) }
     ensures fits { IfOk result (RowsFit (entry_size kind) image.now) }
 {
     records(image, section, entry_size(kind, format.class), format)
@@ -93,7 +94,7 @@ fn relocate_by(
     section: &Section,
     kind: EntryKind,
 ) -> Result<()>
-    ensures { Gives (λ _. map.new) result (with_entries format image.now sections.now (section_view section.now) kind map.old) }
+    ensures { Gives (λ _. map.new) result (with_entries format image.now sections.now section.now kind map.old) }
 {
     let link = section.link as usize;
     if link >= sections.len() {
@@ -104,7 +105,7 @@ fn relocate_by(
     }
     let symbols = symbols_of(image, Some(sections.at(link)), format)?;
     let entries = entries_of(image, section, kind, format)?;
-    let symbols = Symbols::open(image, symbols);
+    let symbols = Records::open(image, symbols);
     let entries = RelocationEntries::open(image, entries, kind);
     put_entries(alloc, map, &symbols, section.info, &entries)?;
     Ok(())
@@ -120,7 +121,7 @@ fn relocate_section(
     sections: &SectionTable<'_>,
     section: &Section,
 ) -> Result<()>
-    ensures { Gives (λ _. map.new) result (with_section format image.now sections.now map.old (section_view section.now)) }
+    ensures { Gives (λ _. map.new) result (with_section format image.now sections.now map.old section.now) }
 {
     match entry_kind(section) {
         Some(kind) => relocate_by(alloc, map, image, format, sections, section, kind),
@@ -157,7 +158,7 @@ pub fn relocations(
 {
     let mut map = SectionRelocations::empty(alloc);
     if header.file_type == ET_REL {
-        let sections = SectionTable::open(image, rows);
+        let sections = Records::open(image, rows);
         relocate_all(alloc, &mut map, image, header.format, &sections)?;
     }
     Ok(map)

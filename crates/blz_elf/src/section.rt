@@ -1,29 +1,27 @@
 //! The section table, and the bytes of a section.
 ghost use Rattle.std.specs.Prelude.{◌≡◌, ◌+◌, ◌*◌, ◌<◌, ◌≤◌, length, Some, IfOk};
-ghost use Rattle.std.specs.List.{HoldsAt};
 ghost use Rattle.blz_model.specs.Part.{Exactly, Good};
 ghost use Rattle.blz_elf.specs.Headers.{header_of};
 ghost use Rattle.blz_elf.specs.Formats.{section_size};
 ghost use Rattle.blz_elf.specs.Places.{SpanFits, span_in, RowsFit, sections_in, run_of};
-ghost use Rattle.blz_elf.specs.Sections as model;
 ghost use Rattle.blz_elf.specs.Sections.{first_section, section_count, sections_of, raw_data, data_of, run_in};
 ghost use Rattle.blz_elf.specs.Images.{name_table, name_index, image_section_data};
-ghost use Rattle.blz_elf.specs.Views.{header_view, section_view};
+ghost use Rattle.blz_elf.specs.Views.{header_view};
 
-use crate::format::Format;
+use crate::format::{Class, Format};
 use crate::header::Header;
 use crate::number::word_in;
-use crate::span::{Rows, Span, lie_inside, place_of};
+use crate::record::{Record, Records};
+use crate::span::{Rows, Span, lie_inside};
 use blz_constants::elf::{SHF_COMPRESSED, SHN_XINDEX, SHT_NOBITS};
 use blz_error::{Error, ErrorKind, Result, Str};
 use blz_records::u32_in;
-use std::marker::Model;
 
 /// What is read of a section header.
 #[derive(Clone, Copy)]
 pub struct Section {
     /// sh_name.
-    pub name: u32,
+    pub name_offset: u32,
     /// sh_type.
     pub kind: u32,
     /// sh_flags.
@@ -41,81 +39,45 @@ pub struct Section {
 }
 
 /// The section headers, where they lie in the image.
-#[derive(Drop)]
-pub struct SectionTable<'b> {
-    image: &'b [u8],
-    rows: Rows,
-}
+pub type SectionTable<'b> = Records<'b, Section>;
 
-impl<'b> Model for SectionTable<'b> {
-    ghost use Rattle.std.specs.Prelude.{List};
+impl Record for Section {
     ghost use Rattle.blz_elf.specs.Formats.{section_size};
-    ghost use Rattle.blz_elf.specs.Places.{RowsFit, sections_in};
     ghost use Rattle.blz_elf.specs.Sections as model;
 
-    ghost Value = { List model.Section };
+    ghost SIZE = { section_size };
 
-    ghost view = { λ t. sections_in t.image.now t.rows };
+    ghost record_at = { model.section_at };
 
-    ghost invariant = { λ t. RowsFit section_size t.image.now t.rows };
-}
-
-impl<'b> SectionTable<'b> {
-    /// The sections at a place.
-    pub fn open(image: &'b [u8], rows: Rows) -> SectionTable<'b>
-        requires { RowsFit section_size image.now rows }
-        ensures { result ≡ sections_in image.now rows }
-    {
-        SectionTable { image, rows }
+    fn size(class: Class) -> usize {
+        class.section_size()
     }
 
-    /// How many they are.
-    pub fn len(&self) -> usize
-        ensures { result ≡ length self.now }
-    {
-        self.rows.count
-    }
-
-    /// The section header at an index.
-    pub fn at(&self, index: usize) -> Section
-        requires { index < length self.now }
-        ensures { HoldsAt (λ s. s ≡ section_view result) self.now index }
-    {
-        let rows = self.rows;
-        let size = rows.format.class.section_size();
-        let at = place_of(rows.at, size, rows.count, index, self.image.len());
-        section_at(self.image, at, rows.format)
-    }
-}
-
-/// The section header at a place.
-fn section_at(image: &[u8], at: usize, format: Format) -> Section
-    requires { at + section_size format.class ≤ length image.now }
-    ensures { section_view result ≡ model.section_at format image.now at }
-{
-    let word = format.class.word();
-    Section {
-        name: u32_in(image, at, format.order),
-        kind: u32_in(image, at + 4, format.order),
-        flags: word_in(image, at + 8, format),
-        addr: word_in(image, at + 8 + word, format),
-        offset: word_in(image, at + 8 + 2 * word, format),
-        size: word_in(image, at + 8 + 3 * word, format),
-        link: u32_in(image, at + 8 + 4 * word, format.order),
-        info: u32_in(image, at + 12 + 4 * word, format.order),
+    fn read(image: &[u8], at: usize, format: Format) -> Section {
+        let word = format.class.word();
+        Section {
+            name_offset: u32_in(image, at, format.order),
+            kind: u32_in(image, at + 4, format.order),
+            flags: word_in(image, at + 8, format),
+            addr: word_in(image, at + 8 + word, format),
+            offset: word_in(image, at + 8 + 2 * word, format),
+            size: word_in(image, at + 8 + 3 * word, format),
+            link: u32_in(image, at + 8 + 4 * word, format.order),
+            info: u32_in(image, at + 12 + 4 * word, format.order),
+        }
     }
 }
 
 /// The first section header, which holds what the header has no room for.
 #[tactic(auto, unfolding(crate::specs::Sections::first_section))]
 pub fn first_section(image: &[u8], header: &Header) -> Result<Section>
-    ensures { Exactly section_view result (first_section image.now (header_view header.now)) }
+    ensures { Exactly (λ s. s) result (first_section image.now (header_view header.now)) }
 {
     let size = header.format.class.section_size();
     if !lie_inside(image.len(), header.shoff, size, 1) {
         return Err(Error::new(ErrorKind::InvalidData, Str::fixed("first section header")));
     }
-    Ok(section_at(image, header.shoff as usize, header.format))
+    Ok(Section::read(image, header.shoff as usize, header.format))
 }
 
 /// The number of sections.
@@ -155,7 +117,7 @@ pub fn sections(image: &[u8], header: &Header) -> Result<Rows>
 /// The place of a section's bytes, whatever its flags say.
 #[tactic(auto, unfolding(crate::specs::Sections::raw_data))]
 pub fn raw(image: &[u8], section: &Section) -> Result<Span>
-    ensures value { Exactly (span_in image.now) result (raw_data image.now (section_view section.now)) }
+    ensures value { Exactly (span_in image.now) result (raw_data image.now section.now) }
     ensures fits { IfOk result (SpanFits image.now) }
 {
     if section.kind == SHT_NOBITS {
@@ -172,7 +134,7 @@ pub fn raw(image: &[u8], section: &Section) -> Result<Span>
 /// The data of a section.
 #[tactic(auto, unfolding(crate::specs::Sections::data_of))]
 pub fn data<'b>(image: &'b [u8], section: &Section, format: Format) -> Result<&'b [u8]>
-    ensures { Exactly (λ d. d.now) result (data_of format image.now (section_view section.now)) }
+    ensures { Exactly (λ d. d.now) result (data_of format image.now section.now) }
 {
     let span = raw(image, section)?;
     if section.kind != SHT_NOBITS && section.flags & SHF_COMPRESSED == SHF_COMPRESSED {
@@ -195,7 +157,7 @@ pub fn data_at(image: &[u8], header: Header, rows: Rows, idx: usize) -> Result<&
     requires fits { RowsFit section_size image.now rows }
     ensures { Exactly (λ d. d.now) result (image_section_data image.now idx) }
 {
-    let sections = SectionTable::open(image, rows);
+    let sections: SectionTable<'_> = Records::open(image, rows);
     if idx >= sections.len() {
         return Err(Error::new(ErrorKind::InvalidInput, Str::fixed("section index")));
     }
@@ -206,7 +168,7 @@ pub fn data_at(image: &[u8], header: Header, rows: Rows, idx: usize) -> Result<&
 #[tactic(auto, unfolding(crate::specs::Sections::run_in))]
 pub fn records(image: &[u8], section: &Section, size: usize, format: Format) -> Result<Rows>
     requires { 0 < size }
-    ensures value { Exactly run_of result (run_in size image.now (section_view section.now)) }
+    ensures value { Exactly run_of result (run_in size image.now section.now) }
     ensures fits { IfOk result (λ r. r.at + size * r.count ≤ length image.now) }
     ensures format { IfOk result (λ r. r.format ≡ format) }
 {

@@ -1,23 +1,21 @@
 //! The segments of an image, where they lie in it.
 ghost use Rattle.std.specs.Prelude.{◌≡◌, ◌+◌, ◌≤◌, ◌<◌, length, IfOk};
-ghost use Rattle.std.specs.List.{HoldsAt};
 ghost use Rattle.blz_model.specs.Part.{Exactly};
 ghost use Rattle.blz_elf.specs.Formats.{segment_size};
 ghost use Rattle.blz_elf.specs.Places.{RowsFit};
-ghost use Rattle.blz_elf.specs.Segments as model;
 ghost use Rattle.blz_elf.specs.Segments.{segment_count, segments_of, file_place, address_of, first_given};
-ghost use Rattle.blz_elf.specs.SegmentViews.{segment_view, segments_in};
+ghost use Rattle.blz_elf.specs.SegmentViews.{segments_in};
 ghost use Rattle.blz_elf.specs.Views.{header_view};
 
-use crate::format::Format;
+use crate::format::{Class, Format};
 use crate::header::Header;
 use crate::number::word_in;
+use crate::record::{Record, Records};
 use crate::section::first_section;
-use crate::span::{Rows, lie_inside, place_of};
+use crate::span::{Rows, lie_inside};
 use blz_constants::elf::{PN_XNUM, PT_LOAD};
 use blz_error::{Error, ErrorKind, Result, Str};
 use blz_records::u32_in;
-use std::marker::Model;
 
 /// What is read of a program header.
 #[derive(Clone, Copy)]
@@ -35,7 +33,7 @@ pub struct Segment {
 impl Segment {
     /// The place in the file of `size` bytes at an address.
     fn file_place(&self, addr: u64, size: u64) -> Option<u64>
-        ensures { result ≡ file_place addr size (segment_view self.now) }
+        ensures { result ≡ file_place addr size self.now }
     {
         if self.kind != PT_LOAD || addr < self.addr {
             return None;
@@ -49,7 +47,7 @@ impl Segment {
 
     /// The address of a place in the file.
     fn address_of(&self, offset: u64) -> Option<u64>
-        ensures { result ≡ address_of offset (segment_view self.now) }
+        ensures { result ≡ address_of offset self.now }
     {
         if self.kind != PT_LOAD || offset < self.offset || offset - self.offset >= self.file_size {
             return None;
@@ -58,17 +56,29 @@ impl Segment {
     }
 }
 
-/// The program header at a place.
-fn segment_at(image: &[u8], at: usize, format: Format) -> Segment
-    requires { at + segment_size format.class ≤ length image.now }
-    ensures { segment_view result ≡ model.segment_at format image.now at }
-{
-    let word = format.class.word();
-    Segment {
-        kind: u32_in(image, at, format.order),
-        offset: word_in(image, at + word, format),
-        addr: word_in(image, at + 2 * word, format),
-        file_size: word_in(image, at + 4 * word, format),
+/// The segments of an image.
+pub type SegmentTable<'b> = Records<'b, Segment>;
+
+impl Record for Segment {
+    ghost use Rattle.blz_elf.specs.Formats.{segment_size};
+    ghost use Rattle.blz_elf.specs.Segments as model;
+
+    ghost SIZE = { segment_size };
+
+    ghost record_at = { model.segment_at };
+
+    fn size(class: Class) -> usize {
+        class.segment_size()
+    }
+
+    fn read(image: &[u8], at: usize, format: Format) -> Segment {
+        let word = format.class.word();
+        Segment {
+            kind: u32_in(image, at, format.order),
+            offset: word_in(image, at + word, format),
+            addr: word_in(image, at + 2 * word, format),
+            file_size: word_in(image, at + 4 * word, format),
+        }
     }
 }
 
@@ -106,75 +116,28 @@ pub fn segments(image: &[u8], header: &Header) -> Result<Rows>
     })
 }
 
-/// The segments of an image.
-#[derive(Drop)]
-pub struct SegmentTable<'b> {
-    image: &'b [u8],
-    rows: Rows,
+/// The place in the file of `size` bytes at an address, by the first segment that gives one.
+pub fn file_place(segments: &SegmentTable<'_>, addr: u64, size: u64) -> Option<u64>
+    ensures { result ≡ first_given (file_place addr size) segments.now }
+{
+    for i in 0..segments.len() {
+        let place = segments.at(i).file_place(addr, size);
+        if place.is_some() {
+            return place;
+        }
+    }
+    None
 }
 
-impl<'b> Model for SegmentTable<'b> {
-    ghost use Rattle.std.specs.Prelude.{List};
-    ghost use Rattle.blz_elf.specs.Formats.{segment_size};
-    ghost use Rattle.blz_elf.specs.Places.{RowsFit};
-    ghost use Rattle.blz_elf.specs.SegmentViews.{segments_in};
-    ghost use Rattle.blz_elf.specs.Segments as model;
-
-    ghost Value = { List model.Segment };
-
-    ghost view = { λ t. segments_in t.image.now t.rows };
-
-    ghost invariant = { λ t. RowsFit segment_size t.image.now t.rows };
-}
-
-impl<'b> SegmentTable<'b> {
-    /// The segments at a place.
-    pub fn open(image: &'b [u8], rows: Rows) -> SegmentTable<'b>
-        requires { RowsFit segment_size image.now rows }
-        ensures { result ≡ segments_in image.now rows }
-    {
-        SegmentTable { image, rows }
-    }
-
-    fn len(&self) -> usize
-        ensures { result ≡ length self.now }
-    {
-        self.rows.count
-    }
-
-    fn at(&self, index: usize) -> Segment
-        requires { index < length self.now }
-        ensures { HoldsAt (λ s. s ≡ segment_view result) self.now index }
-    {
-        let rows = self.rows;
-        let size = rows.format.class.segment_size();
-        let at = place_of(rows.at, size, rows.count, index, self.image.len());
-        segment_at(self.image, at, rows.format)
-    }
-
-    /// The place in the file of `size` bytes at an address, by the first segment that gives one.
-    pub fn file_place(&self, addr: u64, size: u64) -> Option<u64>
-        ensures { result ≡ first_given (file_place addr size) self.now }
-    {
-        for i in 0..self.len() {
-            let place = self.at(i).file_place(addr, size);
-            if place.is_some() {
-                return place;
-            }
+/// The address of a place in the file, by the first segment that gives one.
+pub fn address_of(segments: &SegmentTable<'_>, offset: u64) -> Option<u64>
+    ensures { result ≡ first_given (address_of offset) segments.now }
+{
+    for i in 0..segments.len() {
+        let addr = segments.at(i).address_of(offset);
+        if addr.is_some() {
+            return addr;
         }
-        None
     }
-
-    /// The address of a place in the file, by the first segment that gives one.
-    pub fn address_of(&self, offset: u64) -> Option<u64>
-        ensures { result ≡ first_given (address_of offset) self.now }
-    {
-        for i in 0..self.len() {
-            let addr = self.at(i).address_of(offset);
-            if addr.is_some() {
-                return addr;
-            }
-        }
-        None
-    }
+    None
 }

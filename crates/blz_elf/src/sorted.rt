@@ -3,14 +3,13 @@ ghost use Rattle.std.specs.Prelude.{◌≡◌, ℕ, ◌<◌, ◌≤◌, true, Li
 ghost use Rattle.std.specs.Option.{option_map};
 ghost use Rattle.blz_bytes.specs.ToldPlaces.{counting};
 ghost use Rattle.blz_elf.specs.SymbolRule.{is_typed, covering};
-ghost use Rattle.blz_elf.specs.Views.{symbol_view};
 ghost use Rattle.blz_elf.specs.Tables.{Sorts};
 ghost use Rattle.blz_elf.specs.Accepted.{AreKeys, no_symbol, value_at, SplitsAt, SplitsBelow};
 ghost use Rattle.blz_elf.specs.Needed.{IsSearchable};
 
 use crate::needed::{needed_places, symbol_at_place};
 use crate::question::Question;
-use crate::symbols::{Symbol, Symbols};
+use crate::symbols::{Symbol, Symbols, covering};
 use blz_bytes::{Key, Orders, check_pairs};
 use std::alloc::{AllocError, Global};
 
@@ -25,7 +24,7 @@ pub struct Sorted {
 
 /// The value of the symbol at an index, 0 outside.
 fn value_at(typed: &[Symbol], index: usize) -> u64
-    ensures { result ≡ value_at (map symbol_view typed.now) index }
+    ensures { result ≡ value_at typed.now index }
 {
     match typed.get(index) {
         Some(symbol) => symbol.value,
@@ -35,16 +34,16 @@ fn value_at(typed: &[Symbol], index: usize) -> u64
 
 /// How many places have a value up to an address.
 fn count_up_to(typed: &[Symbol], places: &[usize], addr: u64) -> usize
-    requires accepted { IsSearchable (map symbol_view typed.now) places.now }
-    ensures { SplitsAt (map symbol_view typed.now) places.now result addr }
+    requires accepted { IsSearchable typed.now places.now }
+    ensures { SplitsAt typed.now places.now result addr }
 {
     places.partition_point(|index| value_at(typed, *index) <= addr)
 }
 
 /// How many places have a value below another.
 fn count_below(typed: &[Symbol], places: &[usize], value: u64) -> usize
-    requires accepted { IsSearchable (map symbol_view typed.now) places.now }
-    ensures { SplitsBelow (map symbol_view typed.now) places.now result value }
+    requires accepted { IsSearchable typed.now places.now }
+    ensures { SplitsBelow typed.now places.now result value }
 {
     if value == 0 {
         return 0;
@@ -54,9 +53,9 @@ fn count_below(typed: &[Symbol], places: &[usize], value: u64) -> usize
 
 /// The symbol that answers a question, by an order.
 fn search(typed: &[Symbol], places: &[usize], question: &Question) -> Option<Symbol>
-    requires accepted { IsSearchable (map symbol_view typed.now) places.now }
-    requires typed { (i : ℕ) → i < length (map symbol_view typed.now) → is_typed (get_or (map symbol_view typed.now) i no_symbol) ≡ true }
-    ensures { option_map symbol_view result ≡ covering question.now (map symbol_view typed.now) }
+    requires accepted { IsSearchable typed.now places.now }
+    requires typed { (i : ℕ) → i < length typed.now → is_typed (get_or typed.now i no_symbol) ≡ true }
+    ensures { result ≡ covering question.now typed.now }
 {
     let end = count_up_to(typed, places, question.addr);
     if end == 0 {
@@ -75,7 +74,7 @@ fn search(typed: &[Symbol], places: &[usize], question: &Question) -> Option<Sym
 
 /// The symbols of the answered types.
 fn typed_of(alloc: Global, symbols: &Symbols<'_>) -> Result<Vec<Symbol>, AllocError>
-    ensures { IfOk result (λ v. map symbol_view v.items ≡ filter is_typed symbols.now) }
+    ensures { IfOk result (λ v. v.items ≡ filter is_typed symbols.now) }
 {
     let mut typed = Vec::new(alloc);
     for i in 0..symbols.len() {
@@ -89,7 +88,7 @@ fn typed_of(alloc: Global, symbols: &Symbols<'_>) -> Result<Vec<Symbol>, AllocEr
 
 /// What each symbol is sorted by: its value, then its size downwards.
 fn keys_of(alloc: Global, typed: &[Symbol]) -> Result<Vec<Key>, AllocError>
-    ensures { IfOk result (λ v. AreKeys v.items (map symbol_view typed.now)) }
+    ensures { IfOk result (λ v. AreKeys v.items typed.now) }
 {
     let mut keys = Vec::new(alloc);
     for symbol in typed {
@@ -118,7 +117,7 @@ fn order_of<O: Orders>(
     orders: &mut O,
     typed: &[Symbol],
 ) -> Result<Option<Vec<usize>>, AllocError>
-    ensures { IfOk result (λ o. IfSome o (λ o. IsSearchable (map symbol_view typed.now) o.items)) }
+    ensures { IfOk result (λ o. IfSome o (λ o. IsSearchable typed.now o.items)) }
 {
     let keys = keys_of(alloc, typed)?;
     let mut places = first_places(alloc, keys.len())?;
@@ -147,11 +146,11 @@ impl Sorted {
     /// The symbol that answers a question: by the order, or by a scan.
     pub fn covering(&self, symbols: &Symbols<'_>, question: &Question) -> Option<Symbol>
         requires { Sorts symbols.now self.now }
-        ensures { option_map symbol_view result ≡ covering question.now symbols.now }
+        ensures { result ≡ covering question.now symbols.now }
     {
         match &self.order {
             Some(places) => search(&self.typed, places, question),
-            None => symbols.covering(question),
+            None => covering(symbols, question),
         }
     }
 }

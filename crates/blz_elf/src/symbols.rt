@@ -1,29 +1,23 @@
 //! The symbols of a table, where they lie in the image.
 ghost use Rattle.std.specs.Prelude.{◌≡◌, ◌+◌, ◌≤◌, ◌<◌, ◌==◌, None, length, max, if◌then◌else◌};
 ghost use Rattle.std.specs.Option.{option_map};
-ghost use Rattle.std.specs.List.{HoldsAt};
-ghost use Rattle.blz_elf.specs.Formats.{symbol_size};
-ghost use Rattle.blz_elf.specs.Places.{RowsFit, symbols_in};
-ghost use Rattle.blz_elf.specs.SymbolTables as model;
 ghost use Rattle.blz_elf.specs.SymbolRule as rule;
 ghost use Rattle.blz_elf.specs.SymbolRule.{covering};
 ghost use Rattle.blz_records.specs.SymbolTypes.{matches};
 ghost use Rattle.blz_elf.specs.NameRule.{type_of};
-ghost use Rattle.blz_elf.specs.Views.{symbol_view};
 
 use crate::format::{Class, Format};
 use crate::number::word_in;
 use crate::question::Question;
-use crate::span::{Rows, place_of};
+use crate::record::{Record, Records};
 use blz_constants::elf::{STT_FUNC, STT_GNU_IFUNC, STT_NOTYPE, STT_OBJECT};
 use blz_records::{SymType, u16_in, u32_in};
-use std::marker::Model;
 
 /// What is read of a symbol.
 #[derive(Clone, Copy)]
 pub struct Symbol {
     /// st_name.
-    pub name: u32,
+    pub name_offset: u32,
     /// st_value.
     pub value: u64,
     /// st_size.
@@ -35,48 +29,40 @@ pub struct Symbol {
 }
 
 /// The symbols of a section, where they lie in the image.
-#[derive(Drop)]
-pub struct Symbols<'b> {
-    image: &'b [u8],
-    rows: Rows,
-}
+pub type Symbols<'b> = Records<'b, Symbol>;
 
-impl<'b> Model for Symbols<'b> {
-    ghost use Rattle.std.specs.Prelude.{List};
+impl Record for Symbol {
     ghost use Rattle.blz_elf.specs.Formats.{symbol_size};
-    ghost use Rattle.blz_elf.specs.Places.{RowsFit, symbols_in};
     ghost use Rattle.blz_elf.specs.SymbolTables as model;
 
-    ghost Value = { List model.Symbol };
+    ghost SIZE = { symbol_size };
 
-    ghost view = { λ t. symbols_in t.image.now t.rows };
+    ghost record_at = { model.symbol_at };
 
-    ghost invariant = { λ t. RowsFit symbol_size t.image.now t.rows };
-}
+    fn size(class: Class) -> usize {
+        class.symbol_size()
+    }
 
-/// The symbol at a place.
-fn symbol_at(image: &[u8], at: usize, format: Format) -> Symbol
-    requires { at + symbol_size format.class ≤ length image.now }
-    ensures { symbol_view result ≡ model.symbol_at format image.now at }
-{
-    let word = format.class.word();
-    let info = match format.class {
-        Class::Elf32 => 12,
-        Class::Elf64 => 4,
-    };
-    Symbol {
-        name: u32_in(image, at, format.order),
-        value: word_in(image, at + word, format),
-        size: word_in(image, at + 2 * word, format),
-        kind: image[at + info] % 16,
-        section: u16_in(image, at + info + 2, format.order),
+    fn read(image: &[u8], at: usize, format: Format) -> Symbol {
+        let word = format.class.word();
+        let info = match format.class {
+            Class::Elf32 => 12,
+            Class::Elf64 => 4,
+        };
+        Symbol {
+            name_offset: u32_in(image, at, format.order),
+            value: word_in(image, at + word, format),
+            size: word_in(image, at + 2 * word, format),
+            kind: image[at + info] % 16,
+            section: u16_in(image, at + info + 2, format.order),
+        }
     }
 }
 
 impl Symbol {
     /// Whether its type is one that is answered.
     pub fn is_typed(&self) -> bool
-        ensures { result ≡ rule.is_typed (symbol_view self.now) }
+        ensures { result ≡ rule.is_typed self.now }
     {
         self.matches(SymType::Undefined)
     }
@@ -97,7 +83,7 @@ impl Symbol {
 
     /// What it names.
     pub fn sym_type(&self) -> SymType
-        ensures { result ≡ type_of (symbol_view self.now) }
+        ensures { result ≡ type_of self.now }
     {
         match self.kind {
             STT_OBJECT => SymType::Variable,
@@ -108,13 +94,13 @@ impl Symbol {
 }
 
 fn is_candidate(symbol: &Symbol, addr: u64) -> bool
-    ensures { result ≡ rule.is_candidate addr (symbol_view symbol.now) }
+    ensures { result ≡ rule.is_candidate addr symbol.now }
 {
     symbol.is_typed() && symbol.value <= addr
 }
 
 fn answers(symbol: &Symbol, question: &Question, greatest: u64) -> bool
-    ensures { result ≡ rule.answers question.now greatest (symbol_view symbol.now) }
+    ensures { result ≡ rule.answers question.now greatest symbol.now }
 {
     is_candidate(symbol, question.addr)
         && symbol.value == greatest
@@ -123,7 +109,7 @@ fn answers(symbol: &Symbol, question: &Question, greatest: u64) -> bool
 
 /// The greatest value of the candidates so far, and of one more symbol.
 fn greater(greatest: u64, symbol: &Symbol, addr: u64) -> u64
-    ensures { result ≡ (if rule.is_candidate addr (symbol_view symbol.now) then max greatest symbol.now.value else greatest) }
+    ensures { result ≡ (if rule.is_candidate addr symbol.now then max greatest symbol.now.value else greatest) }
 {
     if is_candidate(symbol, addr) {
         greatest.max(symbol.value)
@@ -134,14 +120,14 @@ fn greater(greatest: u64, symbol: &Symbol, addr: u64) -> u64
 
 /// The best symbol so far: none where the greatest value has risen.
 fn still_best(best: Option<Symbol>, before: u64, greatest: u64) -> Option<Symbol>
-    ensures { option_map symbol_view result ≡ (if greatest == before then option_map symbol_view best else None) }
+    ensures { result ≡ (if greatest == before then best else None) }
 {
     if greatest == before { best } else { None }
 }
 
 /// The larger, or the earlier where they are alike.
 fn larger(best: Option<Symbol>, symbol: Symbol) -> Option<Symbol>
-    ensures { option_map symbol_view result ≡ rule.larger (option_map symbol_view best) (symbol_view symbol) }
+    ensures { result ≡ rule.larger best symbol }
 {
     match best {
         Some(best) if best.size >= symbol.size => Some(best),
@@ -149,49 +135,20 @@ fn larger(best: Option<Symbol>, symbol: Symbol) -> Option<Symbol>
     }
 }
 
-impl<'b> Symbols<'b> {
-    /// The symbols at a place.
-    pub fn open(image: &'b [u8], rows: Rows) -> Symbols<'b>
-        requires { RowsFit symbol_size image.now rows }
-        ensures { result ≡ symbols_in image.now rows }
-    {
-        Symbols { image, rows }
-    }
-
-    /// How many they are.
-    pub fn len(&self) -> usize
-        ensures { result ≡ length self.now }
-    {
-        self.rows.count
-    }
-
-    /// The symbol at an index.
-    pub fn at(&self, index: usize) -> Symbol
-        requires { index < length self.now }
-        ensures { HoldsAt (λ s. s ≡ symbol_view result) self.now index }
-    {
-        let rows = self.rows;
-        let size = rows.format.class.symbol_size();
-        let at = place_of(rows.at, size, rows.count, index, self.image.len());
-        symbol_at(self.image, at, rows.format)
-    }
-
-    /// The symbol that answers a question, by a scan.
-    #[tactic(auto, unfolding(crate::specs::SymbolRule::covering))]
-    pub fn covering(&self, question: &Question) -> Option<Symbol>
-        ensures { option_map symbol_view result ≡ covering question.now self.now }
-    {
-        let mut greatest = 0;
-        let mut best: Option<Symbol> = None;
-        for i in 0..self.len() {
-            let symbol = self.at(i);
-            let before = greatest;
-            greatest = greater(before, &symbol, question.addr);
-            best = still_best(best, before, greatest);
-            if answers(&symbol, question, greatest) {
-                best = larger(best, symbol);
-            }
+/// The symbol that answers a question, by a scan.
+pub fn covering(symbols: &Symbols<'_>, question: &Question) -> Option<Symbol>
+    ensures { result ≡ covering question.now symbols.now }
+{
+    let mut greatest = 0;
+    let mut best: Option<Symbol> = None;
+    for i in 0..symbols.len() {
+        let symbol = symbols.at(i);
+        let before = greatest;
+        greatest = greater(before, &symbol, question.addr);
+        best = still_best(best, before, greatest);
+        if answers(&symbol, question, greatest) {
+            best = larger(best, symbol);
         }
-        best
     }
+    best
 }

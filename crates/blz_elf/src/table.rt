@@ -8,15 +8,15 @@ ghost use Rattle.blz_elf.specs.Tables.{TableFits, table_view};
 ghost use Rattle.blz_elf.specs.SymbolTables.{symbol_at, table_named, table_of};
 ghost use Rattle.blz_elf.specs.SymbolRule.{covering};
 ghost use Rattle.blz_elf.specs.Sections.{raw_data, records_of, if_there};
-ghost use Rattle.blz_elf.specs.Views.{section_view, symbol_view};
 
 use crate::format::Format;
 use crate::image::Image;
 use crate::question::{Question, TableKind};
+use crate::record::Records;
 use crate::section::{Section, raw, records};
 use crate::sorted::Sorted;
 use crate::span::{Rows, Span};
-use crate::symbols::{Symbol, Symbols};
+use crate::symbols::{Symbol, covering};
 use blz_bytes::Orders;
 use blz_error::{Error, ErrorKind, Result, Str};
 use std::alloc::{AllocError, Global};
@@ -37,7 +37,7 @@ pub struct Table {
 /// The place of the symbols of a section.
 #[tactic(auto, unfolding(crate::specs::Sections::records_of))]
 pub fn symbols_of(image: &[u8], section: Option<Section>, format: Format) -> Result<Rows>
-    ensures value { Exactly (symbols_in image.now) result (if_there (records_of (symbol_at format) (symbol_size format.class) image.now) (option_map section_view section)) }
+    ensures value { Exactly (symbols_in image.now) result (if_there (records_of (symbol_at format) (symbol_size format.class) image.now) section) }
     ensures fits { IfOk result (RowsFit symbol_size image.now) }
 {
     match section {
@@ -52,7 +52,7 @@ pub fn symbols_of(image: &[u8], section: Option<Section>, format: Format) -> Res
 
 /// The place of the strings of a section.
 fn strings_of(image: &[u8], section: Option<Section>) -> Result<Span>
-    ensures value { Exactly (span_in image.now) result (if_there (raw_data image.now) (option_map section_view section)) }
+    ensures value { Exactly (span_in image.now) result (if_there (raw_data image.now) section) }
     ensures fits { IfOk result (SpanFits image.now) }
 {
     match section {
@@ -112,7 +112,7 @@ impl Table {
         ensures sorted { IfOk result (λ _. is_some self.new.sorted ≡ true) }
     {
         if self.sorted.is_none() {
-            self.sorted = Some(Sorted::read(alloc, orders, &Symbols::open(image, self.symbols))?);
+            self.sorted = Some(Sorted::read(alloc, orders, &Records::open(image, self.symbols))?);
         }
         Ok(())
     }
@@ -140,12 +140,12 @@ impl Table {
     /// The symbol that answers a question.
     pub fn covering(&self, image: &[u8], question: &Question) -> Option<Symbol>
         requires { TableFits image.now self.now }
-        ensures { option_map symbol_view result ≡ covering question.now (symbols_in image.now self.now.symbols) }
+        ensures { result ≡ covering question.now (symbols_in image.now self.now.symbols) }
     {
-        let symbols = Symbols::open(image, self.symbols);
+        let symbols = Records::open(image, self.symbols);
         match &self.sorted {
             Some(sorted) => sorted.covering(&symbols, question),
-            None => symbols.covering(question),
+            None => covering(&symbols, question),
         }
     }
 

@@ -5,23 +5,23 @@ use Rattle.blz_error.specs.declared.kind.ErrorKind.{ErrorKind}
 use Rattle.blz_model.specs.Part.{Good, Broken}
 use Rattle.blz_model.specs.Texts.{name_at}
 use Rattle.blz_elf.specs.Images.{names_of}
-use Rattle.blz_elf.specs.Sections as model
+use Rattle.blz_elf.specs.declared.section.Section.{Section}
 use Rattle.blz_model.proofs.PartLemmas.{all_good_is, all_good_breaks}
 use Rattle.blz_elf.specs.Names.{name_in, names_in}
 use Rattle.blz_elf.proofs.image.check_names.Goals as goal
 
 -- each name from 1 up to i is read
-abbrev Read : List ℕ → List model.Section → ℕ → Type 0
-Read texts sections i = (k : ℕ) (d : model.Section) → 1 ≤ k → k < i → name_at texts (get_or sections k d).name_offset ≡ Good (name_in texts (get_or sections k d))
+abbrev Read : List ℕ → List Section → ℕ → Type 0
+Read texts sections i = (k : ℕ) (d : Section) → 1 ≤ k → k < i → name_at texts (get_or sections k d).name_offset ≡ Good (name_in texts (get_or sections k d))
 
-later : (texts : List ℕ) (sections : List model.Section) (i : ℕ) → Read texts sections i → (k : ℕ) (d : model.Section) → k + 1 < i → name_at texts (get_or (drop 1 sections) k d).name_offset ≡ Good (name_in texts (get_or (drop 1 sections) k d))
+later : (texts : List ℕ) (sections : List Section) (i : ℕ) → Read texts sections i → (k : ℕ) (d : Section) → k + 1 < i → name_at texts (get_or (drop 1 sections) k d).name_offset ≡ Good (name_in texts (get_or (drop 1 sections) k d))
 later texts sections i read k d lt = rw get_or-drop (read (1 + k) d (omega arith) (omega arith))
 
-names_read : (texts : List ℕ) (sections : List model.Section) (i : ℕ) → length sections ≤ i → Read texts sections i → names_of texts sections ≡ Good (names_in texts sections)
+names_read : (texts : List ℕ) (sections : List Section) (i : ℕ) → length sections ≤ i → Read texts sections i → names_of texts sections ≡ Good (names_in texts sections)
 unfolding names_of
 names_read texts sections i le read = all_good_is (λ s. name_at texts s.name_offset) (name_in texts) (drop 1 sections) (λ k d lt. later texts sections i read k d (omega (arith, length-drop 1 sections)))
 
-names_break : (texts : List ℕ) (sections : List model.Section) (i : ℕ) (s : model.Section) (kind : ErrorKind) → 1 ≤ i → i < length sections → ((d : model.Section) → get_or sections i d ≡ s) → Read texts sections i → name_at texts s.name_offset ≡ Broken kind → names_of texts sections ≡ Broken kind
+names_break : (texts : List ℕ) (sections : List Section) (i : ℕ) (s : Section) (kind : ErrorKind) → 1 ≤ i → i < length sections → ((d : Section) → get_or sections i d ≡ s) → Read texts sections i → name_at texts s.name_offset ≡ Broken kind → names_of texts sections ≡ Broken kind
 unfolding names_of
 names_break texts sections i s kind low high here read broken =
     all_good_breaks (λ s. name_at texts s.name_offset) (name_in texts) (drop 1 sections) (i - 1) kind (omega (arith, length-drop 1 sections)) (λ k d lt. later texts sections i read k d (omega arith))

@@ -9,6 +9,6 @@ unfolding read_name name_bytes
 returns-in-Some c =
     let strings = c.args.strings.now in
     let text = c.in-Some.name.now in
-    let at = c.args.symbol.now.name in
+    let at = c.args.symbol.now.name_offset in
     let found : text_at strings at ≡ Some text = sym c.in-Some.ensures in
     rw (found, span_of_text strings text at (record { start = at; len = length text }) found refl refl) refl

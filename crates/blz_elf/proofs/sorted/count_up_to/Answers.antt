@@ -2,14 +2,13 @@ use Rattle.std.proofs.Common.{ℕ, map, rules, of_calls}
 use Rattle.std.specs.Prelude.{nat_le}
 use Rattle.std.proofs.lemmas.Fn.{always_returns_same}
 use Rattle.blz_elf.specs.Accepted.{value_at}
-use Rattle.blz_elf.specs.Views.{symbol_view}
 use Rattle.blz_elf.proofs.Halving.{split_by}
 use Rattle.blz_elf.proofs.Search.{value_falls, splits_at}
 use Rattle.blz_elf.proofs.sorted.count_up_to.Goals as goal
 
 pub returns : goal.returns
 returns c =
-    let xs = map symbol_view c.args.typed.now in
+    let xs = c.args.typed.now in
     let places = c.args.places.now in
     let is_up_to = λ (i : ℕ). nat_le (value_at xs i) c.args.addr in
     splits_at xs places c.args.addr c.partition_point.result c.partition_point.ensures.bound

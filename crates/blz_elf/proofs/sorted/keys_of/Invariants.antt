@@ -1,5 +1,4 @@
 use Rattle.std.proofs.Common.{◌≡◌, ℕ, ◌<◌, length, get_or, map}
-use Rattle.blz_elf.specs.Views.{symbol_view}
 use Rattle.blz_bytes.specs.PairOrder.{key_at}
 use Rattle.blz_elf.specs.Accepted.{IsKey, no_symbol}
 use Rattle.blz_elf.proofs.sorted.keys_of.Given as goal
@@ -7,5 +6,5 @@ use Rattle.blz_elf.proofs.sorted.keys_of.Given as goal
 abbrev pub invariant-loop-symbol : goal.invariant-loop-symbol
 invariant-loop-symbol l = record {
   count : length l.keys.items ≡ l.symbol-index;
-  each : (k : ℕ) → k < length l.keys.items → IsKey (key_at l.keys.items k) (get_or (map symbol_view l.typed) k no_symbol);
+  each : (k : ℕ) → k < length l.keys.items → IsKey (key_at l.keys.items k) (get_or l.typed k no_symbol);
 }

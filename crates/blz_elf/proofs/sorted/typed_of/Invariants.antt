@@ -1,7 +1,6 @@
 use Rattle.std.proofs.Common.{◌≡◌, map, take, filter}
-use Rattle.blz_elf.specs.Views.{symbol_view}
 use Rattle.blz_elf.specs.SymbolRule.{is_typed}
 use Rattle.blz_elf.proofs.sorted.typed_of.Given as goal
 
 abbrev pub invariant-loop-i : goal.invariant-loop-i
-invariant-loop-i l = map symbol_view l.typed.items ≡ filter is_typed (take l.i l.symbols)
+invariant-loop-i l = l.typed.items ≡ filter is_typed (take l.i l.symbols)
