@@ -131,6 +131,13 @@ impl Abbreviations {
         self.table.get(*place)
     }
 
+    /// How many abbreviations the table keeps.
+    pub fn len(&self) -> usize
+        ensures { result ≡ length self.now }
+    {
+        self.table.len()
+    }
+
     fn has(&self, code: u64) -> bool
         ensures { result ≡ has_code code self.now }
     {
