@@ -7,6 +7,7 @@ use Rattle.blz_entry.specs.declared.abbreviations.AttrSpec.{AttrSpec}
 use Rattle.blz_entry.specs.declared.encoding.Encoding.{Encoding}
 use Rattle.blz_entry.specs.declared.text.StrBase.{StrBase}
 use Rattle.blz_entry.specs.declared.value.AttrValue.{AttrValue}
+use Rattle.blz_entry.specs.Walks.{Walk}
 
 abbrev pub fold_maybe : {S A : Type 0} → (S → A → Option S) → S → List A → Option S
 fold_maybe step s [] = Some s
@@ -15,3 +16,7 @@ fold_maybe step s (x ∷ xs) = step s x >>= λ t. fold_maybe step t xs
 -- the attributes at a place, each a step
 abbrev pub over_attributes : {S : Type 0} → (S → ℕ × AttrValue → Option S) → S → List AttrSpec → Encoding → StrBase → Contents → ℕ → Option S
 over_attributes step s specs e base c at = attributes specs e base c at >>= λ r. fold_maybe step s r.0
+
+-- the same of the attributes that a walk has not read
+abbrev pub over_pending : {S : Type 0} → (S → ℕ × AttrValue → Option S) → S → Walk → Option S
+over_pending step s w = over_attributes step s w.pending w.source.encoding w.source.base w.source.section w.place

@@ -53,6 +53,14 @@ pub record Walk : Type 0 where
 abbrev pub walk_from : Source → ℕ → Walk
 walk_from u at = record { source = u; place = at; pending = []; depth = 0 }
 
+-- the walk behind the code of the entry at a place, which has to be one
+unfoldable pub opened : Source → ℕ → Option Walk
+opened u at = do
+  code ← uleb u.section.bytes at
+  if code.0 == 0 then None else (do
+    a ← of_code code.0 u.table
+    Some (record { source = u; place = code.1; pending = a.specs; depth = 0 }))
+
 -- The next entry at a place, and the walk behind its code; none at the end. The zero that closes an entry has the depth
 -- of what it closes.
 unfoldable pub entry_from : Source → ℕ → ℕ → Option (Option Entry × Walk)

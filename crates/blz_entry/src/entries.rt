@@ -5,7 +5,7 @@ ghost use Rattle.blz_error.specs.declared.kind.ErrorKind.TheVariants.{InvalidDwa
 ghost use Rattle.blz_model.specs.Part.{Exactly, Good, Broken};
 ghost use Rattle.blz_entry.specs.Attributes.{passed};
 ghost use Rattle.blz_entry.specs.Passing.{past, past_one};
-ghost use Rattle.blz_entry.specs.Walks.{Steps, IsNext, walk_from, source_of, info_base, next_of, value_of, skipped_of};
+ghost use Rattle.blz_entry.specs.Walks.{Steps, IsNext, walk_from, source_of, info_base, opened, next_of, value_of, skipped_of};
 ghost use Rattle.blz_entry.specs.Wanted.{wanted_of};
 
 use crate::abbreviations::{Abbreviation, Abbreviations, AttrSpec};
@@ -128,6 +128,40 @@ impl<'s, 'b> Entries<'s, 'b> {
         })
     }
 
+    /// The entry at a place, which has to be one, before its first attribute. The header and the abbreviations are those of
+    /// the unit.
+    #[tactic(auto, unfolding(crate::specs::Walks::opened))]
+    pub(crate) fn opened(
+        sections: &Sections<'s, 'b>,
+        header: &UnitHeader,
+        abbreviations: &'s Abbreviations,
+        at: usize,
+    ) -> Option<Entries<'s, 'b>>
+        requires { sections.now.shift + length sections.now.info.bytes.now < 2 ^ 64 }
+        ensures { result ≡ opened (source_of sections.now header.now abbreviations.entry.now) at }
+    {
+        let section = cut(&sections.info, header.end);
+        let (code, place) = uleb_at(section.bytes, at)?;
+        if code == 0 {
+            return None;
+        }
+        let abbreviation = abbreviations.get(code)?;
+        let encoding = header.encoding();
+        Some(Entries {
+            section,
+            base: info_base(sections),
+            encoding,
+            abbreviations,
+            end: header.end,
+            place,
+            pending: abbreviation.attributes(),
+            passing: abbreviation.passing(encoding),
+            reading: abbreviation.reading(encoding),
+            taken: 0,
+            depth: 0,
+        })
+    }
+
     #[inline(always)]
     fn behind_pending(&self) -> Option<usize>
         ensures value { result ≡ passed self.now.pending self.now.source.encoding self.now.source.base self.now.source.section self.now.place }
@@ -240,11 +274,13 @@ impl<'s, 'b> Entries<'s, 'b> {
         Ok(value)
     }
 
-    /// The next attribute of the entry that tells what a function or an inlined call is, with its name, and None where
-    /// none is left: its names (`DW_AT_name`, `DW_AT_linkage_name`, `DW_AT_MIPS_linkage_name`), where they stand
+    /// The next attribute of the entry that tells what a function, an inlined call or a unit is, with its name, and None
+    /// where none is left: its names (`DW_AT_name`, `DW_AT_linkage_name`, `DW_AT_MIPS_linkage_name`), where they stand
     /// (`DW_AT_abstract_origin`, `DW_AT_specification`), what it covers (`DW_AT_low_pc`, `DW_AT_high_pc`,
-    /// `DW_AT_ranges`), and where it is called (`DW_AT_call_file`, `DW_AT_call_line`, `DW_AT_call_column`). Those before
-    /// it are passed over. InvalidDwarf exactly where it or one of them has no value, and then nothing has changed.
+    /// `DW_AT_ranges`), where it is called (`DW_AT_call_file`, `DW_AT_call_line`, `DW_AT_call_column`), and of a unit its
+    /// lines, its language, its directory and its bases (`DW_AT_stmt_list`, `DW_AT_language`, `DW_AT_comp_dir`,
+    /// `DW_AT_str_offsets_base`, `DW_AT_addr_base`, `DW_AT_rnglists_base`). Those before it are passed over. InvalidDwarf
+    /// exactly where it or one of them has no value, and then nothing has changed.
     #[tactic(auto, unfolding(crate::specs::Wanted::wanted_of))]
     pub fn next_wanted(&mut self) -> Result<Option<(u64, AttrValue)>>
         ensures value { Steps (λ w. w) (wanted_of self.old) self.old result self.new }

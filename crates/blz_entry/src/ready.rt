@@ -13,8 +13,11 @@ use crate::wanted::{Met, wanted_in};
 use blz_constants::dwarf;
 use std::alloc::{AllocError, Global};
 
+// more attributes than an entry has that a compiler wrote
+const MANY: usize = 24;
+
 /// The attributes of an abbreviation in runs for one encoding: where they are passed over, and where those that are
-/// wanted are read, as those of functions and inlined calls are.
+/// wanted are read, as those of functions and inlined calls are, and those of other entries where they are many.
 #[derive(Drop)]
 pub struct Ready {
     pub(crate) encoding: Encoding,
@@ -30,8 +33,11 @@ fn reading_of(
 ) -> Result<Option<Runs>, AllocError>
     ensures { IfOk result (λ o. IfSome o (λ r. Reads encoding 0 r specs.now)) }
 {
-    if tag != dwarf::DW_TAG_subprogram && tag != dwarf::DW_TAG_inlined_subroutine {
-        return Ok(None);
+    match tag {
+        dwarf::DW_TAG_subprogram | dwarf::DW_TAG_inlined_subroutine => {}
+        // few are read as fast one by one
+        _ if specs.len() <= MANY => return Ok(None),
+        _ => {}
     }
     let runs = Runs::of(alloc, specs, encoding, true)?;
     Ok(Some(runs))

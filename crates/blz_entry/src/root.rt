@@ -1,27 +1,21 @@
 //! The first entry of a unit, which tells what holds for the whole unit.
 ghost use Rattle.std.specs.Prelude.{◌≡◌, ◌<◌, ◌+◌, ◌^◌, length, option_and_then};
 ghost use Rattle.blz_model.specs.Part.{Exactly};
-ghost use Rattle.blz_entry.specs.Contents.{section_view};
-ghost use Rattle.blz_entry.specs.Folds.{over_attributes};
+ghost use Rattle.blz_entry.specs.Folds.{over_pending};
 ghost use Rattle.blz_entry.specs.Marks.{or_invalid};
 ghost use Rattle.blz_entry.specs.Roots.{first_of, last_offset, noted, noted_step, nothing_noted, base_behind_header, based, with_names, is_address, low_behind, root_step, root_of};
 ghost use Rattle.blz_entry.specs.Forms.{udata};
-ghost use Rattle.blz_entry.specs.Headers.{encoding_of};
 ghost use Rattle.blz_entry.specs.StringPlaces.{string_of};
-ghost use Rattle.blz_entry.specs.Walks.{info_base};
 
-use crate::abbreviations::{Abbreviations, AttrSpec};
-use crate::attributes::attribute;
-use crate::encoding::Encoding;
-use crate::entries::info_base;
+use crate::abbreviations::Abbreviations;
+use crate::entries::Entries;
 use crate::fault::invalid;
 use crate::ranges::{RangeAttributes, range_step};
-use crate::section::{Section, Sections, cut};
+use crate::section::Sections;
 use crate::strings::attr_string;
-use crate::text::{StrBase, StrPlace};
+use crate::text::StrPlace;
 use crate::units::UnitHeader;
 use crate::value::AttrValue;
-use blz_bytes::uleb_at;
 use blz_constants::dwarf;
 use blz_error::Result;
 
@@ -129,24 +123,18 @@ fn noted(values: RootValues, name: u64, value: AttrValue) -> RootValues
 }
 
 // the attributes of the first entry, in their order
-fn noted_over(
-    specs: &[AttrSpec],
-    encoding: Encoding,
-    base: StrBase,
-    section: &Section<'_, '_>,
-    at: usize,
-) -> Option<RootValues>
-    requires { base.start + length section.now.bytes.now < 2 ^ 64 }
-    ensures { result ≡ over_attributes noted_step nothing_noted specs.now encoding base (section_view section.now) at }
+fn noted_over(mut entries: Entries<'_, '_>) -> Option<RootValues>
+    ensures { result ≡ over_pending noted_step nothing_noted entries.entry }
 {
     let mut values = nothing_noted();
-    let mut place = at;
-    for spec in specs {
-        let (value, next) = attribute(*spec, encoding, base, section, place)?;
-        values = noted(values, spec.name, value);
-        place = next;
+    loop {
+        let (name, value) = match entries.next_wanted() {
+            Ok(Some(found)) => found,
+            Ok(None) => return Some(values),
+            Err(_) => return None,
+        };
+        values = noted(values, name, value);
     }
-    Some(values)
 }
 
 fn base_behind_header(
@@ -272,26 +260,21 @@ fn ranged_over(
     sections: &Sections<'_, '_>,
     header: &UnitHeader,
     root: UnitRoot,
-    specs: &[AttrSpec],
-    section: &Section<'_, '_>,
-    at: usize,
+    mut entries: Entries<'_, '_>,
 ) -> Option<UnitRoot>
-    requires { sections.now.shift + length section.now.bytes.now < 2 ^ 64 }
-    ensures { result ≡ over_attributes (root_step sections.now header.now) root specs.now (encoding_of header.now) (info_base sections.now) (section_view section.now) at }
+    ensures { result ≡ over_pending (root_step sections.now header.now) root entries.entry }
 {
-    let encoding = header.encoding();
-    let base = info_base(sections);
     let mut root = root;
-    let mut place = at;
-    for spec in specs {
-        let (value, next) = attribute(*spec, encoding, base, section, place)?;
-        root = root_step(sections, header, root, spec.name, value)?;
-        place = next;
+    loop {
+        let (name, value) = match entries.next_wanted() {
+            Ok(Some(found)) => found,
+            Ok(None) => return Some(root),
+            Err(_) => return None,
+        };
+        root = root_step(sections, header, root, name, value)?;
     }
-    Some(root)
 }
 
-#[tactic(auto, unfolding(crate::specs::Roots::root_of, crate::specs::Roots::root_attributes))]
 fn root_of(
     sections: &Sections<'_, '_>,
     header: &UnitHeader,
@@ -300,18 +283,15 @@ fn root_of(
     requires { sections.now.shift + length sections.now.info.bytes.now < 2 ^ 64 }
     ensures { result ≡ root_of sections.now header.now abbreviations.now }
 {
-    let section = cut(&sections.info, header.end);
-    let (code, at) = uleb_at(section.bytes, header.entries)?;
-    if code == 0 {
-        return None;
-    }
-    let specs = abbreviations.get(code)?.attributes();
-    let values = noted_over(specs, header.encoding(), info_base(sections), &section, at)?;
+    let first = Entries::opened(sections, header, abbreviations, header.entries)?;
+    let values = noted_over(first)?;
     let root = with_names(sections, header, values, based(sections, header, values));
     if sections.split {
         return Some(root);
     }
-    ranged_over(sections, header, root, specs, &section, at)
+    // the bases count for the ranges that stand before them too
+    let again = Entries::opened(sections, header, abbreviations, header.entries)?;
+    ranged_over(sections, header, root, again)
 }
 
 impl UnitRoot {

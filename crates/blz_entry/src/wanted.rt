@@ -1,5 +1,5 @@
-//! Attributes whose values tell what a function or a call is: its names, the addresses that it covers, and where it is
-//! called.
+//! Attributes whose values tell what a function or a call is, its names, the addresses that it covers, and where it is
+//! called, or what holds for a whole unit.
 ghost use Rattle.std.specs.Prelude.{◌≡◌, ◌≤◌, ◌<◌, ◌+◌, ◌^◌, length, IfSome, MatchOption, option_map};
 ghost use Rattle.blz_entry.specs.Contents.{section_view};
 ghost use Rattle.blz_entry.specs.Wanted.{is_wanted, wanted_in, met_view};
@@ -25,7 +25,7 @@ pub struct Met {
     pub(crate) place: usize,
 }
 
-/// The attribute is wanted where what an entry is called and covers is read.
+/// The attribute is wanted where what an entry is called and covers is read, or what a unit says of itself.
 #[tactic(auto, unfolding(crate::specs::Wanted::is_wanted))]
 pub(crate) fn is_wanted(name: u64) -> bool
     ensures { result ≡ is_wanted name }
@@ -41,7 +41,13 @@ pub(crate) fn is_wanted(name: u64) -> bool
         | dwarf::DW_AT_call_file
         | dwarf::DW_AT_call_line
         | dwarf::DW_AT_linkage_name
-        | dwarf::DW_AT_MIPS_linkage_name => true,
+        | dwarf::DW_AT_MIPS_linkage_name
+        | dwarf::DW_AT_stmt_list
+        | dwarf::DW_AT_language
+        | dwarf::DW_AT_comp_dir
+        | dwarf::DW_AT_str_offsets_base
+        | dwarf::DW_AT_addr_base
+        | dwarf::DW_AT_rnglists_base => true,
         _ => false,
     }
 }

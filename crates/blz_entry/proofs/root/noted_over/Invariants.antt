@@ -1,8 +1,10 @@
-use Rattle.std.proofs.Common.{◌≡◌, drop}
-use Rattle.blz_entry.specs.Contents.{section_view}
-use Rattle.blz_entry.specs.Folds.{over_attributes}
+use Rattle.std.proofs.Common.{◌≡◌, length}
+use Rattle.blz_entry.specs.Folds.{over_pending}
 use Rattle.blz_entry.specs.Roots.{noted_step, nothing_noted}
 use Rattle.blz_entry.proofs.root.noted_over.Given as goal
 
-abbrev pub invariant-loop-spec : goal.invariant-loop-spec
-invariant-loop-spec l = over_attributes noted_step l.values (drop l.spec-index l.specs) l.encoding l.base (section_view l.section) l.place ≡ over_attributes noted_step nothing_noted l.specs l.encoding l.base (section_view l.section) l.at
+abbrev pub invariant-loop-found : goal.invariant-loop-found
+invariant-loop-found l = over_pending noted_step l.values l.entries ≡ over_pending noted_step nothing_noted l.fn.entries
+
+abbrev pub decreases-loop-found : goal.decreases-loop-found
+decreases-loop-found l = length l.entries.pending

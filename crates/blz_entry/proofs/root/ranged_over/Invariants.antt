@@ -1,8 +1,10 @@
-use Rattle.std.proofs.Common.{◌≡◌, drop}
-use Rattle.blz_entry.specs.Contents.{section_view}
-use Rattle.blz_entry.specs.Folds.{over_attributes}
+use Rattle.std.proofs.Common.{◌≡◌, length}
+use Rattle.blz_entry.specs.Folds.{over_pending}
 use Rattle.blz_entry.specs.Roots.{root_step}
 use Rattle.blz_entry.proofs.root.ranged_over.Given as goal
 
-abbrev pub invariant-loop-spec : goal.invariant-loop-spec
-invariant-loop-spec l = over_attributes (root_step l.sections l.header) l.root (drop l.spec-index l.specs) l.encoding l.base (section_view l.section) l.place ≡ over_attributes (root_step l.sections l.header) l.fn.root l.specs l.encoding l.base (section_view l.section) l.at
+abbrev pub invariant-loop-found : goal.invariant-loop-found
+invariant-loop-found l = over_pending (root_step l.sections l.header) l.root l.entries ≡ over_pending (root_step l.sections l.header) l.fn.root l.fn.entries
+
+abbrev pub decreases-loop-found : goal.decreases-loop-found
+decreases-loop-found l = length l.entries.pending
