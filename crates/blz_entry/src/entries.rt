@@ -281,6 +281,7 @@ impl<'s, 'b> Entries<'s, 'b> {
     /// lines, its language, its directory and its bases (`DW_AT_stmt_list`, `DW_AT_language`, `DW_AT_comp_dir`,
     /// `DW_AT_str_offsets_base`, `DW_AT_addr_base`, `DW_AT_rnglists_base`). Those before it are passed over. InvalidDwarf
     /// exactly where it or one of them has no value, and then nothing has changed.
+    #[inline(always)]
     #[tactic(auto, unfolding(crate::specs::Wanted::wanted_of))]
     pub fn next_wanted(&mut self) -> Result<Option<(u64, AttrValue)>>
         ensures value { Steps (λ w. w) (wanted_of self.old) self.old result self.new }

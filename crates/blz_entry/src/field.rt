@@ -81,6 +81,7 @@ fn skip(count: u64, bytes: &[u8], at: usize) -> Option<(u64, usize)>
 }
 
 /// What a field reads.
+#[inline(always)]
 #[tactic(auto, unfolding(crate::specs::Contents::field_at, crate::specs::Contents::block))]
 pub(crate) fn field_at(
     field: Field,

@@ -64,6 +64,7 @@ impl Ready {
 
 /// The next wanted attribute of those that are left of an entry, by runs where they are read by them; how many of the runs
 /// are taken then, and 0 where none may be taken any more.
+#[inline(always)]
 pub(crate) fn next_wanted(
     reading: Option<&Runs>,
     taken: usize,
@@ -88,6 +89,7 @@ pub(crate) fn next_wanted(
 }
 
 /// The same behind so many runs that were taken.
+#[inline(always)]
 fn wanted_after(
     runs: &Runs,
     taken: usize,

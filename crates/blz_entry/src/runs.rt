@@ -94,6 +94,7 @@ impl Run {
         }
     }
 
+    #[inline(always)]
     fn value(
         &self,
         encoding: Encoding,
@@ -164,6 +165,7 @@ pub(crate) fn passed_by(
 }
 
 /// The next wanted attribute of those that runs were made from.
+#[inline(always)]
 pub(crate) fn wanted_by(
     runs: &[Run],
     tail: usize,

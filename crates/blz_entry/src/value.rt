@@ -95,6 +95,7 @@ fn text_here(base: StrBase, bytes: &[u8], at: usize) -> Option<(AttrValue, usize
 }
 
 /// What a form reads at a place, and the next place.
+#[inline(always)]
 #[tactic(auto, unfolding(crate::specs::Forms::value_by))]
 pub(crate) fn value_by(
     form: Form,
