@@ -29,4 +29,5 @@ pub mod ListingSteps
 pub mod LentLines
 pub mod LentParts
 pub mod Shared
+pub mod SharedLines
 pub mod CallsOfUnits

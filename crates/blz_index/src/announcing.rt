@@ -9,12 +9,14 @@ ghost use Rattle.blz_index.specs.BuiltUnits.{built, built_view, files_view, Buil
 ghost use Rattle.blz_index.specs.KeptParts.{IsPartOf};
 ghost use Rattle.blz_functions.specs.Opened.{open_view};
 ghost use Rattle.blz_index.specs.Sharing.{AreShared};
+ghost use Rattle.blz_index.specs.declared.dwarf.Origin.TheVariants.{Main};
 ghost use Rattle.blz_index.specs.UnitLists.{IsInPlace};
 ghost use Rattle.blz_index.specs.UnitTables.{added_to, announces, by_root, is_type, is_partial, lines_in, root_behind, sequences_of};
 
 use crate::address_sets::AddressSets;
 use crate::built_unit::BuiltUnit;
 use crate::dwarf::{Dwarf, Origin};
+use crate::shared_lines::{ProgramSpans, lines_key};
 use crate::shared_parts::SharedParts;
 use crate::units::read::may_be_split;
 use blz_bytes::AsTheyStand;
@@ -109,28 +111,83 @@ fn append_lines(alloc: Global, unit: &OpenUnit<'_, '_>, out: &mut Vec<Span>) -> 
     }
 }
 
+/// Reads what the lines of a unit cover, appends it, and keeps it for the units that share the line program.
+fn append_and_keep(
+    alloc: Global,
+    shared: &mut SharedParts,
+    unit: &OpenUnit<'_, '_>,
+    at: u64,
+    out: &mut Vec<Span>,
+) -> Result<()>
+    requires line { unit.now.root.line ≡ Some at }
+    requires shared { AreShared (open_view unit.now).sections shared.old }
+    ensures value { MatchResult result (λ _. out.new.items ≡ out.old.items ++ sequences_of (lines_in (open_view unit.now))) (λ e. e.kind ≡ OutOfMemory) }
+    ensures shared { AreShared (open_view unit.now).sections shared.new }
+{
+    let key = lines_key(&unit.header, &unit.root);
+    let mut spans = Vec::new(alloc);
+    append_lines(alloc, unit, &mut spans)?;
+    out.extend_from_slice(spans.as_slice())?;
+    shared.keep_spans(unit, at, ProgramSpans { key, spans })?;
+    Ok(())
+}
+
+/// Appends what the lines of a unit cover, as it is kept of their line program where another unit shares it.
+fn append_shared(
+    alloc: Global,
+    shared: &mut SharedParts,
+    unit: &OpenUnit<'_, '_>,
+    out: &mut Vec<Span>,
+) -> Result<()>
+    requires { AreShared (open_view unit.now).sections shared.old }
+    ensures value { MatchResult result (λ _. out.new.items ≡ out.old.items ++ sequences_of (lines_in (open_view unit.now))) (λ e. e.kind ≡ OutOfMemory) }
+    ensures shared { AreShared (open_view unit.now).sections shared.new }
+{
+    let Some(at) = unit.root.line else {
+        return Ok(());
+    };
+    match shared.kept_spans(at, lines_key(&unit.header, &unit.root)) {
+        Some(spans) => {
+            out.extend_from_slice(spans)?;
+            Ok(())
+        }
+        None => append_and_keep(alloc, shared, unit, at, out),
+    }
+}
+
 /// Appends the ranges of the root of a unit, and where there are none what the sequences of its lines cover.
-fn append_root(alloc: Global, unit: &OpenUnit<'_, '_>, out: &mut Vec<Span>) -> Result<()>
-    ensures { Gives (λ _. out.new.items) result (or_invalid (root_behind (open_view unit.now) out.old.items)) }
+fn append_root(
+    alloc: Global,
+    shared: &mut SharedParts,
+    unit: &OpenUnit<'_, '_>,
+    out: &mut Vec<Span>,
+) -> Result<()>
+    requires { AreShared (open_view unit.now).sections shared.old }
+    ensures value { Gives (λ _. out.new.items) result (or_invalid (root_behind (open_view unit.now) out.old.items)) }
+    ensures shared { AreShared (open_view unit.now).sections shared.new }
 {
     if unit.append_ranges(&unit.root.ranges, out)? {
         return Ok(());
     }
-    append_lines(alloc, unit, out)
+    append_shared(alloc, shared, unit, out)
 }
 
-/// The same of a unit that is built.
+/// The same of a unit of the main file that is built.
 fn append_unit(
     alloc: Global,
     dwarf: &Dwarf<'_, '_>,
+    shared: &mut SharedParts,
     unit: &BuiltUnit,
     out: &mut Vec<Span>,
 ) -> Result<()>
     requires readable { IsReadable dwarf.now }
     requires fits { BuiltFits (files_view dwarf.now) unit.now }
-    ensures { Gives (λ _. out.new.items) result (or_invalid (root_behind (built_view (files_view dwarf.now) unit.now) out.old.items)) }
+    requires main { unit.now.origin ≡ Main }
+    requires shared { AreShared (files_view dwarf.now).main shared.old }
+    ensures value { Gives (λ _. out.new.items) result (or_invalid (root_behind (built_view (files_view dwarf.now) unit.now) out.old.items)) }
+    ensures shared { AreShared (files_view dwarf.now).main shared.new }
 {
-    append_root(alloc, &unit.open(dwarf), out)
+    append_root(alloc, shared, &unit.open(dwarf), out)
 }
 
 /// What is kept of a unit that was built: nothing where its functions may stand in a package.
@@ -168,7 +225,7 @@ fn append_built(
             return Ok(None);
         }
     };
-    append_unit(alloc, dwarf, &unit, out)?;
+    append_unit(alloc, dwarf, shared, &unit, out)?;
     Ok(Some(kept_of(dwarf, header, unit)))
 }
 

@@ -14,6 +14,7 @@ mod lent;
 mod prepared;
 mod reader;
 mod references;
+mod shared_lines;
 mod shared_parts;
 mod sites;
 mod unit_list;

@@ -10,6 +10,7 @@ ghost use Rattle.blz_index.specs.BuiltUnits.{line_header};
 ghost use Rattle.blz_index.specs.Sharing.{table_kept, AreShared};
 ghost use Rattle.blz_entry.specs.FileSections.{FileSections, sections_view};
 
+use crate::shared_lines::ProgramSpans;
 use blz_entry::{Abbreviations, Sections, UnitHeader};
 use blz_error::Result;
 use blz_line::LineHeader;
@@ -17,12 +18,13 @@ use std::alloc::{AllocError, Global};
 use std::collections::BTreeMap;
 use std::sync::Arc;
 
-/// The tables of abbreviations that were read, by their offsets, and the offsets at which line programs have headers, each
-/// with the size of addresses that it was read with.
+/// The tables of abbreviations that were read, by their offsets, the offsets at which line programs have headers, each
+/// with the size of addresses that it was read with, and what the programs of units without ranges cover.
 #[derive(Drop)]
 pub struct SharedParts {
     pub tables: BTreeMap<u64, Arc<Abbreviations>>,
     pub headers: BTreeMap<u64, u8>,
+    pub spans: BTreeMap<u64, ProgramSpans>,
 }
 
 /// The abbreviations of a unit.
@@ -58,6 +60,7 @@ impl SharedParts {
         SharedParts {
             tables: BTreeMap::new(alloc),
             headers: BTreeMap::new(alloc),
+            spans: BTreeMap::new(alloc),
         }
     }
 
