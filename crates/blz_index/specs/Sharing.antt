@@ -1,6 +1,6 @@
 -- What the units of some sections share: tables of abbreviations, headers of line programs and what they cover, by their
 -- offsets.
-use Rattle.std.specs.Prelude.{◌≡◌, ℕ, List, Option, Some, IfSome, option_map}
+use Rattle.std.specs.Prelude.{◌≡◌, ℕ, ◌+◌, ◌-◌, ◌/◌, ◌&&◌, nat_le, List, Option, Some, None, IfSome, option_map, if◌then◌else◌}
 use Rattle.std.specs.Arc.{arc_value}
 use Rattle.std.specs.BTreeMap.{get}
 use Rattle.std.specs.Ordering.{nat_cmp}
@@ -21,6 +21,10 @@ use Rattle.blz_index.specs.UnitTables.{sequences_of}
 -- the table that is kept of an offset
 abbrev pub table_kept : SharedParts → ℕ → Option (List Abbrev)
 table_kept p at = option_map arc_value (get nat_cmp p.tables at)
+
+-- How many abbreviations are kept with some more of a section of so many bytes, where there is room for them.
+abbrev pub count_with : ℕ → ℕ → ℕ → Option ℕ
+count_with bytes count more = if nat_le count (bytes / 5) && nat_le more (bytes / 5 - count) then Some (count + more) else None
 
 -- how a unit reads a line program, besides its offset
 abbrev pub lines_key : UnitHeader → UnitRoot → LinesKey

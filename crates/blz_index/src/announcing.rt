@@ -190,13 +190,19 @@ fn append_unit(
     append_root(alloc, shared, &unit.open(dwarf), out)
 }
 
-/// What is kept of a unit that was built: nothing where its functions may stand in a package.
-fn kept_of(dwarf: &Dwarf<'_, '_>, header: &UnitHeader, unit: BuiltUnit) -> Cache<BuiltUnit>
+/// What is kept of a unit that was built: nothing where its functions may stand in a package, or where there was no room
+/// for its abbreviations.
+fn kept_of(
+    dwarf: &Dwarf<'_, '_>,
+    shared: &SharedParts,
+    header: &UnitHeader,
+    unit: BuiltUnit,
+) -> Cache<BuiltUnit>
     requires fits { BuiltFits (files_view dwarf.now) unit }
     requires is { or_invalid (built (files_view dwarf.now).main header.now) ≡ Good (built_view (files_view dwarf.now) unit) }
     ensures { IsPartOf (files_view dwarf.now) header.now result }
 {
-    if may_be_split(dwarf, header) {
+    if may_be_split(dwarf, header) || !shared.keeps_table(header.abbrev) {
         return Cache::Empty;
     }
     Cache::Value(unit)
@@ -226,7 +232,7 @@ fn append_built(
         }
     };
     append_unit(alloc, dwarf, shared, &unit, out)?;
-    Ok(Some(kept_of(dwarf, header, unit)))
+    Ok(Some(kept_of(dwarf, shared, header, unit)))
 }
 
 /// Appends what a unit announces, and gives what is kept of it: the unit itself where it had to be built; None where the

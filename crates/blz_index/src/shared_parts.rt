@@ -1,5 +1,5 @@
 //! What the units of a file share, read once.
-ghost use Rattle.std.specs.Prelude.{◌≡◌, true, Option, Some, None, option_map, IfOk};
+ghost use Rattle.std.specs.Prelude.{◌≡◌, true, length, Option, Some, None, is_some, option_map, IfOk};
 ghost use Rattle.std.specs.Arc.{arc_value};
 ghost use Rattle.std.specs.BTreeMap.{get};
 ghost use Rattle.std.specs.Ordering.{nat_cmp};
@@ -7,7 +7,7 @@ ghost use Rattle.blz_model.specs.Part.{Gives};
 ghost use Rattle.blz_entry.specs.AbbreviationTables.{abbreviations};
 ghost use Rattle.blz_entry.specs.Marks.{or_invalid};
 ghost use Rattle.blz_index.specs.BuiltUnits.{line_header};
-ghost use Rattle.blz_index.specs.Sharing.{table_kept, AreShared};
+ghost use Rattle.blz_index.specs.Sharing.{count_with, table_kept, AreShared};
 ghost use Rattle.blz_entry.specs.FileSections.{FileSections, sections_view};
 
 use crate::shared_lines::ProgramSpans;
@@ -16,6 +16,7 @@ use blz_error::Result;
 use blz_line::LineHeader;
 use std::alloc::{AllocError, Global};
 use std::collections::BTreeMap;
+use std::ops::Deref;
 use std::sync::Arc;
 
 /// The tables of abbreviations that were read, by their offsets, the offsets at which line programs have headers, each
@@ -25,7 +26,12 @@ pub struct SharedParts {
     pub tables: BTreeMap<u64, Arc<Abbreviations>>,
     pub headers: BTreeMap<u64, u8>,
     pub spans: BTreeMap<u64, ProgramSpans>,
+    /// How many abbreviations the tables have.
+    pub count: usize,
 }
+
+/// The bytes of an abbreviation, at least: a code, a tag, whether there are children, and the two zeros that end it.
+const LEAST_ABBREVIATION: usize = 5;
 
 /// The abbreviations of a unit.
 fn read_table(
@@ -61,7 +67,29 @@ impl SharedParts {
             tables: BTreeMap::new(alloc),
             headers: BTreeMap::new(alloc),
             spans: BTreeMap::new(alloc),
+            count: 0,
         }
+    }
+
+    /// How many abbreviations the tables have with one table more, if there is room for it. An abbreviation takes five bytes
+    /// at least, so there is room for all tables of a section that do not lie within one another.
+    fn count_with(&self, sections: &Sections<'_, '_>, table: &Abbreviations) -> Option<usize>
+        ensures { result ≡ count_with (length sections.now.abbrev.bytes.now) self.now.count (length table.now) }
+    {
+        let room = sections.abbrev.bytes.len() / LEAST_ABBREVIATION;
+        let more = table.len();
+        if self.count <= room && more <= room - self.count {
+            Some(self.count + more)
+        } else {
+            None
+        }
+    }
+
+    /// Whether the table of an offset is kept.
+    pub fn keeps_table(&self, at: u64) -> bool
+        ensures { result ≡ is_some (table_kept self.now at) }
+    {
+        self.tables.get(&at).is_some()
     }
 
     /// The table that is kept of an offset.
@@ -74,7 +102,7 @@ impl SharedParts {
         }
     }
 
-    /// Keeps the table of an offset.
+    /// Keeps the table of an offset, where there is room for it.
     fn keep_table(
         &mut self,
         sections: &Sections<'_, '_>,
@@ -85,12 +113,16 @@ impl SharedParts {
         requires table { abbreviations (sections_view sections.now).«abbrev».bytes at ≡ Some (arc_value table.now) }
         ensures { AreShared (sections_view sections.now) self.new }
     {
+        let Some(count) = self.count_with(sections, table.deref()) else {
+            return Ok(());
+        };
         let table = Arc::try_clone(table)?;
         self.tables.insert(at, table)?;
+        self.count = count;
         Ok(())
     }
 
-    /// Reads the abbreviations of a unit, and keeps them.
+    /// Reads the abbreviations of a unit, and keeps them where there is room.
     fn read_and_keep(
         &mut self,
         alloc: Global,
