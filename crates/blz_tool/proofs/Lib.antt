@@ -3,3 +3,4 @@ pub mod DemoLengths
 pub mod Tallied
 pub mod Found
 pub mod Known
+pub mod PlainWalk

@@ -2,8 +2,8 @@
 use Rattle.std.specs.Prelude.{ℕ, ◌&&◌, ◌||◌, not, Bool, true, false, List, [], ◌∷◌, Option, Some, None, is_some, codes, if◌then◌else◌, unwrap_or, option_map}
 use Rattle.std.specs.Option.{option_map_or}
 use Rattle.std.specs.Str.{bytes_eq}
+use Rattle.clap.specs.Lexer.{usize_max}
 use Rattle.clap.specs.Words.{App, Row, Rule, all_of, first_of, matches_of, new_app, new_rule, takes, with_rule}
-use Rattle.clap.specs.declared.builder.action.ArgAction.{ArgAction}
 use Rattle.clap.specs.declared.builder.action.ArgAction.TheVariants.{Append, Set, SetTrue}
 use Rattle.blz_error.specs.Texts.{Bytes}
 use Rattle.blz_elf.specs.declared.opts.FindSymOpts.{FindSymOpts}
@@ -21,14 +21,18 @@ flag_rule name = record (new_rule name) { long = Some name; action = Some SetTru
 abbrev pub option_rule : Bytes → Rule
 option_rule name = record (new_rule name) { long = Some name; action = Some Set }
 
--- a word that stands alone, or each of several
-abbrev pub place_rule : Bytes → ArgAction → Rule
-place_rule name action = record (new_rule name) { action = Some action }
+-- a word that stands alone
+abbrev pub place_rule : Bytes → Rule
+place_rule name = record (new_rule name) { action = Some Set }
+
+-- words that stand alone, any number in each use
+abbrev pub places_rule : Bytes → Rule
+places_rule name = record (new_rule name) { action = Some Append; range = Some (record { start_inclusive = 1; end_inclusive = usize_max }) }
 
 abbrev pub tool_app : App
 tool_app = with_rule (with_rule (with_rule (with_rule (with_rule (with_rule (new_app (codes "blz_tool"))
     (flag_rule (codes "basic"))) (flag_rule (codes "lines"))) (option_rule (codes "debug-dirs"))) (option_rule (codes "demo")))
-    (place_rule (codes "path") Set)) (place_rule (codes "addrs") Append)
+    (place_rule (codes "path"))) (places_rule (codes "addrs"))
 
 -- the program's name, then its words
 abbrev pub named : List Bytes → List Bytes

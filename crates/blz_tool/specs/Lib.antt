@@ -1,5 +1,6 @@
 pub mod CommandLine
 pub mod Requests
+pub mod PlainWords
 pub mod PrintedText
 pub mod Fields
 pub mod DemoImage

@@ -1,7 +1,7 @@
 //! The words of the command line, read by `clap` as one simple command.
 ghost use Rattle.std.specs.Prelude.{◌≡◌, ◌⊎◌, IfOk, IfErr, map, codes, option_map, true, false};
 ghost use Rattle.clap.specs.Words.{all_of, app_of, first_of, found_of, kind_of, matches_of, rows_of, rule_of, takes, with_rule};
-ghost use Rattle.blz_tool.specs.CommandLine.{flag_rule, form_by, form_of, is_set, no_words, option_rule, opts_of, place_rule, tool_app};
+ghost use Rattle.blz_tool.specs.CommandLine.{flag_rule, form_by, form_of, is_set, no_words, option_rule, opts_of, place_rule, places_rule, tool_app};
 ghost use Rattle.blz_tool.specs.Requests.{form_view, words_in};
 
 use blz_elf::FindSymOpts;
@@ -35,11 +35,21 @@ fn option_arg<'a>(alloc: Global, name: &'a str) -> Arg<'a>
     Arg::new(alloc, name).long(name).action(ArgAction::Set)
 }
 
-fn place_arg<'a>(alloc: Global, name: &'a str, action: ArgAction) -> Arg<'a>
-    ensures rule { rule_of result ≡ place_rule name.entry.now action }
+fn place_arg<'a>(alloc: Global, name: &'a str) -> Arg<'a>
+    ensures rule { rule_of result ≡ place_rule name.entry.now }
     ensures own { result.global ≡ false }
 {
-    Arg::new(alloc, name).action(action)
+    Arg::new(alloc, name).action(ArgAction::Set)
+}
+
+// Each use takes all words up to the next option, so that `clap` acts once for them.
+fn places_arg<'a>(alloc: Global, name: &'a str) -> Arg<'a>
+    ensures rule { rule_of result ≡ places_rule name.entry.now }
+    ensures own { result.global ≡ false }
+{
+    Arg::new(alloc, name)
+        .action(ArgAction::Append)
+        .num_args(1usize..)
 }
 
 fn with_arg<'a>(command: Command<'a>, arg: Arg<'a>) -> Result<Command<'a>, AllocError>
@@ -57,8 +67,8 @@ fn command<'a>(alloc: Global) -> Result<Command<'a>, AllocError>
     let two = with_arg(one, flag_arg(alloc, "lines"))?;
     let three = with_arg(two, option_arg(alloc, "debug-dirs"))?;
     let four = with_arg(three, option_arg(alloc, "demo"))?;
-    let five = with_arg(four, place_arg(alloc, "path", ArgAction::Set))?;
-    with_arg(five, place_arg(alloc, "addrs", ArgAction::Append))
+    let five = with_arg(four, place_arg(alloc, "path"))?;
+    with_arg(five, places_arg(alloc, "addrs"))
 }
 
 /// The matches of the words, of which the first is the program's name. Usage comes only where the simple command does not

@@ -14,9 +14,8 @@ ghost use Rattle.blz_tool.specs.Requests.{question_view, request_view};
 ghost use Rattle.blz_tool.specs.Runs.{FailsNamed, FilesFail, Finds, FindsNamed, FindsPart, Prints, dirs_of, found_for, found_in, text_for, tool_texts};
 ghost use Rattle.blz_tool.specs.Summary.{summary};
 
-use crate::command_line::{form_in, matches_for};
 use crate::demo::summary;
-use crate::request::{Question, Request, request_of};
+use crate::request::{Question, Request, request_in};
 use crate::text::text;
 use blz_bytes::Orders;
 use blz_error::ErrorKind;
@@ -79,7 +78,7 @@ pub fn run<F: Files, O: Orders, S: Sink, E: Sink>(
 fn named_words<'w>(alloc: Global, words: &'w [String]) -> Result<Vec<&'w str>, AllocError>
     ensures { IfOk result (λ v. map (λ w. w.now) v.items ≡ named (map string_bytes words.entry.now)) }
 {
-    let mut given = Vec::new(alloc);
+    let mut given = Vec::with_capacity(alloc, words.len() + 1)?;
     given.push("blz_tool")?;
     for word in words {
         given.push(word.as_str())?;
@@ -115,15 +114,11 @@ fn made_of_named<F: Files, O: Orders>(
     ensures contents_stay { F.contents files.new ≡ F.contents files.old }
     ensures stamps_stay { F.stamps files.new ≡ F.stamps files.old }
 {
-    let matches = match matches_for(alloc, given) {
-        Ok(matches) => matches,
-        Err(outcome) => return Err(outcome),
-    };
-    match request_of(alloc, &form_in(&matches)) {
+    match request_in(alloc, given) {
         Ok(Some(Request::Resolve(question))) => made_of_question(alloc, files, orders, &question),
         Ok(Some(Request::Demo(n))) => made_of_demo(alloc, orders, n),
         Ok(None) => Err(Outcome::Usage),
-        Err(_) => Err(Outcome::OutOfMemory),
+        Err(outcome) => Err(outcome),
     }
 }
 

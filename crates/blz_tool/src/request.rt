@@ -1,13 +1,15 @@
 //! What the words ask for.
-ghost use Rattle.std.specs.Prelude.{◌≡◌, ◌<◌, ◌∷◌, [], IfOk, IfNone, IfSome, length, map, option_map, string_bytes};
+ghost use Rattle.std.specs.Prelude.{◌≡◌, ◌⊎◌, ◌<◌, ◌∷◌, [], false, IfErr, IfOk, IfNone, IfSome, length, map, option_map, string_bytes};
+ghost use Rattle.clap.specs.Words.{takes};
 ghost use Rattle.blz_program.specs.TextLines.{pieces_of};
-ghost use Rattle.blz_tool.specs.CommandLine.{addresses_of, asked_by, asked_demo, dirs_in, most_functions};
+ghost use Rattle.blz_tool.specs.CommandLine.{addresses_of, asked_by, asked_demo, asked_named, dirs_in, most_functions, tool_app};
 ghost use Rattle.blz_program.specs.Words.{number_up_to};
 ghost use Rattle.blz_tool.specs.Requests.{IsFew, form_view, request_view, words_in};
 
-use crate::command_line::WordForm;
+use crate::command_line::{WordForm, form_in, matches_for};
+use crate::plain_words::plain_form;
 use blz_elf::FindSymOpts;
-use blz_program::{address, number_up_to};
+use blz_program::{Outcome, address, number_up_to};
 use memchr::memchr;
 use std::alloc::{AllocError, Global};
 
@@ -36,8 +38,38 @@ pub enum Request<'a> {
     Demo(u32),
 }
 
-/// What words of this form ask for, or None where one of them is not of its own form.
-pub fn request_of<'m, 'a>(
+/// What the program's name and the words after it ask for, or None where they are not of their form. Usage comes only where
+/// the simple command does not take them, and else OutOfMemory.
+pub fn request_in<'a>(alloc: Global, given: &'a [&'a str]) -> Result<Option<Request<'a>>, Outcome>
+    ensures value { IfOk result (λ request. request_view request ≡ asked_named (map (λ w. w.now) given.entry.now)) }
+    ensures few { IfOk result (λ request. IsFew request) }
+    ensures refused { IfErr result (λ o. (o ≡ Outcome.OutOfMemory) ⊎ ((o ≡ Outcome.Usage) × (takes tool_app (map (λ w. w.now) given.entry.now) ≡ false))) }
+{
+    if let Some(form) = plain_form(given) {
+        return request_by(alloc, &form);
+    }
+    match matches_for(alloc, given) {
+        Ok(matches) => request_by(alloc, &form_in(&matches)),
+        Err(outcome) => Err(outcome),
+    }
+}
+
+fn request_by<'m, 'a>(
+    alloc: Global,
+    form: &WordForm<'m, 'a>,
+) -> Result<Option<Request<'a>>, Outcome>
+    ensures value { IfOk result (λ request. request_view request ≡ asked_by (form_view form.now)) }
+    ensures few { IfOk result (λ request. IsFew request) }
+    ensures refused { IfErr result (λ o. o ≡ Outcome.OutOfMemory) }
+{
+    match request_of(alloc, form) {
+        Ok(request) => Ok(request),
+        Err(_) => Err(Outcome::OutOfMemory),
+    }
+}
+
+// What words of this form ask for, or None where one of them is not of its own form.
+fn request_of<'m, 'a>(
     alloc: Global,
     form: &WordForm<'m, 'a>,
 ) -> Result<Option<Request<'a>>, AllocError>

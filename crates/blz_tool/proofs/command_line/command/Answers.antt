@@ -12,5 +12,5 @@ returns c =
     (c.in_ok-four.ensures ∙ ap₂ with_rule
     (c.in_ok-three.ensures ∙ ap₂ with_rule
     (c.in_ok-two.ensures ∙ ap₂ with_rule
-    (c.in_ok-one.ensures ∙ ap₂ with_rule c.new-start.ensures.app c.flag_arg.ensures.rule) c.flag_arg-2.ensures.rule) c.option_arg.ensures.rule) c.option_arg-2.ensures.rule) c.place_arg.ensures.rule) c.place_arg-2.ensures.rule)
+    (c.in_ok-one.ensures ∙ ap₂ with_rule c.new-start.ensures.app c.flag_arg.ensures.rule) c.flag_arg-2.ensures.rule) c.option_arg.ensures.rule) c.option_arg-2.ensures.rule) c.place_arg.ensures.rule) c.places_arg.ensures.rule)
     c.with_arg-6.ensures
