@@ -2,7 +2,7 @@
 use Rattle.std.proofs.Common.{◌≡◌, true, false, List, [], ◌∷◌, ◌++◌, Option, Some, None, option_map, is_some, map, reverse, refl, sym, ap, ◌∙◌, subst, append_assoc}
 use Rattle.std.proofs.lemmas.List.{reverse-append, map-append}
 use Rattle.blz_model.specs.Answers.{Site, Inlined}
-use Rattle.blz_resolver.specs.CallFrames.{shown_site, site_of_next, moved, frames, frames_from}
+use Rattle.blz_resolver.specs.CallFrames.{shown_site, site_of_next, moved, frames, frames_from, one_place}
 
 pub next_of_last : (calls : List Inlined) (c : Inlined) (last : Option Site) → site_of_next (calls ++ c ∷ []) last ≡ site_of_next calls c.site
 next_of_last [] c last = refl
@@ -49,3 +49,7 @@ map_reverse {B = B} f (x ∷ xs) =
 pub moved_all : (calls : List Inlined) (last : Option Site) (out all : List Inlined) → calls ≡ [] → moved calls last ++ reverse out ≡ all → reverse out ≡ all
 unfolding moved
 moved_all calls last out all none so_far = let P : List Inlined → Type 0 = λ calls. moved calls last ++ reverse out ≡ all in subst P none so_far
+
+pub frames_of_none : (direct : Site) (calls : List Inlined) → calls ≡ [] → frames direct calls ≡ one_place direct
+unfolding moved
+frames_of_none direct calls none = let P : List Inlined → Type 0 = λ calls. frames direct calls ≡ one_place direct in subst P (sym none) refl

@@ -1,7 +1,7 @@
 -- What a reader of a bundle's files gives is what the definitions over the bundle give.
-use Rattle.std.proofs.Common.{◌≡◌, ◌<◌, ℕ, Bool, true, false, not, is_some, length, List, Option, Some, None, option_map, Bor, refl, sym, ap, ◌∙◌, subst, if◌then◌else◌}
+use Rattle.std.proofs.Common.{◌≡◌, ◌<◌, ℕ, Bool, true, false, not, is_some, length, List, Option, Some, None, option_map, Bor, map, refl, sym, ap, ◌∙◌, subst, if◌then◌else◌}
 use Rattle.blz_error.specs.declared.kind.ErrorKind.TheVariants.{Unsupported}
-use Rattle.blz_model.specs.Part.{Part, Good, Broken, ◌>>=◌, check}
+use Rattle.blz_model.specs.Part.{Part, Good, Broken, ◌>>=◌, all_good, check}
 use Rattle.blz_elf.specs.Listings.{broken_by, listing_if}
 use Rattle.blz_elf.specs.declared.find_addr_opts.FindAddrOpts.{FindAddrOpts}
 use Rattle.blz_elf.specs.declared.opts.FindSymOpts.{FindSymOpts}
@@ -18,7 +18,7 @@ use Rattle.blz_index.specs.UnitAnswers.{unit_lines}
 use Rattle.blz_index.specs.UnitTables.{units_of}
 use Rattle.blz_index.specs.UnitsWarm.{units_table, UnitsFit}
 use Rattle.blz_index.specs.declared.dwarf.Dwarf.{Dwarf}
-use Rattle.blz_resolver.specs.AddressAnswers.{answer_in, answer, answer_of}
+use Rattle.blz_resolver.specs.AddressAnswers.{answer_in, answers_in, answer, answer_of}
 use Rattle.blz_resolver.specs.Books.{Book, files_in, frame_of, framed}
 use Rattle.blz_bundle.specs.BundleViews.{bundle_view}
 use Rattle.blz_line.specs.FileNames.{file_text}
@@ -30,6 +30,7 @@ use Rattle.blz_bundle.specs.Images.{ImageSet}
 use Rattle.blz_resolver.specs.InfoViews.{info_book, KeepsBook}
 use Rattle.blz_resolver.specs.Reading.{book_of, Reads, Keeps}
 use Rattle.blz_resolver.specs.Resolver.{HasBook, HasBookIf}
+use Rattle.blz_resolver.specs.Scan.{answers_of}
 use Rattle.blz_resolver.specs.UnitRowsRead.{Rows, rows_with, rows_in, rows_of, count_of, unit_count_of}
 use Rattle.blz_resolver.specs.declared.book_reader.BookReader.{BookReader}
 use Rattle.blz_resolver.specs.declared.debug_files.DebugFiles.{DebugFiles}
@@ -123,6 +124,11 @@ pub answer_read : (images : ImageSet) (d : DebugInfo) (r : BookReader) (a : ℕ)
 answer_read images d r a opts has is =
     ap (λ (p : Part Book). p >>= λ book. answer book a opts) (frame_read images d r has is)
     ∙ sym (same_answer r.dwarf.texts (texts_of (files_view r.dwarf)) (texts_are r.dwarf is.readable) (book_of r d.units) a opts)
+
+pub answers_read : (images : ImageSet) (d : DebugInfo) (r : BookReader) (addrs : List ℕ) (opts : FindSymOpts) → HasBook images d → IsReaderOf images d r
+    → all_good (map (answers_of images true opts) addrs) ≡ all_good (map (answers_in r.dwarf.texts (book_of r d.units) opts) addrs)
+answers_read images d r addrs opts has is =
+    ap all_good (same_map (answers_of images true opts) (answers_in r.dwarf.texts (book_of r d.units) opts) addrs (λ a. answer_read images d r a opts has is))
 
 pub addresses_read : (images : ImageSet) (d : DebugInfo) (r : BookReader) (name : List ℕ) (opts : FindAddrOpts) → HasBook images d → IsReaderOf images d r → is_variable opts.sym_type ≡ false
     → addresses_of images true name opts ≡ addresses_in r.dwarf.texts (book_of r d.units) name opts.file_offset

@@ -109,6 +109,10 @@ answer_in t b addr opts = do
   at ← or_invalid (function_at b.files b.table addr)
   answer_by t b addr opts at
 
+-- the same by some options
+abbrev pub answers_in : Texts → Book → FindSymOpts → ℕ → Part Answer
+answers_in t b opts addr = answer_in t b addr opts
+
 abbrev pub answer : Book → ℕ → FindSymOpts → Part Answer
 answer b addr opts = answer_in (texts_of b.files) b addr opts
 

@@ -3,7 +3,7 @@ use Rattle.std.specs.Prelude.{ℕ, List, Option, Some, None, codes, false}
 use Rattle.std.specs.FinMap as map
 use Rattle.blz_model.specs.declared.byte_order.ByteOrder.{ByteOrder}
 use Rattle.blz_model.specs.Part.{Part, Good, ◌>>=◌}
-use Rattle.blz_elf.specs.Images.{elf_of, image_order, image_section, image_data_named}
+use Rattle.blz_elf.specs.Images.{elf_of, image_order, image_section, image_section_data, image_data_named}
 use Rattle.blz_moves.specs.Relocations.{OffsetMap, SectionMap, section_map}
 use Rattle.blz_elf.specs.RelocationTables.{image_relocations}
 use Rattle.blz_entry.specs.Contents.{Contents}
@@ -34,6 +34,11 @@ located image section = do
   bytes ← image_data_named image (name_of section)
   number ← image_section image (name_of section)
   Good (record { bytes = bytes; number = number })
+
+-- the data of a section by its number, nothing where there is none
+abbrev pub data_numbered : List ℕ → Option ℕ → Part (List ℕ)
+data_numbered image None = Good []
+data_numbered image (Some number) = image_section_data image number
 
 -- the sections of debug information, and the byte order of their numbers
 pub record DebugParts : Type 0 where

@@ -1,11 +1,11 @@
 //! The answer of an address by the debug information of a bundle.
-ghost use Rattle.std.specs.Prelude.{◌≡◌, ◌<◌, true, length};
+ghost use Rattle.std.specs.Prelude.{◌≡◌, ◌<◌, true, length, map, IfOk};
 ghost use Rattle.std.specs.Option.{option_map};
-ghost use Rattle.blz_model.specs.Part.{Gives};
+ghost use Rattle.blz_model.specs.Part.{Gives, all_good};
 ghost use Rattle.blz_elf.specs.AnswerView.{answer_view, resolved_view};
 ghost use Rattle.blz_index.specs.UnitsWarm.{units_table, functions_kept};
 ghost use Rattle.blz_line.specs.Lookups.{location_view};
-ghost use Rattle.blz_resolver.specs.AddressAnswers.{direct_site, places_of, placed, function_answer, with_place, symbol_answer, answer_by, answer_in};
+ghost use Rattle.blz_resolver.specs.AddressAnswers.{direct_site, places_of, placed, function_answer, with_place, symbol_answer, answer_by, answer_in, answers_in};
 ghost use Rattle.blz_bundle.specs.BundleViews.{bundle_view};
 ghost use Rattle.blz_resolver.specs.PlaceViews.{places_view};
 ghost use Rattle.blz_resolver.specs.Reading.{book_of, Reads, Keeps};
@@ -167,5 +167,31 @@ impl<'b> BookReader<'_, 'b> {
             Some(at) => self.function_answer(alloc, orders, units, addr, opts, at),
             None => self.symbol_answer(alloc, orders, units, parser, addr, opts),
         }
+    }
+
+    /// The answer of each address, in their order. Refused by the first mark that is met.
+    #[tactic(auto, using(crate::proofs::ReaderSteps::keeps_same, crate::proofs::ReaderSteps::keeps_on))]
+    pub fn answers<O: Orders>(
+        &self,
+        alloc: Global,
+        orders: &mut O,
+        units: &mut Units,
+        parser: &mut ElfParser<'b>,
+        addrs: &[u64],
+        opts: &FindSymOpts,
+    ) -> Result<Vec<Answer<'b>>>
+        requires reads { Reads self.now units.old }
+        requires parser { IsOfDebugFile (bundle_view self.now.bundle) parser.old }
+        ensures value { Gives (λ v. map answer_view v.items) result
+            (all_good (map (answers_in self.now.dwarf.texts (book_of self.now units.old) opts.now) addrs.now)) }
+        ensures one_each { IfOk result (λ v. length v.items ≡ length addrs.now) }
+        ensures keeps { Keeps self.now units.old units.new }
+        ensures same { parser.new ≡ parser.old }
+    {
+        let mut answers = Vec::with_capacity(alloc, addrs.len())?;
+        for addr in addrs {
+            answers.push(self.answer(alloc, orders, units, parser, *addr, opts)?)?;
+        }
+        Ok(answers)
     }
 }

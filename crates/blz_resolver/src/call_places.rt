@@ -145,6 +145,9 @@ impl<'b> CallPlaces<'b> {
         ensures { IfOk result (λ p. places_view p ≡ frames (location_view direct.entry) calls.entry) }
     {
         let calls = calls.into_vec();
+        if calls.is_empty() {
+            return Ok(CallPlaces::one(alloc, direct));
+        }
         if is_left(&calls) {
             left(alloc, calls, direct)
         } else {

@@ -2,10 +2,9 @@
 ghost use Rattle.std.specs.Prelude.{◌≡◌, ◌<◌, ◌^◌, length};
 ghost use Rattle.std.specs.FinMap as map;
 ghost use Rattle.blz_model.specs.Part.{Exactly};
-ghost use Rattle.blz_elf.specs.Images.{image_section, image_data_named};
 ghost use Rattle.blz_entry.specs.Contents.{section_view};
 ghost use Rattle.blz_entry.specs.FileSections.{sections_view};
-ghost use Rattle.blz_resolver.specs.DebugSections.{name_of, located, debug_parts, moves_of, contents_with, sections_in};
+ghost use Rattle.blz_resolver.specs.DebugSections.{data_numbered, located, debug_parts, moves_of, contents_with, sections_in};
 ghost use Rattle.blz_resolver.specs.DebugViews.{located_view, parts_view, IsWholeFile};
 
 use crate::debug_section::DebugSection;
@@ -37,13 +36,25 @@ pub(crate) struct DebugData<'b> {
     pub order: ByteOrder,
 }
 
-#[tactic(auto, unfolding(crate::specs::DebugSections::located))]
+// The data of a section by its number, nothing where there is none.
+fn data_of<'b>(parser: &mut ElfParser<'b>, number: Option<usize>) -> Result<&'b [u8]>
+    ensures value { Exactly (λ d. d.now) result (data_numbered parser.old.image number) }
+    ensures same { parser.new ≡ parser.old }
+{
+    match number {
+        Some(number) => parser.section_data(number),
+        None => Ok(&[]),
+    }
+}
+
+// The name is sought once, and the data taken by the number that it has.
+#[tactic(auto, using(crate::proofs::NumberedSections::located_numbered))]
 fn section_of<'b>(parser: &mut ElfParser<'b>, section: DebugSection) -> Result<SectionData<'b>>
     ensures value { Exactly located_view result (located parser.old.image section) }
     ensures same { parser.new ≡ parser.old }
 {
-    let bytes = parser.data_named(section.name())?;
     let number = parser.find_section(section.name())?;
+    let bytes = data_of(parser, number)?;
     Ok(SectionData { bytes, number })
 }
 

@@ -1,7 +1,7 @@
 //! The debug information of a bundle with its units.
 ghost use Rattle.std.specs.Prelude.{◌≡◌, ◌<◌, ◌-◌, true, false, length, map, IfOk, Option, option_map};
 ghost use Rattle.std.specs.FinMap as finite;
-ghost use Rattle.blz_model.specs.Part.{Gives, Exactly};
+ghost use Rattle.blz_model.specs.Part.{Gives, Exactly, all_good};
 ghost use Rattle.blz_elf.specs.AnswerView.{answer_view};
 ghost use Rattle.blz_elf.specs.Asked.{asks_code_info, asks_inlined_fns};
 ghost use Rattle.blz_elf.specs.Listings.{ShowsAll};
@@ -19,6 +19,7 @@ ghost use Rattle.blz_resolver.specs.Looks.{LooksFewIn};
 ghost use Rattle.blz_resolver.specs.InfoViews.{info_book, KeepsBook};
 ghost use Rattle.blz_resolver.specs.Resolver.{HasBook};
 ghost use Rattle.blz_resolver.specs.RowsViews.{rows_view};
+ghost use Rattle.blz_resolver.specs.Scan.{answers_of};
 ghost use Rattle.blz_resolver.specs.UnitRowsRead.{rows_of, unit_count_of};
 ghost use Rattle.blz_resolver.specs.Sources.{IsOfDebugFile};
 
@@ -104,6 +105,30 @@ impl<'b> DebugInfo<'b> {
             dwarf: self.files.dwarf(),
         };
         reader.answer(alloc, orders, &mut self.units, parser, addr, opts)
+    }
+
+    /// The answer of each address, as `find_sym` has it; the sections are taken once for all of them.
+    pub fn find_syms<O: Orders>(
+        &mut self,
+        alloc: Global,
+        orders: &mut O,
+        bundle: &Bundle<'b>,
+        parser: &mut ElfParser<'b>,
+        addrs: &[u64],
+        opts: &FindSymOpts,
+    ) -> Result<Vec<Answer<'b>>>
+        requires fits { HasBook (bundle_view bundle.now) self.old }
+        requires parser { IsOfDebugFile (bundle_view bundle.now) parser.old }
+        ensures value { Gives (λ v. map answer_view v.items) result (all_good (map (answers_of (bundle_view bundle.now) true opts.now) addrs.now)) }
+        ensures one_each { IfOk result (λ v. length v.items ≡ length addrs.now) }
+        ensures keeps { KeepsBook (bundle_view bundle.now) self.old self.new }
+        ensures same { parser.new ≡ parser.old }
+    {
+        let reader = BookReader {
+            bundle: *bundle,
+            dwarf: self.files.dwarf(),
+        };
+        reader.answers(alloc, orders, &mut self.units, parser, addrs, opts)
     }
 
     /// The functions of a name, and where there are none the symbols of the debug file, whose parser is given.

@@ -1,16 +1,15 @@
 //! The answers of a list of addresses.
-ghost use Rattle.std.specs.Prelude.{◌≡◌, true, IfOk, IfErr, length, map};
-ghost use Rattle.blz_model.specs.Part.{Gives, all_good};
+ghost use Rattle.std.specs.Prelude.{◌≡◌, IfOk, IfErr, length, map};
+ghost use Rattle.blz_model.specs.Part.{Gives};
 ghost use Rattle.blz_elf.specs.AnswerView.{answer_view};
 ghost use Rattle.blz_bundle.specs.BundleViews.{bundle_view};
 ghost use Rattle.blz_resolver.specs.FormatKinds.{IsMemoryOrFormat};
-ghost use Rattle.blz_resolver.specs.Resolver.{has_debug};
-ghost use Rattle.blz_resolver.specs.Scan.{answers_of, scan_of};
+ghost use Rattle.blz_resolver.specs.Scan.{scan_of};
 
-use crate::ElfResolver;
+use crate::debug_info::DebugInfo;
 use blz_bundle::Bundle;
 use blz_bytes::Orders;
-use blz_elf::{Answer, FindSymOpts};
+use blz_elf::{Answer, ElfParser, FindSymOpts};
 use blz_error::Result;
 use std::alloc::Global;
 
@@ -41,23 +40,8 @@ fn scanned<'b, O: Orders>(
     ensures value { Gives (λ v. map answer_view v.items) result (scan_of (bundle_view bundle.now) addrs.now opts.now) }
     ensures one_each { IfOk result (λ v. length v.items ≡ length addrs.now) }
 {
-    let mut resolver = ElfResolver::from_bundle(alloc, orders, bundle)?;
-    answers(alloc, orders, &mut resolver, addrs, opts)
-}
-
-fn answers<'b, O: Orders>(
-    alloc: Global,
-    orders: &mut O,
-    resolver: &mut ElfResolver<'b>,
-    addrs: &[u64],
-    opts: &FindSymOpts,
-) -> Result<Vec<Answer<'b>>>
-    ensures value { Gives (λ v. map answer_view v.items) result (all_good (map (answers_of resolver.old.images (has_debug resolver.old) opts.now) addrs.now)) }
-    ensures one_each { IfOk result (λ v. length v.items ≡ length addrs.now) }
-{
-    let mut answers = Vec::with_capacity(alloc, addrs.len())?;
-    for addr in addrs {
-        answers.push(resolver.find_sym(alloc, orders, *addr, opts)?)?;
-    }
-    Ok(answers)
+    let file = bundle.debug_file();
+    let mut parser = ElfParser::from_mem(alloc, file.image, file.module);
+    let mut debug = DebugInfo::read(alloc, orders, &mut parser, bundle)?;
+    debug.find_syms(alloc, orders, bundle, &mut parser, addrs, opts)
 }
