@@ -1,0 +1,62 @@
+//! Bundles that are refused before an address is asked, with the kinds that are known by hand.
+use super::shown::{lone, refusal};
+use blz_bytes::AsTheyStand;
+use blz_elf::FindSymOpts;
+use blz_error::ErrorKind;
+use blz_images::{Image, Section, nested_functions};
+use blz_resolver::{Bundle, Companion, symbolize};
+use std::alloc::Global;
+use std::test::Fail;
+
+// why a bundle is refused where no address is asked
+fn frame_refusal(alloc: Global, bundle: &Bundle<'_>) -> Option<ErrorKind> {
+    refusal(symbolize(alloc, &mut AsTheyStand, bundle, &[], &FindSymOpts::Basic))
+}
+
+#[test]
+fn the_headers_of_units_are_read_without_addresses(rt: HostRuntime) -> Result<(), Fail> {
+    let alloc = rt.alloc();
+    let short = Image::elf64(alloc)
+        .section(".debug_info", 1, b"unit")?
+        .bytes()?;
+    assert_eq!(rt;
+        frame_refusal(alloc, &lone(&short)),
+        Some(ErrorKind::InvalidDwarf)
+    );
+    Ok(())
+}
+
+#[test]
+fn a_package_is_read_without_addresses(rt: HostRuntime) -> Result<(), Fail> {
+    let alloc = rt.alloc();
+    let image = nested_functions(alloc)?;
+    let with_package = Bundle {
+        package: Some(Companion {
+            image: b"",
+            module: None,
+        }),
+        ..lone(&image)
+    };
+    assert_eq!(rt;
+        frame_refusal(alloc, &with_package),
+        Some(ErrorKind::InvalidData)
+    );
+    Ok(())
+}
+
+#[test]
+fn only_a_relocatable_file_has_its_relocations_read(rt: HostRuntime) -> Result<(), Fail> {
+    let alloc = rt.alloc();
+    // SHT_RELA, with its symbols in a section that is not there
+    let entries = Section::new(".rela.text", 4, b"").linked(9, 1);
+    let executable = Image::elf64(alloc).add_section(entries)?.bytes()?;
+    assert_eq!(rt; frame_refusal(alloc, &lone(&executable)), None);
+    // ET_REL
+    let relocatable = Image::elf64(alloc).file_type(1);
+    let relocatable = relocatable.add_section(entries)?.bytes()?;
+    assert_eq!(rt;
+        frame_refusal(alloc, &lone(&relocatable)),
+        Some(ErrorKind::InvalidInput)
+    );
+    Ok(())
+}

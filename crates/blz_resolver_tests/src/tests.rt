@@ -1,0 +1,7 @@
+//! What resolvers answer, and how they are printed.
+
+mod functions;
+mod printed;
+mod rows;
+mod shown;
+mod symbols;
