@@ -12,6 +12,7 @@ use Rattle.blz_error.specs.declared.kind.ErrorKind.TheVariants.{InvalidDwarf}
 use Rattle.blz_model.specs.LebNumbers.{uleb}
 use Rattle.blz_model.specs.Part.{Good, Broken}
 use Rattle.blz_entry.proofs.Ahead.{Past, uleb_past}
+use Rattle.blz_entry.proofs.RootSteps.{apart}
 use Rattle.blz_entry.proofs.WalkSteps.{walk_made}
 use Rattle.blz_functions.proofs.MetEntries.{cut_length, ended, next_is}
 use Rattle.std.proofs.lemmas.Bool.{cases_Bool, eqb-true}
@@ -78,10 +79,6 @@ visit_unread u spec rest name link at read = rw read refl
 
 -- ---- an attribute that is not wanted changes nothing
 
-none_of : (a b : Bool) → (a || b) ≡ false → (a ≡ false) × (b ≡ false)
-none_of true b h = absurd cc
-none_of false b h = (refl, h)
-
 -- a name that is none of those that are wanted
 record IsOther (n : ℕ) : Type 0 where
   name : eqb n 0x03 ≡ false
@@ -98,18 +95,19 @@ record IsOther (n : ℕ) : Type 0 where
 
 is_other : (n : ℕ) → is_wanted n ≡ false → IsOther n
 unfolding is_wanted
-is_other n h =
-    let a = none_of (eqb n 0x03) _ h in
-    let b = none_of (eqb n 0x11) _ a.1 in
-    let c = none_of (eqb n 0x12) _ b.1 in
-    let d = none_of (eqb n 0x31) _ c.1 in
-    let e = none_of (eqb n 0x47) _ d.1 in
-    let f = none_of (eqb n 0x55) _ e.1 in
-    let g = none_of (eqb n 0x57) _ f.1 in
-    let i = none_of (eqb n 0x58) _ g.1 in
-    let j = none_of (eqb n 0x59) _ i.1 in
-    let k = none_of (eqb n 0x6e) _ j.1 in
-    record { name = a.0; low = b.0; high = c.0; origin = d.0; specification = e.0; ranges = f.0; column = g.0; file = i.0; line = j.0; linkage = k.0; mips = k.1 }
+is_other n h = record {
+  name = apart n 0x03 h refl;
+  low = apart n 0x11 h refl;
+  high = apart n 0x12 h refl;
+  origin = apart n 0x31 h refl;
+  specification = apart n 0x47 h refl;
+  ranges = apart n 0x55 h refl;
+  column = apart n 0x57 h refl;
+  file = apart n 0x58 h refl;
+  line = apart n 0x59 h refl;
+  linkage = apart n 0x6e h refl;
+  mips = apart n 0x2007 h refl;
+}
 
 other_name : (refer : Refer) (u : UnitParts) (name : Option StrPlace) (n : ℕ) (v : AttrValue) → IsOther n → name_step refer u name (n, v) ≡ Some name
 unfolding name_step
