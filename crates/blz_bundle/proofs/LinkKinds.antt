@@ -16,12 +16,12 @@ use Rattle.blz_model.specs.Reads.{number}
 use Rattle.blz_model.specs.Texts.{name_at}
 use Rattle.blz_bytes.specs.Pieces.{aligned, byte, piece, zero_ended}
 use Rattle.blz_model.proofs.PartLemmas.{bind_good}
-use Rattle.blz_elf.specs.Formats.{compression_size}
-use Rattle.blz_elf.specs.declared.format.Format.{Format}
-use Rattle.blz_elf.specs.Headers.{Header, header_of}
-use Rattle.blz_elf.specs.Sections.{sections_of, raw_data, data_of}
-use Rattle.blz_elf.specs.declared.section.Section.{Section}
-use Rattle.blz_elf.specs.Images.{Elf, elf_of, name_table, names_of, section_named, image_order, image_section, image_section_data}
+use Rattle.blz_image.specs.Formats.{compression_size}
+use Rattle.blz_image.specs.declared.format.Format.{Format}
+use Rattle.blz_image.specs.Headers.{Header, header_of}
+use Rattle.blz_image.specs.Sections.{sections_of, raw_data, data_of}
+use Rattle.blz_image.specs.declared.section.Section.{Section}
+use Rattle.blz_image.specs.Images.{Elf, elf_of, name_table, names_of, section_named, image_order, image_section, image_section_data}
 use Rattle.blz_links.specs.LinkChecks as checks
 use Rattle.blz_links.specs.LinkChecks.{Checked, as_part, debug_link_of, debug_altlink_of, debug_sup_of, or_text, must, target, is_empty, debug_link_checks, debug_altlink_checks, flag_of, sup_path, sup_checksum, sup_rest, debug_sup_checks}
 use Rattle.blz_links.specs.LinkReads.{found, if_found, ordered_data, linked_data, said, link_in, debug_link_in, debug_altlink_in, debug_sup_in}

@@ -2,12 +2,12 @@
 use Rattle.std.proofs.Common.{◌≡◌, ℕ, List, refl}
 use Rattle.std.proofs.lemmas.List.FromFn.{length-map-range_with_len}
 use Rattle.blz_model.specs.Part.{Good}
-use Rattle.blz_elf.specs.declared.span.Rows.{Rows}
-use Rattle.blz_elf.specs.Headers.{Header}
-use Rattle.blz_elf.specs.Sections.{sections_of}
-use Rattle.blz_elf.specs.Segments.{segments_of}
-use Rattle.blz_elf.specs.Places.{sections_in}
-use Rattle.blz_elf.specs.SegmentViews.{segments_in}
+use Rattle.blz_image.specs.declared.span.Rows.{Rows}
+use Rattle.blz_image.specs.Headers.{Header}
+use Rattle.blz_image.specs.Sections.{sections_of}
+use Rattle.blz_image.specs.Segments.{segments_of}
+use Rattle.blz_image.specs.Places.{sections_in}
+use Rattle.blz_image.specs.SegmentViews.{segments_in}
 use Rattle.blz_elf.specs.HeaderTables.{section_records, segment_records, section_headers_of, program_headers_of}
 
 pub section_headers_of-good : (image : List ℕ) (h : Header) (rows : Rows) → sections_of image h ≡ Good (sections_in image rows) → rows.format ≡ h.format → rows.at ≡ h.shoff

@@ -3,9 +3,9 @@ use Rattle.std.proofs.Common.{◌≡◌, ℕ, suc, ◌+◌, ◌-◌, ◌^◌, �
 use Rattle.std.specs.List.{slice_get}
 use Rattle.std.proofs.lemmas.Bool.{and_parts, eqb-true, leb-true, le-leb, ltb-true}
 use Rattle.blz_model.specs.Part.{Good}
-use Rattle.blz_elf.specs.Headers.{Header, header_of}
-use Rattle.blz_elf.specs.Segments.{segments_of, is_load, if_fits, file_place, holds_place, address_of, or_else, first_given, image_segments, image_file_place, image_address_of, AreApart, ComesBack}
-use Rattle.blz_elf.specs.declared.segments.Segment.{Segment}
+use Rattle.blz_image.specs.Headers.{Header, header_of}
+use Rattle.blz_image.specs.Segments.{segments_of, is_load, if_fits, file_place, holds_place, address_of, or_else, first_given, image_segments, image_file_place, image_address_of, AreApart, ComesBack}
+use Rattle.blz_image.specs.declared.segments.Segment.{Segment}
 
 both : (a b : Bool) → a ≡ true → b ≡ true → (a && b) ≡ true
 both true b p q = q

@@ -3,11 +3,11 @@ use Rattle.std.proofs.Common.{◌≡◌, ℕ, ◌+◌, ◌-◌, ◌*◌, ◌≤�
 use Rattle.std.proofs.lemmas.List.{get_or-drop, same_lists}
 use Rattle.std.proofs.lemmas.List.FromFn.{length-map-range_with_len, get_or-map-range_with_len}
 use Rattle.std.specs.List.{range_with_len, slice_get}
-use Rattle.blz_elf.specs.declared.format.Class.{Class}
-use Rattle.blz_elf.specs.declared.format.Format.{Format}
-use Rattle.blz_elf.specs.declared.span.Rows.{Rows}
-use Rattle.blz_elf.specs.Places.{rows_in}
-use Rattle.blz_elf.proofs.Tables.{count_is, item_is}
+use Rattle.blz_image.specs.declared.format.Class.{Class}
+use Rattle.blz_image.specs.declared.format.Format.{Format}
+use Rattle.blz_image.specs.declared.span.Rows.{Rows}
+use Rattle.blz_image.specs.Places.{rows_in}
+use Rattle.blz_image.proofs.Tables.{count_is, item_is}
 
 -- the rest of a list that is made from a function of the index
 pub drop_is : {X : Type 0} (f g : ℕ → X) (n k : ℕ) (xs : List X) → map f (range_with_len 0 n) ≡ xs → k ≤ n → ((i : ℕ) → g i ≡ f (k + i)) → map g (range_with_len 0 (n - k)) ≡ drop k xs

@@ -8,10 +8,10 @@ use Rattle.blz_records.specs.declared.program_header.Elf32_Phdr.{Elf32_Phdr}
 use Rattle.blz_records.specs.declared.program_header.Elf64_Phdr.{Elf64_Phdr}
 use Rattle.blz_records.specs.SectionHeaders.{shdr32, shdr64}
 use Rattle.blz_records.specs.ProgramHeaders.{phdr32, phdr64}
-use Rattle.blz_elf.specs.declared.span.Rows.{Rows}
-use Rattle.blz_elf.specs.Headers.{Header, header_of}
-use Rattle.blz_elf.specs.Sections.{sections_of}
-use Rattle.blz_elf.specs.Segments.{segments_of}
+use Rattle.blz_image.specs.declared.span.Rows.{Rows}
+use Rattle.blz_image.specs.Headers.{Header, header_of}
+use Rattle.blz_image.specs.Sections.{sections_of}
+use Rattle.blz_image.specs.Segments.{segments_of}
 use Rattle.blz_elf.specs.RecordLists.{records_in}
 
 abbrev pub section_records : List ℕ → Rows → List (ElfN Elf64_Shdr Elf32_Shdr)

@@ -5,10 +5,10 @@ use Rattle.blz_error.specs.declared.kind.ErrorKind.{ErrorKind}
 use Rattle.blz_error.specs.declared.kind.ErrorKind.TheVariants.{OutOfMemory}
 use Rattle.blz_model.specs.Part.{Part, Good, Broken}
 use Rattle.blz_records.specs.declared.sym_type.SymType.{SymType}
-use Rattle.blz_elf.specs.Images.{Elf, elf_of}
-use Rattle.blz_elf.specs.Infos.{Info}
-use Rattle.blz_elf.specs.NameRule.{Named, is_of_type, listed_names, info_of}
-use Rattle.blz_elf.specs.declared.question.TableKind.TheVariants.{Symtab, Dynsym}
+use Rattle.blz_image.specs.Images.{Elf, elf_of}
+use Rattle.blz_elf.specs.Infos.{Info, info_of}
+use Rattle.blz_symbols.specs.NameRule.{Named, is_of_type, listed_names}
+use Rattle.blz_image.specs.declared.symbols.TableKind.TheVariants.{Symtab, Dynsym}
 use Rattle.blz_moves.specs.declared.flow.Flow.{Flow}
 use Rattle.blz_moves.specs.declared.flow.Flow.TheVariants.{Continue, Break}
 

@@ -3,11 +3,11 @@ use Rattle.std.specs.Prelude.{ℕ, List, drop, take}
 use Rattle.blz_model.specs.declared.byte_order.ByteOrder.{ByteOrder}
 use Rattle.blz_records.specs.declared.class.ElfN.{ElfN}
 use Rattle.blz_records.specs.declared.class.ElfN.TheVariants.{B32, B64}
-use Rattle.blz_elf.specs.declared.format.Class.{Class}
-use Rattle.blz_elf.specs.declared.format.Class.TheVariants.{Elf32, Elf64}
-use Rattle.blz_elf.specs.declared.format.Format.{Format}
-use Rattle.blz_elf.specs.declared.span.Rows.{Rows}
-use Rattle.blz_elf.specs.Places.{rows_in}
+use Rattle.blz_image.specs.declared.format.Class.{Class}
+use Rattle.blz_image.specs.declared.format.Class.TheVariants.{Elf32, Elf64}
+use Rattle.blz_image.specs.declared.format.Format.{Format}
+use Rattle.blz_image.specs.declared.span.Rows.{Rows}
+use Rattle.blz_image.specs.Places.{rows_in}
 
 -- the first of class 32, the second of class 64
 abbrev pub of_class : {A : Type 0} → A → A → Class → A

@@ -3,20 +3,20 @@ use Rattle.std.specs.Prelude.{◌≡◌, ℕ, Bool, true, false, List, is_some}
 use Rattle.blz_model.specs.declared.cache.Cache.{Cache}
 use Rattle.blz_model.specs.declared.cache.Cache.TheVariants.{Empty, Value, Mark}
 use Rattle.blz_model.specs.Kept.{Kept, is_kept}
-use Rattle.blz_elf.specs.Headers.{header_of}
-use Rattle.blz_elf.specs.Images.{elf_of, image_sections}
-use Rattle.blz_elf.specs.Formats.{section_size}
-use Rattle.blz_elf.specs.declared.table.Table.{Table}
+use Rattle.blz_image.specs.Headers.{header_of}
+use Rattle.blz_image.specs.Images.{elf_of, image_sections}
+use Rattle.blz_image.specs.Formats.{section_size}
+use Rattle.blz_symbols.specs.declared.table.Table.{Table}
 use Rattle.blz_elf.specs.declared.warm.ElfWarm.{ElfWarm}
-use Rattle.blz_elf.specs.Views.{header_view}
-use Rattle.blz_elf.specs.Places.{RowsFit, sections_in}
-use Rattle.blz_elf.specs.Frames.{FrameFits, frame_view}
-use Rattle.blz_elf.specs.declared.question.TableKind.TheVariants.{Symtab, Dynsym}
-use Rattle.blz_elf.specs.SymbolTables.{image_table}
-use Rattle.blz_elf.specs.RelocationTables.{image_relocations}
-use Rattle.blz_elf.specs.NameOrders.{NamesFit, names_view}
-use Rattle.blz_elf.specs.NameRule.{image_symbol_names}
-use Rattle.blz_elf.specs.Tables.{TableFits, table_view}
+use Rattle.blz_image.specs.Views.{header_view}
+use Rattle.blz_image.specs.Places.{RowsFit, sections_in}
+use Rattle.blz_image.specs.Frames.{FrameFits, frame_view}
+use Rattle.blz_image.specs.declared.symbols.TableKind.TheVariants.{Symtab, Dynsym}
+use Rattle.blz_image.specs.SymbolTables.{image_table}
+use Rattle.blz_image.specs.RelocationTables.{image_relocations}
+use Rattle.blz_symbols.specs.NameOrders.{NamesFit, names_view}
+use Rattle.blz_symbols.specs.NameRule.{image_symbol_names}
+use Rattle.blz_symbols.specs.Tables.{TableFits, table_view}
 
 -- a table, with its order where it has one
 abbrev pub is_sorted : Cache Table → Bool

@@ -3,38 +3,39 @@ ghost use Rattle.std.specs.Prelude.{◌≡◌, true, IfOk, OnErr, OnOk};
 ghost use Rattle.std.specs.Option.{option_map};
 ghost use Rattle.blz_model.specs.Part.{Exactly};
 ghost use Rattle.blz_model.specs.Kept.{Kept, is_kept};
-ghost use Rattle.blz_elf.specs.Headers.{header_of};
-ghost use Rattle.blz_elf.specs.Formats.{section_size};
-ghost use Rattle.blz_elf.specs.Images.{elf_of, image_sections};
-ghost use Rattle.blz_elf.specs.Places.{RowsFit, sections_in};
-ghost use Rattle.blz_elf.specs.RelocationTables.{image_relocations};
-ghost use Rattle.blz_elf.specs.Views.{header_view};
-ghost use Rattle.blz_elf.specs.declared.question.TableKind.TheVariants.{Symtab, Dynsym};
-ghost use Rattle.blz_elf.specs.SymbolTables.{table_of, image_table};
-ghost use Rattle.blz_elf.specs.SymbolRule.{symbol_for, table_answer, dynamic_answer, reason_for};
+ghost use Rattle.blz_image.specs.Headers.{header_of};
+ghost use Rattle.blz_image.specs.Formats.{section_size};
+ghost use Rattle.blz_image.specs.Images.{elf_of, image_sections};
+ghost use Rattle.blz_image.specs.Places.{RowsFit, sections_in};
+ghost use Rattle.blz_image.specs.RelocationTables.{image_relocations};
+ghost use Rattle.blz_image.specs.Views.{header_view};
+ghost use Rattle.blz_image.specs.declared.symbols.TableKind.TheVariants.{Symtab, Dynsym};
+ghost use Rattle.blz_image.specs.SymbolTables.{table_of, image_table};
+ghost use Rattle.blz_symbols.specs.SymbolRule.{symbol_for, table_answer, dynamic_answer, reason_for};
 ghost use Rattle.blz_elf.specs.AnswerView.{answer_view};
-ghost use Rattle.blz_elf.specs.Frames.{FrameFits, frame_view};
-ghost use Rattle.blz_elf.specs.Tables.{TableFits, table_view};
+ghost use Rattle.blz_image.specs.Frames.{FrameFits, frame_view};
+ghost use Rattle.blz_symbols.specs.Tables.{TableFits, table_view};
 ghost use Rattle.blz_elf.specs.Warm.{Fits, is_sorted};
 
 use crate::answer::Answer;
-use crate::header::Header;
-use crate::image::{Frame, Image};
 use crate::lookup::answer_in;
-use crate::question::{Question, TableKind};
-use crate::relocating::relocations;
-use crate::span::Rows;
-use crate::table::{Table, read_table};
 use crate::warm::ElfWarm;
 use blz_bytes::Orders;
 use blz_error::{Error, ErrorKind, Result, Str};
+use blz_image::header::Header;
+use blz_image::image::{Frame, Image};
+use blz_image::relocating::relocations;
+use blz_image::span::Rows;
+use blz_image::symbols::TableKind;
 use blz_model::{Cache, Reason};
 use blz_moves::SectionRelocations;
 use blz_records::SymType;
+use blz_symbols::question::Question;
+use blz_symbols::table::{Table, read_table};
 use std::alloc::{AllocError, Global};
 
 /// Sorts the symbols of a table that is kept, where they are not sorted yet.
-#[tactic(auto, unfolding(crate::specs::SymbolTables::image_table))]
+#[tactic(auto, unfolding(blz_image::specs::SymbolTables::image_table))]
 pub fn sort_table<O: Orders>(
     alloc: Global,
     orders: &mut O,
@@ -55,7 +56,7 @@ pub fn sort_table<O: Orders>(
 }
 
 /// Sorts the symbols of a table that is kept, from the second question on.
-#[tactic(auto, unfolding(crate::specs::SymbolTables::image_table))]
+#[tactic(auto, unfolding(blz_image::specs::SymbolTables::image_table))]
 pub fn sort_from_second<O: Orders>(
     alloc: Global,
     orders: &mut O,
@@ -94,7 +95,7 @@ pub fn sort_kept<O: Orders>(
 }
 
 /// The answer of a table that is kept, where it has one.
-#[tactic(auto, unfolding(crate::specs::SymbolRule::table_answer))]
+#[tactic(auto, unfolding(blz_symbols::specs::SymbolRule::table_answer))]
 pub fn look<'b>(
     alloc: Global,
     module_name: Option<&'b str>,
@@ -120,7 +121,7 @@ pub fn look<'b>(
 }
 
 /// Why there is no symbol, by a table of `.symtab` that is kept.
-#[tactic(auto, unfolding(crate::specs::SymbolRule::reason_for))]
+#[tactic(auto, unfolding(blz_symbols::specs::SymbolRule::reason_for))]
 fn reason(image: &Image<'_>, symtab: &Cache<Table>) -> Result<Reason>
     requires kept { Kept (TableFits image.now.image) (table_view image.now.image) symtab.now (table_of Symtab image.now) }
     requires full { is_kept symtab.now ≡ true }
@@ -135,7 +136,7 @@ fn reason(image: &Image<'_>, symtab: &Cache<Table>) -> Result<Reason>
 }
 
 /// The answer of `.dynsym`, else the reason, by tables that are kept.
-#[tactic(auto, unfolding(crate::specs::SymbolRule::dynamic_answer))]
+#[tactic(auto, unfolding(blz_symbols::specs::SymbolRule::dynamic_answer))]
 pub fn look_dynamic<'b>(
     alloc: Global,
     module_name: Option<&'b str>,
@@ -157,7 +158,7 @@ pub fn look_dynamic<'b>(
 }
 
 /// The symbol of an address, by tables that are kept.
-#[tactic(auto, unfolding(crate::specs::SymbolRule::symbol_for))]
+#[tactic(auto, unfolding(blz_symbols::specs::SymbolRule::symbol_for))]
 pub fn look_both<'b>(
     alloc: Global,
     module_name: Option<&'b str>,
@@ -194,7 +195,7 @@ pub fn fill_table(table: &mut Cache<Table>, image: &Image<'_>, kind: TableKind)
 }
 
 /// Keeps the frame and both tables.
-#[tactic(auto, unfolding(crate::specs::SymbolTables::image_table))]
+#[tactic(auto, unfolding(blz_image::specs::SymbolTables::image_table))]
 pub fn fill(warm: &mut ElfWarm, image: &[u8], read: Result<Frame>)
     requires fits { Fits image.now warm.old }
     requires value { Exactly (frame_view image.now) read (elf_of image.now) }
@@ -222,7 +223,7 @@ pub fn fill(warm: &mut ElfWarm, image: &[u8], read: Result<Frame>)
 }
 
 /// Reads the relocations where nothing is kept, by the header and the section table.
-#[tactic(auto, unfolding(crate::specs::RelocationTables::image_relocations, crate::specs::Images::image_sections))]
+#[tactic(auto, unfolding(blz_image::specs::RelocationTables::image_relocations, blz_image::specs::Images::image_sections))]
 pub fn fill_relocations(
     alloc: Global,
     kept: &mut Cache<SectionRelocations>,
@@ -245,7 +246,7 @@ pub fn fill_relocations(
 }
 
 /// What is kept of the relocations.
-#[tactic(auto, unfolding(crate::specs::RelocationTables::image_relocations, crate::specs::Images::image_sections))]
+#[tactic(auto, unfolding(blz_image::specs::RelocationTables::image_relocations, blz_image::specs::Images::image_sections))]
 fn relocations_part(
     alloc: Global,
     image: &[u8],

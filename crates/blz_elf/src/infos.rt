@@ -2,18 +2,17 @@
 ghost use Rattle.std.specs.Prelude.{◌≡◌, map};
 ghost use Rattle.std.specs.Option.{option_map};
 ghost use Rattle.blz_model.specs.Part.{Exactly, Gives, all_good};
-ghost use Rattle.blz_elf.specs.Infos.{info_view};
-ghost use Rattle.blz_elf.specs.NameRule.{place_in, symbol_place, place_if, info_of};
-ghost use Rattle.blz_elf.specs.NameSteps.{named_view};
+ghost use Rattle.blz_elf.specs.Infos.{info_view, place_in, symbol_place, place_if, info_of};
+ghost use Rattle.blz_symbols.specs.NameSteps.{named_view};
 
-use crate::image::Image;
-use crate::names::NamedSymbol;
-use crate::section::Section;
 use crate::sym_info::{SymInfo, SymInfos};
-use crate::symbols::Symbol;
-use crate::text::text_of;
 use blz_constants::elf::{SHN_LORESERVE, SHT_NOBITS};
 use blz_error::{Error, ErrorKind, Result, Str};
+use blz_image::image::Image;
+use blz_image::section::Section;
+use blz_image::symbols::Symbol;
+use blz_image::text::text_of;
+use blz_symbols::names::NamedSymbol;
 use std::alloc::Global;
 
 /// The place of a symbol in the file, by its section.
@@ -39,7 +38,7 @@ fn place_in(section: &Section, symbol: &Symbol) -> Option<u64>
 }
 
 /// The place of a symbol in the file.
-#[tactic(auto, unfolding(crate::specs::NameRule::symbol_place))]
+#[tactic(auto, unfolding(crate::specs::Infos::symbol_place))]
 fn symbol_place(image: &Image<'_>, symbol: &Symbol) -> Result<Option<u64>>
     ensures { Exactly (λ p. p) result (symbol_place image.now symbol.now) }
 {
@@ -54,7 +53,7 @@ fn symbol_place(image: &Image<'_>, symbol: &Symbol) -> Result<Option<u64>>
 }
 
 /// The same, where it is asked.
-#[tactic(auto, unfolding(crate::specs::NameRule::place_if))]
+#[tactic(auto, unfolding(crate::specs::Infos::place_if))]
 fn place_if(asked: bool, image: &Image<'_>, symbol: &Symbol) -> Result<Option<u64>>
     ensures { Exactly (λ p. p) result (place_if asked image.now symbol.now) }
 {
@@ -66,7 +65,7 @@ fn place_if(asked: bool, image: &Image<'_>, symbol: &Symbol) -> Result<Option<u6
 }
 
 /// A symbol as it is shown.
-#[tactic(auto, unfolding(crate::specs::NameRule::info_of))]
+#[tactic(auto, unfolding(crate::specs::Infos::info_of))]
 pub fn info_of<'b>(
     image: &Image<'b>,
     module_name: Option<&'b str>,

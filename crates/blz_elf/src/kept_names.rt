@@ -2,29 +2,29 @@
 ghost use Rattle.std.specs.Prelude.{◌≡◌, true, List, map, IfOk};
 ghost use Rattle.blz_model.specs.Part.{Exactly, Gives, Part};
 ghost use Rattle.blz_model.specs.Kept.{Kept, is_kept};
-ghost use Rattle.blz_elf.specs.declared.question.TableKind.TheVariants.{Symtab, Dynsym};
-ghost use Rattle.blz_elf.specs.Frames.{FrameFits, frame_view};
-ghost use Rattle.blz_elf.specs.Images.{elf_of};
-ghost use Rattle.blz_elf.specs.SymbolTables.{image_table};
-ghost use Rattle.blz_elf.specs.NameOrders.{NamesFit, NamesKept, names_view};
-ghost use Rattle.blz_elf.specs.NameRule.{Named, image_symbol_names, listed_names, names_read, symbol_names};
-ghost use Rattle.blz_elf.specs.NameSteps.{named_view, passes};
-ghost use Rattle.blz_elf.specs.Tables.{TableFits, TableKept, table_view};
+ghost use Rattle.blz_image.specs.declared.symbols.TableKind.TheVariants.{Symtab, Dynsym};
+ghost use Rattle.blz_image.specs.Frames.{FrameFits, frame_view};
+ghost use Rattle.blz_image.specs.Images.{elf_of};
+ghost use Rattle.blz_image.specs.SymbolTables.{image_table};
+ghost use Rattle.blz_symbols.specs.NameOrders.{NamesFit, NamesKept, names_view};
+ghost use Rattle.blz_symbols.specs.NameRule.{Named, image_symbol_names, listed_names, names_read, symbol_names};
+ghost use Rattle.blz_symbols.specs.NameSteps.{named_view, passes};
+ghost use Rattle.blz_symbols.specs.Tables.{TableFits, TableKept, table_view};
 ghost use Rattle.blz_elf.specs.Warm.{is_sorted};
 
 use crate::fill::{fill_table, sort_kept};
-use crate::image::{Frame, Image};
-use crate::name_order::KeptNames;
-use crate::names::{NamedSymbol, Wanted};
-use crate::question::TableKind;
-use crate::table::Table;
 use blz_bytes::Orders;
 use blz_error::{Error, ErrorKind, Result, Str};
+use blz_image::image::{Frame, Image};
+use blz_image::symbols::TableKind;
 use blz_model::Cache;
+use blz_symbols::name_order::KeptNames;
+use blz_symbols::names::{NamedSymbol, Wanted};
+use blz_symbols::table::Table;
 use std::alloc::{AllocError, Global};
 
 /// The names of `.symtab`.
-#[tactic(auto, unfolding(crate::specs::NameRule::symbol_names))]
+#[tactic(auto, unfolding(blz_symbols::specs::NameRule::symbol_names))]
 fn read_static(alloc: Global, image: &Image<'_>, symtab: &Cache<Table>) -> Result<KeptNames>
     requires kept { TableKept Symtab image.now symtab.now }
     requires full { is_kept symtab.now ≡ true }
@@ -39,7 +39,7 @@ fn read_static(alloc: Global, image: &Image<'_>, symtab: &Cache<Table>) -> Resul
 }
 
 /// The names of `.dynsym` that `.symtab` does not have.
-#[tactic(auto, unfolding(crate::specs::NameRule::symbol_names))]
+#[tactic(auto, unfolding(blz_symbols::specs::NameRule::symbol_names))]
 fn read_dynamic(
     alloc: Global,
     image: &Image<'_>,
@@ -145,7 +145,7 @@ pub fn fill_dynamic<O: Orders>(
 }
 
 /// Keeps the names of both tables of an image, as their value or their mark.
-#[tactic(auto, unfolding(crate::specs::NameRule::image_symbol_names, crate::specs::SymbolTables::image_table))]
+#[tactic(auto, unfolding(blz_symbols::specs::NameRule::image_symbol_names, blz_image::specs::SymbolTables::image_table))]
 pub fn fill_names<O: Orders>(
     alloc: Global,
     orders: &mut O,
@@ -226,7 +226,7 @@ fn sort_for<O: Orders>(
 }
 
 /// The wanted symbols, by names that are kept.
-#[tactic(auto, unfolding(crate::specs::NameRule::listed_names))]
+#[tactic(auto, unfolding(blz_symbols::specs::NameRule::listed_names))]
 pub fn list_kept<'b>(
     alloc: Global,
     image: &Image<'b>,
@@ -246,7 +246,7 @@ pub fn list_kept<'b>(
 }
 
 /// Whether names that are kept could be read.
-#[tactic(auto, unfolding(crate::specs::NameRule::names_read))]
+#[tactic(auto, unfolding(blz_symbols::specs::NameRule::names_read))]
 pub fn check_kept(image: &Image<'_>, kind: TableKind, names: &Cache<KeptNames>) -> Result<()>
     requires kept { NamesKept kind image.now names.now }
     requires full { is_kept names.now ≡ true }

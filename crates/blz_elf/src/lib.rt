@@ -2,34 +2,16 @@
 #![tactic(auto)]
 
 mod answer;
-mod entries;
 mod fill;
 mod find_addr_opts;
-mod format;
-mod header;
-mod image;
 mod infos;
 mod kept_names;
 mod lookup;
-mod name_order;
-mod names;
-mod needed;
-mod number;
 mod opts;
 mod parser;
-mod question;
-mod record;
 mod record_slice;
-mod relocating;
-mod section;
-mod segments;
 mod show;
-mod sorted;
-mod span;
 mod sym_info;
-mod symbols;
-mod table;
-mod text;
 mod visit;
 mod warm;
 

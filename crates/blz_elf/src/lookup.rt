@@ -2,21 +2,21 @@
 ghost use Rattle.std.specs.Prelude.{◌≡◌};
 ghost use Rattle.std.specs.Option.{option_map};
 ghost use Rattle.blz_model.specs.Part.{Exactly};
-ghost use Rattle.blz_elf.specs.Tables.{TableFits, table_view};
-ghost use Rattle.blz_elf.specs.SymbolRule.{named, answer_in};
+ghost use Rattle.blz_symbols.specs.Tables.{TableFits, table_view};
+ghost use Rattle.blz_symbols.specs.SymbolRule.{named, answer_in};
 ghost use Rattle.blz_elf.specs.AnswerView.{answer_view};
 
 use crate::answer::{Answer, InlinedFns, ResolvedSym};
-use crate::question::Question;
-use crate::symbols::Symbol;
-use crate::table::Table;
-use crate::text::name;
 use blz_error::Result;
+use blz_image::symbols::Symbol;
+use blz_image::text::name;
 use blz_model::SrcLang;
+use blz_symbols::question::Question;
+use blz_symbols::table::Table;
 use std::alloc::Global;
 
 /// A symbol as an answer.
-#[tactic(auto, unfolding(crate::specs::SymbolRule::named))]
+#[tactic(auto, unfolding(blz_symbols::specs::SymbolRule::named))]
 fn named<'b>(
     alloc: Global,
     module_name: Option<&'b str>,
@@ -44,7 +44,7 @@ fn named<'b>(
 }
 
 /// The answer of a table to a question, where it has one.
-#[tactic(auto, unfolding(crate::specs::SymbolRule::answer_in))]
+#[tactic(auto, unfolding(blz_symbols::specs::SymbolRule::answer_in))]
 pub fn answer_in<'b>(
     alloc: Global,
     module_name: Option<&'b str>,

@@ -2,15 +2,15 @@
 ghost use Rattle.std.specs.Prelude.{◌≡◌, false, IfOk};
 ghost use Rattle.std.specs.Option.{option_map};
 ghost use Rattle.blz_model.specs.Part.{Exactly, Gives};
-ghost use Rattle.blz_elf.specs.Headers.{header_of};
-ghost use Rattle.blz_elf.specs.Formats.{section_size};
-ghost use Rattle.blz_elf.specs.Images.{elf_of, image_order, image_sections, image_section, image_section_data, image_data_named, image_holds_bytes, image_is_relocatable};
-ghost use Rattle.blz_elf.specs.Segments.{ComesBack, image_file_place, image_address_of};
-ghost use Rattle.blz_elf.specs.SymbolRule.{image_symbol};
+ghost use Rattle.blz_image.specs.Headers.{header_of};
+ghost use Rattle.blz_image.specs.Formats.{section_size};
+ghost use Rattle.blz_image.specs.Images.{elf_of, image_order, image_sections, image_section, image_section_data, image_data_named, image_holds_bytes, image_is_relocatable};
+ghost use Rattle.blz_image.specs.Segments.{ComesBack, image_file_place, image_address_of};
+ghost use Rattle.blz_symbols.specs.SymbolRule.{image_symbol};
 ghost use Rattle.blz_elf.specs.AnswerView.{answer_view};
-ghost use Rattle.blz_elf.specs.Places.{RowsFit, sections_in};
-ghost use Rattle.blz_elf.specs.Views.{header_view};
-ghost use Rattle.blz_elf.specs.Frames.{FrameFits, frame_view};
+ghost use Rattle.blz_image.specs.Places.{RowsFit, sections_in};
+ghost use Rattle.blz_image.specs.Views.{header_view};
+ghost use Rattle.blz_image.specs.Frames.{FrameFits, frame_view};
 
 mod headers;
 mod listing;
@@ -20,17 +20,17 @@ mod relocations;
 
 use crate::answer::Answer;
 use crate::fill::{fill_table, look, look_dynamic, sort_from_second};
-use crate::header::{Header, read_header};
-use crate::image::{Frame, Image, read_frame};
 use crate::opts::FindSymOpts;
-use crate::question::TableKind;
-use crate::record::Records;
-use crate::section::{data_at, sections};
-use crate::segments::{address_of, file_place, segments};
-use crate::span::Rows;
 use crate::warm::ElfWarm;
 use blz_bytes::{ByteOrder, Orders};
 use blz_error::{Error, Result, Str};
+use blz_image::header::{Header, read_header};
+use blz_image::image::{Frame, Image, read_frame};
+use blz_image::record::Records;
+use blz_image::section::{data_at, sections};
+use blz_image::segments::{address_of, file_place, segments};
+use blz_image::span::Rows;
+use blz_image::symbols::TableKind;
 use blz_model::Cache;
 use std::alloc::Global;
 use std::marker::Model;
@@ -112,7 +112,7 @@ impl<'b> ElfParser<'b> {
     }
 
     /// The byte order of the image; refused by the first mark of the header.
-    #[tactic(auto, unfolding(crate::specs::Images::image_order))]
+    #[tactic(auto, unfolding(blz_image::specs::Images::image_order))]
     pub fn order(&mut self) -> Result<ByteOrder>
         ensures value { Exactly (λ o. o) result (image_order self.old.image) }
         ensures same { self.new ≡ self.old }
@@ -142,7 +142,7 @@ impl<'b> ElfParser<'b> {
         }
     }
 
-    #[tactic(auto, unfolding(crate::specs::Images::image_sections))]
+    #[tactic(auto, unfolding(blz_image::specs::Images::image_sections))]
     fn rows(&mut self) -> Result<Rows>
         ensures value { Exactly (sections_in self.old.image) result (image_sections self.old.image) }
         ensures fits { IfOk result (RowsFit section_size self.old.image) }
@@ -171,7 +171,7 @@ impl<'b> ElfParser<'b> {
         }
     }
 
-    #[tactic(auto, unfolding(crate::specs::Images::elf_of, crate::specs::Images::image_sections))]
+    #[tactic(auto, unfolding(blz_image::specs::Images::elf_of, blz_image::specs::Images::image_sections))]
     fn read_frame(&mut self) -> Result<Frame>
         ensures value { Exactly (frame_view self.old.image) result (elf_of self.old.image) }
         ensures fits { IfOk result (FrameFits self.old.image) }
@@ -215,7 +215,7 @@ impl<'b> ElfParser<'b> {
 
     /// The index of the first section of that name, from 1 up (ELF gABI, Sections). Refused by the first mark of
     /// header, section table and section names: InvalidData, InvalidInput or Unsupported.
-    #[tactic(auto, unfolding(crate::specs::Images::image_section))]
+    #[tactic(auto, unfolding(blz_image::specs::Images::image_section))]
     pub fn find_section(&mut self, name: &str) -> Result<Option<usize>>
         ensures value { Exactly (λ i. i) result (image_section self.old.image name.now) }
         ensures same { self.new ≡ self.old }
@@ -226,7 +226,7 @@ impl<'b> ElfParser<'b> {
 
     /// The data of the section at an index (ELF gABI, Sections), nothing of a NOBITS one. InvalidInput where the index
     /// lies outside the table, InvalidData where the bytes lie past the image, Unsupported where they are compressed.
-    #[tactic(auto, unfolding(crate::specs::Images::image_section_data, crate::specs::Images::image_sections))]
+    #[tactic(auto, unfolding(blz_image::specs::Images::image_section_data, blz_image::specs::Images::image_sections))]
     pub fn section_data(&mut self, idx: usize) -> Result<&'b [u8]>
         ensures value { Exactly (λ d. d.now) result (image_section_data self.old.image idx) }
         ensures same { self.new ≡ self.old }
@@ -238,7 +238,7 @@ impl<'b> ElfParser<'b> {
 
     /// The data of the first section of that name, nothing where there is none; refused as `find_section` and
     /// `section_data` are.
-    #[tactic(auto, unfolding(crate::specs::Images::image_data_named))]
+    #[tactic(auto, unfolding(blz_image::specs::Images::image_data_named))]
     pub fn data_named(&mut self, name: &str) -> Result<&'b [u8]>
         ensures value { Exactly (λ d. d.now) result (image_data_named self.old.image name.now) }
         ensures same { self.new ≡ self.old }
@@ -247,7 +247,7 @@ impl<'b> ElfParser<'b> {
     }
 
     /// Whether a section of that name is there, not NOBITS, and of a size that is not 0; refused as `find_section` is.
-    #[tactic(auto, unfolding(crate::specs::Images::image_holds_bytes))]
+    #[tactic(auto, unfolding(blz_image::specs::Images::image_holds_bytes))]
     pub fn holds_bytes(&mut self, name: &str) -> Result<bool>
         ensures value { Exactly (λ b. b) result (image_holds_bytes self.old.image name.now) }
         ensures same { self.new ≡ self.old }
@@ -256,7 +256,7 @@ impl<'b> ElfParser<'b> {
     }
 
     /// Whether the image is a relocatable file; refused as `find_section` is.
-    #[tactic(auto, unfolding(crate::specs::Images::image_is_relocatable))]
+    #[tactic(auto, unfolding(blz_image::specs::Images::image_is_relocatable))]
     pub fn is_relocatable(&mut self) -> Result<bool>
         ensures value { Exactly (λ b. b) result (image_is_relocatable self.old.image) }
         ensures same { self.new ≡ self.old }
@@ -267,7 +267,7 @@ impl<'b> ElfParser<'b> {
     /// The place in the file of `size` bytes at an address (ELF gABI, Program Header): by the first loaded segment that
     /// holds the address; none where no segment does. Where no two loaded segments share a place in the file, the place of
     /// some bytes leads back to the address. Refused by the first mark of header and segments: InvalidData or Unsupported.
-    #[tactic(auto, unfolding(crate::specs::Segments::image_file_place, crate::specs::Segments::image_segments))]
+    #[tactic(auto, unfolding(blz_image::specs::Segments::image_file_place, blz_image::specs::Segments::image_segments))]
     pub fn find_file_offset(&mut self, addr: u64, size: u64) -> Result<Option<u64>>
         ensures value { Exactly (λ o. o) result (image_file_place self.old.image addr size) }
         ensures round_trip { IfOk result (ComesBack self.old.image addr size) }
@@ -280,7 +280,7 @@ impl<'b> ElfParser<'b> {
 
     /// The address of a place in the file, by the first loaded segment that holds it; none where no segment does.
     /// Refused as `find_file_offset` is.
-    #[tactic(auto, unfolding(crate::specs::Segments::image_address_of, crate::specs::Segments::image_segments))]
+    #[tactic(auto, unfolding(blz_image::specs::Segments::image_address_of, blz_image::specs::Segments::image_segments))]
     pub fn file_offset_to_virt_offset(&mut self, offset: u64) -> Result<Option<u64>>
         ensures value { Exactly (λ o. o) result (image_address_of self.old.image offset) }
         ensures same { self.new ≡ self.old }
@@ -293,7 +293,7 @@ impl<'b> ElfParser<'b> {
     /// The symbol of an address: of the symbols with the greatest value up to it, the largest that is defined and covers
     /// it (ELF gABI, Symbol Table). The first that is asked is found by a scan, and from the second on by the order. Refused
     /// as `find_section` is, and by a broken table or name of that symbol.
-    #[tactic(auto, unfolding(crate::specs::SymbolRule::image_symbol, crate::specs::SymbolRule::symbol_for, crate::specs::SymbolTables::image_table))]
+    #[tactic(auto, unfolding(blz_symbols::specs::SymbolRule::image_symbol, blz_symbols::specs::SymbolRule::symbol_for, blz_image::specs::SymbolTables::image_table))]
     pub fn find_sym<O: Orders>(
         &mut self,
         alloc: Global,

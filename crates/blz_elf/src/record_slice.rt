@@ -2,11 +2,11 @@
 ghost use Rattle.std.specs.Prelude.{◌≡◌, ◌≤◌, ◌<◌, ◌==◌, ◌+◌, ◌-◌, ◌*◌, [], length, drop, take, slice_get, IfOk, IfSome, Some, option_copied};
 ghost use Rattle.std.specs.Iterator.{UpTo, YieldsFirst, item_count};
 ghost use Rattle.std.specs.Iterator.SizeHint.{IsWithinCount};
-ghost use Rattle.blz_elf.specs.Places.{RowsFit};
+ghost use Rattle.blz_image.specs.Places.{RowsFit};
 ghost use Rattle.blz_elf.specs.RecordLists.{of_class, record_at, records_in};
 
-use crate::format::{Class, Format};
-use crate::span::{Rows, place_of};
+use blz_image::format::{Class, Format};
+use blz_image::span::{Rows, place_of};
 use blz_records::{
     ByteOrder, Elf64_Phdr, Elf64_Rel, Elf64_Rela, Elf64_Shdr, Elf64_Sym, ElfN, Has32BitTy, Pod,
 };
@@ -24,7 +24,7 @@ pub struct ElfNSlice<'b, T: Pod + Has32BitTy> {
 impl<'b, T: Pod + Has32BitTy> Model for ElfNSlice<'b, T> {
     ghost use Rattle.std.specs.Prelude.{List};
     ghost use Rattle.blz_records.specs.declared.class.ElfN.{ElfN};
-    ghost use Rattle.blz_elf.specs.Places.{RowsFit};
+    ghost use Rattle.blz_image.specs.Places.{RowsFit};
     ghost use Rattle.blz_elf.specs.RecordLists.{of_class, records_in};
 
     ghost Value = { List (ElfN T T.Ty32Bit) };

@@ -2,26 +2,26 @@
 ghost use Rattle.std.specs.Prelude.{◌≡◌, true, false, List, map};
 ghost use Rattle.blz_model.specs.Part.{Part, Gives};
 ghost use Rattle.blz_model.specs.Kept.{is_kept};
-ghost use Rattle.blz_elf.specs.declared.question.TableKind.TheVariants.{Symtab, Dynsym};
+ghost use Rattle.blz_image.specs.declared.symbols.TableKind.TheVariants.{Symtab, Dynsym};
 ghost use Rattle.blz_elf.specs.Listings.{Shows, ShowsAll, infos_of, listing_if, all_symbols};
-ghost use Rattle.blz_elf.specs.NameRule.{Named};
-ghost use Rattle.blz_elf.specs.NameSteps.{named_view};
-ghost use Rattle.blz_elf.specs.NameOrders.{NamesKept};
-ghost use Rattle.blz_elf.specs.Tables.{TableKept};
+ghost use Rattle.blz_symbols.specs.NameRule.{Named};
+ghost use Rattle.blz_symbols.specs.NameSteps.{named_view};
+ghost use Rattle.blz_symbols.specs.NameOrders.{NamesKept};
+ghost use Rattle.blz_symbols.specs.Tables.{TableKept};
 ghost use Rattle.blz_elf.specs.Warm.{is_sorted};
 
 use crate::find_addr_opts::FindAddrOpts;
-use crate::image::Image;
 use crate::infos::info_of;
 use crate::kept_names::{dynamic_list, static_list};
-use crate::name_order::KeptNames;
-use crate::names::{NamedSymbol, Wanted};
-use crate::table::Table;
 use crate::visit::Visit;
 use blz_bytes::Orders;
 use blz_error::Result;
+use blz_image::image::Image;
 use blz_model::Cache;
 use blz_moves::Flow;
+use blz_symbols::name_order::KeptNames;
+use blz_symbols::names::{NamedSymbol, Wanted};
+use blz_symbols::table::Table;
 use std::alloc::Global;
 
 /// Shows symbols until one is broken or the visitor breaks.

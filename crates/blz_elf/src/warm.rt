@@ -1,11 +1,11 @@
 //! What is kept of an image.
-use crate::header::Header;
-use crate::image::Frame;
-use crate::name_order::KeptNames;
-use crate::span::Rows;
-use crate::table::Table;
+use blz_image::header::Header;
+use blz_image::image::Frame;
+use blz_image::span::Rows;
 use blz_model::Cache;
 use blz_moves::SectionRelocations;
+use blz_symbols::name_order::KeptNames;
+use blz_symbols::table::Table;
 use std::alloc::Global;
 
 /// The parts of an image that were read, as places and numbers.

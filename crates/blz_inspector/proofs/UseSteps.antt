@@ -7,7 +7,7 @@ use Rattle.std.specs.FinMap as map
 use Rattle.blz_error.specs.Texts.{Bytes}
 use Rattle.blz_error.specs.declared.kind.ErrorKind.{ErrorKind}
 use Rattle.blz_model.specs.Part.{Part, Good, Broken, Fails, Gives, ◌>>=◌}
-use Rattle.blz_elf.specs.Images.{elf_of}
+use Rattle.blz_image.specs.Images.{elf_of}
 use Rattle.blz_elf.specs.Listings.{Told, IsRefused}
 use Rattle.blz_elf.proofs.ListingLemmas.{read_refused}
 use Rattle.blz_links.specs.Contents.{Contents, PathMap}

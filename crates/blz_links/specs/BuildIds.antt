@@ -12,7 +12,7 @@ use Rattle.blz_records.specs.declared.section_header.Elf64_Shdr.{Elf64_Shdr}
 use Rattle.blz_records.specs.declared.program_header.Elf32_Phdr.{Elf32_Phdr}
 use Rattle.blz_records.specs.declared.program_header.Elf64_Phdr.{Elf64_Phdr}
 use Rattle.blz_elf.specs.HeaderTables.{image_program_headers, image_section_headers}
-use Rattle.blz_elf.specs.Images.{image_order}
+use Rattle.blz_image.specs.Images.{image_order}
 use Rattle.blz_links.specs.LinkReads.{found}
 use Rattle.blz_links.specs.Notes.{notes_of, build_id_among}
 

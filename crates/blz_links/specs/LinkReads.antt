@@ -2,7 +2,7 @@
 use Rattle.std.specs.Prelude.{ℕ, List, Option, Some, None}
 use Rattle.blz_model.specs.declared.byte_order.ByteOrder.{ByteOrder}
 use Rattle.blz_model.specs.Part.{Part, Good, Broken, ◌>>=◌}
-use Rattle.blz_elf.specs.Images.{image_order, image_section, image_section_data}
+use Rattle.blz_image.specs.Images.{image_order, image_section, image_section_data}
 use Rattle.blz_links.specs.LinkValues.{DebugLinkValue, DebugAltlinkValue, DebugSupValue}
 use Rattle.blz_links.specs.declared.link_section.LinkSection.TheVariants.{DebugLink, DebugAltlink, DebugSup}
 use Rattle.blz_links.specs.LinkNames.{name_of}

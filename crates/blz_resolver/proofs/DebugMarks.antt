@@ -4,7 +4,7 @@ use Rattle.std.specs.List.{slice_get}
 use Rattle.blz_error.specs.declared.kind.ErrorKind.TheVariants.{InvalidDwarf}
 use Rattle.blz_model.specs.Answers.{Site, Answer, Known, Unknown}
 use Rattle.blz_model.specs.Part.{Part}
-use Rattle.blz_elf.specs.Images as image
+use Rattle.blz_image.specs.Images as image
 use Rattle.blz_elf.specs.declared.opts.FindSymOpts.{FindSymOpts}
 use Rattle.blz_entry.specs.Marks.{or_invalid}
 use Rattle.blz_entry.specs.declared.text.StrPlace.{StrPlace}

@@ -9,21 +9,21 @@ use Rattle.blz_error.specs.declared.kind.ErrorKind.TheVariants as kind
 use Rattle.blz_model.specs.Part.{Part, Good, Broken, ◌>>=◌, or_mark, check, all_good, Fails, Gives, Exactly}
 use Rattle.blz_model.specs.Texts.{name_at}
 use Rattle.blz_model.specs.Answers.{Unknown}
-use Rattle.blz_elf.specs.declared.format.Format.{Format}
-use Rattle.blz_elf.specs.declared.question.Question.{Question}
-use Rattle.blz_elf.specs.declared.question.TableKind.{TableKind}
-use Rattle.blz_elf.specs.declared.question.TableKind.TheVariants.{Symtab, Dynsym}
-use Rattle.blz_elf.specs.Formats.{compression_size}
-use Rattle.blz_elf.specs.Headers.{Header, header_of}
-use Rattle.blz_elf.specs.Sections.{first_section, section_count, sections_of, raw_data, data_of, run_in, records_of, if_there}
-use Rattle.blz_elf.specs.declared.section.Section.{Section}
-use Rattle.blz_elf.specs.Images as image
-use Rattle.blz_elf.specs.declared.entries.EntryKind.{EntryKind}
+use Rattle.blz_image.specs.declared.format.Format.{Format}
+use Rattle.blz_symbols.specs.declared.question.Question.{Question}
+use Rattle.blz_image.specs.declared.symbols.TableKind.{TableKind}
+use Rattle.blz_image.specs.declared.symbols.TableKind.TheVariants.{Symtab, Dynsym}
+use Rattle.blz_image.specs.Formats.{compression_size}
+use Rattle.blz_image.specs.Headers.{Header, header_of}
+use Rattle.blz_image.specs.Sections.{first_section, section_count, sections_of, raw_data, data_of, run_in, records_of, if_there}
+use Rattle.blz_image.specs.declared.section.Section.{Section}
+use Rattle.blz_image.specs.Images as image
+use Rattle.blz_image.specs.declared.entries.EntryKind.{EntryKind}
 use Rattle.blz_moves.specs.Relocations.{SectionMap}
-use Rattle.blz_elf.specs.RelocationTables.{entry_kind, with_entries, with_section, with_sections, relocations_of, image_relocations}
-use Rattle.blz_elf.specs.SymbolTables.{SymbolTable, table_named, symtab_of, dynsym_of, table_of}
-use Rattle.blz_elf.specs.declared.symbols.Symbol.{Symbol}
-use Rattle.blz_elf.specs.SymbolRule as rule
+use Rattle.blz_image.specs.RelocationTables.{entry_kind, with_entries, with_section, with_sections, relocations_of, image_relocations}
+use Rattle.blz_image.specs.SymbolTables.{SymbolTable, table_named, symtab_of, dynsym_of, table_of}
+use Rattle.blz_image.specs.declared.symbols.Symbol.{Symbol}
+use Rattle.blz_symbols.specs.SymbolRule as rule
 use Rattle.blz_resolver.specs.FormatKinds.{IsFormatKind, IsMemoryOrFormat}
 
 abbrev pub OnMark : {A : Type 0} → Part A → Type 0

@@ -3,7 +3,7 @@ use Rattle.std.proofs.Common.{◌≡◌, ℕ, List, [], Option, Some, None, refl
 use Rattle.blz_model.specs.Answers.{Site, Inlined, Resolved, Answer, Known, Unknown}
 use Rattle.blz_model.specs.Part.{Part, Good, ◌>>=◌}
 use Rattle.blz_elf.specs.Asked.{asks_code_info, asks_inlined_fns}
-use Rattle.blz_elf.specs.SymbolRule.{image_symbol}
+use Rattle.blz_symbols.specs.SymbolRule.{image_symbol}
 use Rattle.blz_elf.specs.declared.opts.FindSymOpts.{FindSymOpts}
 use Rattle.blz_entry.specs.Marks.{or_invalid}
 use Rattle.blz_entry.specs.declared.text.Texts.{Texts}

@@ -5,9 +5,9 @@ use Rattle.blz_elf.specs.Sources.{Source}
 use Rattle.blz_elf.specs.Warm as elf
 use Rattle.blz_model.specs.Part.{Good, ◌>>=◌}
 use Rattle.blz_model.proofs.PartLemmas.{bind_good}
-use Rattle.blz_elf.specs.Images.{elf_of}
+use Rattle.blz_image.specs.Images.{elf_of}
 use Rattle.blz_moves.specs.Relocations.{SectionMap}
-use Rattle.blz_elf.specs.RelocationTables.{image_relocations}
+use Rattle.blz_image.specs.RelocationTables.{image_relocations}
 use Rattle.blz_entry.specs.Marks.{or_invalid}
 use Rattle.blz_split.specs.PackageParts.{PackageParts, package_of, package_view}
 use Rattle.blz_index.specs.UnitTables.{sups_checked}

@@ -6,7 +6,7 @@ use Rattle.blz_error.specs.declared.kind.ErrorKind.TheVariants.{InvalidDwarf}
 use Rattle.blz_model.specs.Part.{Part, Good, ◌>>=◌, check}
 use Rattle.blz_model.specs.Answers.{Site, Resolved, Answer, Known, Unknown}
 use Rattle.blz_elf.specs.Asked.{asks_code_info, asks_inlined_fns}
-use Rattle.blz_elf.specs.SymbolRule.{image_symbol}
+use Rattle.blz_symbols.specs.SymbolRule.{image_symbol}
 use Rattle.blz_elf.specs.declared.opts.FindSymOpts.{FindSymOpts}
 use Rattle.blz_entry.specs.Marks.{or_invalid}
 use Rattle.blz_ranges.specs.declared.span.Span.{Span}

@@ -2,7 +2,7 @@
 use Rattle.std.specs.Prelude.{◌≡◌, Bool, List, [], ◌∷◌, string_bytes, ⊤}
 use Rattle.blz_model.specs.Part.{Gives, Exactly}
 use Rattle.blz_elf.specs.AnswerView.{answer_view}
-use Rattle.blz_elf.specs.Segments.{image_address_of}
+use Rattle.blz_image.specs.Segments.{image_address_of}
 use Rattle.blz_resolver.specs.AddressAnswers.{answer_of}
 use Rattle.blz_resolver.specs.FunctionNames.{addresses_of}
 use Rattle.blz_bundle.specs.Images.{ImageSet}

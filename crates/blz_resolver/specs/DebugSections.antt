@@ -3,9 +3,9 @@ use Rattle.std.specs.Prelude.{ℕ, List, Option, Some, None, codes, false}
 use Rattle.std.specs.FinMap as map
 use Rattle.blz_model.specs.declared.byte_order.ByteOrder.{ByteOrder}
 use Rattle.blz_model.specs.Part.{Part, Good, ◌>>=◌}
-use Rattle.blz_elf.specs.Images.{elf_of, image_order, image_section, image_section_data, image_data_named}
+use Rattle.blz_image.specs.Images.{elf_of, image_order, image_section, image_section_data, image_data_named}
 use Rattle.blz_moves.specs.Relocations.{OffsetMap, SectionMap, section_map}
-use Rattle.blz_elf.specs.RelocationTables.{image_relocations}
+use Rattle.blz_image.specs.RelocationTables.{image_relocations}
 use Rattle.blz_entry.specs.Contents.{Contents}
 use Rattle.blz_entry.specs.FileSections.{FileSections}
 use Rattle.blz_resolver.specs.declared.debug_section.DebugSection.{DebugSection}

@@ -5,10 +5,9 @@ use Rattle.blz_error.specs.declared.kind.ErrorKind.TheVariants.{Unsupported}
 use Rattle.blz_model.specs.Part.{Part, Good, ◌>>=◌, check, all_good}
 use Rattle.blz_records.specs.declared.sym_type.SymType.{SymType}
 use Rattle.blz_records.specs.declared.sym_type.SymType.TheVariants as sym
-use Rattle.blz_elf.specs.Infos.{Info}
+use Rattle.blz_elf.specs.Infos.{Info, image_addresses}
 use Rattle.blz_elf.specs.Listings.{Listing, listing_of, listing_if, then_list, broken_by, image_symbols}
-use Rattle.blz_elf.specs.NameRule.{image_addresses}
-use Rattle.blz_elf.specs.Segments.{image_file_place}
+use Rattle.blz_image.specs.Segments.{image_file_place}
 use Rattle.blz_elf.specs.declared.find_addr_opts.FindAddrOpts.{FindAddrOpts}
 use Rattle.blz_entry.specs.Marks.{or_invalid}
 use Rattle.blz_entry.specs.declared.text.Texts.{Texts}

@@ -22,7 +22,7 @@ pub(crate) struct DebugImage<'b> {
 impl<'b> DebugImage<'b> {
     /// Reads the relocations and the sections of an image. Refused by the first mark of header, section table and section
     /// names, then of the relocations, then of the sections in the order of their names.
-    #[tactic(auto, unfolding(crate::specs::DebugSections::debug_image, blz_elf::specs::Images::image_is_relocatable))]
+    #[tactic(auto, unfolding(crate::specs::DebugSections::debug_image, blz_image::specs::Images::image_is_relocatable))]
     pub fn read(alloc: Global, parser: &mut ElfParser<'b>) -> Result<DebugImage<'b>>
         ensures value { Gives debug_view result (debug_image parser.old.image) }
         ensures same { parser.new ≡ parser.old }

@@ -2,7 +2,7 @@
 ghost use Rattle.std.specs.Prelude.{◌≡◌, true, false, is_some, option_map};
 ghost use Rattle.blz_model.specs.Part.{Gives, Exactly};
 ghost use Rattle.blz_elf.specs.Listings.{ShowsAll};
-ghost use Rattle.blz_elf.specs.Segments.{image_address_of};
+ghost use Rattle.blz_image.specs.Segments.{image_address_of};
 ghost use Rattle.blz_bundle.specs.BundleViews.{bundle_view};
 ghost use Rattle.blz_resolver.specs.FormatKinds.{IsMemoryOrFormat};
 ghost use Rattle.blz_resolver.specs.FunctionNames.{addresses_of, listing_in};

@@ -4,7 +4,7 @@ use Rattle.blz_constants.specs.declared.dwarf.TheConstants as dwarf
 use Rattle.blz_error.specs.declared.kind.ErrorKind.TheVariants.{InvalidDwarf}
 use Rattle.blz_model.specs.declared.byte_order.ByteOrder.{ByteOrder}
 use Rattle.blz_model.specs.Part.{Part, Good, or_mark, ◌>>=◌}
-use Rattle.blz_elf.specs.Images.{image_order, image_data_named}
+use Rattle.blz_image.specs.Images.{image_order, image_data_named}
 use Rattle.blz_split.specs.SectionNames.{name_of}
 use Rattle.blz_split.specs.declared.dwo_section.DwoSection.TheVariants.{Abbrev, Index, Info, RngLists, Strings, StrOffsets}
 use Rattle.blz_split.specs.declared.tables.Tables.{Tables}

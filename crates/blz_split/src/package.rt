@@ -2,7 +2,7 @@
 ghost use Rattle.std.specs.Prelude.{◌≡◌, ◌≤◌, ◌+◌, ◌<◌, length, None, Some, IfOk, IfSome, slice_range, codes, nat_le};
 ghost use Rattle.blz_error.specs.declared.kind.ErrorKind.TheVariants.{InvalidDwarf};
 ghost use Rattle.blz_model.specs.Part.{Exactly, or_mark};
-ghost use Rattle.blz_elf.specs.Images.{image_order, image_data_named};
+ghost use Rattle.blz_image.specs.Images.{image_order, image_data_named};
 ghost use Rattle.blz_entry.specs.Contents.{section_view};
 ghost use Rattle.blz_split.specs.Contributions.{index_tables, found_row, contribution};
 ghost use Rattle.blz_entry.specs.FileSections.{sections_view};

@@ -1,18 +1,18 @@
 //! The section headers and the program headers of an image.
 ghost use Rattle.std.specs.Prelude.{◌≡◌};
 ghost use Rattle.blz_model.specs.Part.{Exactly};
-ghost use Rattle.blz_elf.specs.Formats.{section_size, segment_size};
+ghost use Rattle.blz_image.specs.Formats.{section_size, segment_size};
 ghost use Rattle.blz_elf.specs.HeaderTables.{image_program_headers, image_section_headers, program_headers_of, section_headers_of, section_records, segment_records};
-ghost use Rattle.blz_elf.specs.Places.{RowsFit};
-ghost use Rattle.blz_elf.specs.Views.{header_view};
+ghost use Rattle.blz_image.specs.Places.{RowsFit};
+ghost use Rattle.blz_image.specs.Views.{header_view};
 
-use crate::header::Header;
 use crate::parser::ElfParser;
 use crate::record_slice::{ElfN_Phdrs, ElfN_Shdrs, ElfNSlice};
-use crate::section::sections;
-use crate::segments::segments;
-use crate::span::Rows;
 use blz_error::Result;
+use blz_image::header::Header;
+use blz_image::section::sections;
+use blz_image::segments::segments;
+use blz_image::span::Rows;
 
 fn open_sections<'b>(image: &'b [u8], rows: Rows) -> ElfN_Shdrs<'b>
     requires { RowsFit section_size image.now rows }

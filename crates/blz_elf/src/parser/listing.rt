@@ -15,7 +15,7 @@ impl ElfParser<'_> {
     /// does not answer (ELF gABI, Symbol Table). It ends where the visitor breaks. Refused by the first mark of header,
     /// section table, section names, a table, its names and the infos, once all before it was shown: InvalidData,
     /// InvalidInput or Unsupported.
-    #[tactic(auto, unfolding(crate::specs::NameRule::image_symbol_names, crate::specs::SymbolTables::image_table))]
+    #[tactic(auto, unfolding(blz_symbols::specs::NameRule::image_symbol_names, blz_image::specs::SymbolTables::image_table))]
     pub fn for_each<O: Orders, V: Visit>(
         &mut self,
         alloc: Global,

@@ -1,26 +1,27 @@
 //! The symbols of a name.
 ghost use Rattle.std.specs.Prelude.{◌≡◌};
 ghost use Rattle.blz_model.specs.Part.{Gives};
-ghost use Rattle.blz_elf.specs.NameRule.{image_addresses, image_names};
+ghost use Rattle.blz_elf.specs.Infos.{image_addresses};
+ghost use Rattle.blz_symbols.specs.NameRule.{image_names};
 
 use crate::find_addr_opts::FindAddrOpts;
 use crate::infos::infos;
 use crate::kept_names::{
     check_kept, dynamic_list, fill_dynamic, fill_static, sort_names, static_list,
 };
-use crate::names::Wanted;
 use crate::parser::ElfParser;
-use crate::question::TableKind;
 use crate::sym_info::SymInfos;
 use blz_bytes::Orders;
 use blz_error::Result;
+use blz_image::symbols::TableKind;
+use blz_symbols::names::Wanted;
 use std::alloc::Global;
 
 impl<'b> ElfParser<'b> {
     /// The symbols of a name, defined, in table order: those of `.symtab`, else those of `.dynsym` that `.symtab` does not
     /// answer (ELF gABI, Symbol Table). Refused as `find_section` is, by a broken table, a name that cannot be read, and
     /// with places in the file by a section index outside the table: InvalidData, InvalidInput or Unsupported.
-    #[tactic(auto, unfolding(crate::specs::NameRule::image_addresses, crate::specs::NameRule::called_list, crate::specs::NameRule::image_symbol_names, crate::specs::SymbolTables::image_table))]
+    #[tactic(auto, unfolding(crate::specs::Infos::image_addresses, blz_symbols::specs::NameRule::called_list, blz_symbols::specs::NameRule::image_symbol_names, blz_image::specs::SymbolTables::image_table))]
     pub fn find_addr<O: Orders>(
         &mut self,
         alloc: Global,
@@ -58,7 +59,7 @@ impl<'b> ElfParser<'b> {
 
     /// Reads both tables of symbols and their names, and asks for their orders, for later calls. Refused by the first mark of header, section table,
     /// section names, `.symtab`, its names, `.dynsym` and its names.
-    #[tactic(auto, unfolding(crate::specs::NameRule::image_names, crate::specs::NameRule::image_symbol_names, crate::specs::SymbolTables::image_table))]
+    #[tactic(auto, unfolding(blz_symbols::specs::NameRule::image_names, blz_symbols::specs::NameRule::image_symbol_names, blz_image::specs::SymbolTables::image_table))]
     pub fn cache<O: Orders>(&mut self, alloc: Global, orders: &mut O) -> Result<()>
         ensures value { Gives (λ u. u) result (image_names self.old.image) }
         ensures same { self.new ≡ self.old }

@@ -3,24 +3,24 @@ ghost use Rattle.std.specs.Prelude.{◌≡◌, true, IfErr, IfOk};
 ghost use Rattle.std.specs.Option.{option_map};
 ghost use Rattle.blz_model.specs.Part.{Exactly};
 ghost use Rattle.blz_elf.specs.AnswerView.{answer_view};
-ghost use Rattle.blz_elf.specs.SymbolRule.{image_symbol};
+ghost use Rattle.blz_symbols.specs.SymbolRule.{image_symbol};
 ghost use Rattle.blz_elf.specs.Warm.{Fits, warm_prepared, warm_relocated};
 
 use crate::answer::Answer;
 use crate::fill::{fill, look_both, sort_table};
-use crate::image::Image;
 use crate::kept_names::fill_names;
 use crate::parser::ElfParser;
-use crate::question::TableKind;
 use crate::warm::ElfWarm;
 use blz_bytes::Orders;
 use blz_error::{Error, Result, Str};
+use blz_image::image::Image;
+use blz_image::symbols::TableKind;
 use blz_model::Cache;
 use std::alloc::{AllocError, Global};
 
 impl<'b> ElfParser<'b> {
     /// Puts each part into a cache, as its value or its mark's kind, for `find_sym_prepared`.
-    #[tactic(auto, unfolding(crate::specs::SymbolTables::image_table))]
+    #[tactic(auto, unfolding(blz_image::specs::SymbolTables::image_table))]
     pub fn prepare<O: Orders>(
         &mut self,
         alloc: Global,
@@ -63,7 +63,7 @@ impl<'b> ElfParser<'b> {
     }
 
     /// The symbol of an address, as `find_sym` has it, from what is kept: it takes no memory.
-    #[tactic(auto, unfolding(crate::specs::SymbolRule::image_symbol, crate::specs::SymbolTables::image_table))]
+    #[tactic(auto, unfolding(blz_symbols::specs::SymbolRule::image_symbol, blz_image::specs::SymbolTables::image_table))]
     pub fn find_sym_prepared(&self, addr: u64) -> Result<Answer<'b>>
         requires { self.now.prepared ≡ true }
         ensures { Exactly answer_view result (image_symbol self.now.image self.now.module_name addr) }

@@ -1,12 +1,12 @@
 //! The relocations of an image.
 ghost use Rattle.std.specs.Prelude.{◌≡◌, true, OnOk, OnErr};
 ghost use Rattle.blz_model.specs.Part.{Exactly, Gives};
-ghost use Rattle.blz_elf.specs.RelocationTables.{image_relocations};
+ghost use Rattle.blz_image.specs.RelocationTables.{image_relocations};
 
 use crate::fill::fill_relocations;
 use crate::parser::ElfParser;
-use crate::relocating::relocations;
 use blz_error::{Error, Result, Str};
+use blz_image::relocating::relocations;
 use blz_model::Cache;
 use blz_moves::SectionRelocations;
 use std::alloc::{AllocError, Global};
@@ -48,7 +48,7 @@ impl ElfParser<'_> {
     }
 
     /// The same relocations, read anew and given to the caller.
-    #[tactic(auto, unfolding(crate::specs::RelocationTables::image_relocations, crate::specs::Images::image_sections))]
+    #[tactic(auto, unfolding(blz_image::specs::RelocationTables::image_relocations, blz_image::specs::Images::image_sections))]
     pub fn read_relocations(&mut self, alloc: Global) -> Result<SectionRelocations>
         ensures value { Gives (λ m. m) result (image_relocations self.old.image) }
         ensures same { self.new ≡ self.old }

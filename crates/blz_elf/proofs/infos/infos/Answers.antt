@@ -3,9 +3,8 @@ use Rattle.std.specs.Option.{option_map}
 use Rattle.std.proofs.lemmas.List.{get_or-map, length-map, map-append}
 use Rattle.std.proofs.lemmas.Result.{err_from_is_err_and}
 use Rattle.blz_model.proofs.PartLemmas.{all_on, all_break}
-use Rattle.blz_elf.specs.Infos.{info_view}
-use Rattle.blz_elf.specs.NameRule.{info_of}
-use Rattle.blz_elf.specs.NameSteps.{named_view}
+use Rattle.blz_elf.specs.Infos.{info_view, info_of}
+use Rattle.blz_symbols.specs.NameSteps.{named_view}
 use Rattle.blz_elf.proofs.infos.infos.Goals as goal
 
 pub loop-named-preserved : goal.loop-named-preserved

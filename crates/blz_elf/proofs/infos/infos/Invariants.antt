@@ -2,9 +2,8 @@ use Rattle.std.proofs.Common.{◌≡◌, map, drop}
 use Rattle.std.specs.Option.{option_map}
 use Rattle.blz_model.specs.Part.{all_good}
 use Rattle.blz_model.proofs.PartLemmas.{after_front}
-use Rattle.blz_elf.specs.Infos.{info_view}
-use Rattle.blz_elf.specs.NameRule.{info_of}
-use Rattle.blz_elf.specs.NameSteps.{named_view}
+use Rattle.blz_elf.specs.Infos.{info_view, info_of}
+use Rattle.blz_symbols.specs.NameSteps.{named_view}
 use Rattle.blz_elf.proofs.infos.infos.Given as goal
 
 abbrev pub invariant-loop-named : goal.invariant-loop-named

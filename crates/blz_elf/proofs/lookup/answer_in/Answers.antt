@@ -1,5 +1,5 @@
 use Rattle.std.proofs.Common.{refl}
-use Rattle.blz_elf.specs.SymbolRule.{answer_in}
+use Rattle.blz_symbols.specs.SymbolRule.{answer_in}
 use Rattle.blz_elf.proofs.lookup.answer_in.Goals as goal
 
 pub returns-in-Err : goal.returns-in-Err

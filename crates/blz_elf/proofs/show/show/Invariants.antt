@@ -1,6 +1,6 @@
 use Rattle.std.proofs.Common.{◌≡◌, false, map, drop}
 use Rattle.blz_elf.specs.Listings.{infos_of}
-use Rattle.blz_elf.specs.NameSteps.{named_view}
+use Rattle.blz_symbols.specs.NameSteps.{named_view}
 use Rattle.blz_elf.proofs.ListingSteps.{SoFar}
 use Rattle.blz_elf.proofs.show.show.Given as goal
 

@@ -1,9 +1,9 @@
 use Rattle.std.proofs.Common.{Bool, inr}
 use Rattle.std.proofs.lemmas.Result.{err_from_is_err_and}
 use Rattle.blz_records.specs.declared.sym_type.SymType.{SymType}
-use Rattle.blz_elf.specs.declared.question.TableKind.TheVariants.{Symtab, Dynsym}
-use Rattle.blz_elf.specs.Images.{Elf}
-use Rattle.blz_elf.specs.NameRule.{is_of_type, listed_names}
+use Rattle.blz_image.specs.declared.symbols.TableKind.TheVariants.{Symtab, Dynsym}
+use Rattle.blz_image.specs.Images.{Elf}
+use Rattle.blz_symbols.specs.NameRule.{is_of_type, listed_names}
 use Rattle.blz_elf.specs.Listings.{Listing, infos_of, listing_if}
 use Rattle.blz_elf.proofs.ListingLemmas.{break_first, refuse_first, then_refused, then_either}
 use Rattle.blz_elf.proofs.show.show_all.Goals as goal

@@ -1,7 +1,6 @@
 use Rattle.std.proofs.Common.{◌≡◌, ℕ, List, Option, Some, None, is_some, ap, ◌∙◌, subst}
 use Rattle.blz_model.specs.Part.{Part, Gives}
-use Rattle.blz_elf.specs.Infos.{Info}
-use Rattle.blz_elf.specs.NameRule.{image_addresses}
+use Rattle.blz_elf.specs.Infos.{Info, image_addresses}
 use Rattle.blz_elf.specs.Sources.{Source}
 use Rattle.blz_elf.specs.declared.find_addr_opts.FindAddrOpts.{FindAddrOpts}
 use Rattle.blz_bundle.specs.BundleViews.{bundle_view}

@@ -1,8 +1,8 @@
 use Rattle.std.proofs.Common.{◌≡◌, ap, ◌∙◌}
-use Rattle.blz_elf.specs.SegmentViews.{segments_in}
-use Rattle.blz_elf.specs.Segments.{file_place, first_given}
+use Rattle.blz_image.specs.SegmentViews.{segments_in}
+use Rattle.blz_image.specs.Segments.{file_place, first_given}
 use Rattle.blz_elf.specs.Sources.{Source}
-use Rattle.blz_elf.specs.Views.{header_view}
+use Rattle.blz_image.specs.Views.{header_view}
 use Rattle.blz_elf.proofs.RoundTrip.{placed, comes_back}
 use Rattle.blz_elf.proofs.parser.ElfParser.find_file_offset.Goals as goal
 

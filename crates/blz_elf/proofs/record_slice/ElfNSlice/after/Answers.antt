@@ -1,6 +1,6 @@
 use Rattle.std.proofs.Common.{arith}
 use Rattle.blz_elf.specs.RecordLists.{of_class, record_at}
-use Rattle.blz_elf.proofs.Tables.{count_is}
+use Rattle.blz_image.proofs.Tables.{count_is}
 use Rattle.blz_elf.proofs.RowLemmas.{rows_in-after}
 use Rattle.blz_elf.proofs.record_slice.ElfNSlice.after.Goals as goal
 

@@ -1,6 +1,6 @@
 use Rattle.std.proofs.Common.{◌<◌, ◌∙◌, ap, sym, arith, length, Some}
 use Rattle.std.proofs.lemmas.Option.{slice_get-get_or, slice_get_past}
-use Rattle.blz_elf.proofs.Tables.{count_is, item_is}
+use Rattle.blz_image.proofs.Tables.{count_is, item_is}
 use Rattle.blz_elf.proofs.record_slice.ElfNSlice.get.Goals as goal
 
 pub returns-then-rows-idx : goal.returns-then-rows-idx

@@ -1,4 +1,4 @@
-use Rattle.blz_elf.proofs.Tables.{count_is}
+use Rattle.blz_image.proofs.Tables.{count_is}
 use Rattle.blz_elf.proofs.record_slice.ElfNSlice.len.Goals as goal
 
 pub returns : goal.returns

@@ -1,7 +1,0 @@
-use Rattle.std.proofs.Common.{◌≡◌, map, take, filter}
-use Rattle.blz_elf.specs.NameOrders.{named_in}
-use Rattle.blz_elf.specs.NameSteps.{named_view, passes}
-use Rattle.blz_elf.proofs.name_order.scan.Given as goal
-
-abbrev pub invariant-loop-name : goal.invariant-loop-name
-invariant-loop-name l = map named_view l.found.items ≡ filter (passes l.wanted) (take l.name-index (named_in l.strings l.listed))

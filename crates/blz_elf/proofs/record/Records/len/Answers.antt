@@ -1,5 +1,0 @@
-use Rattle.blz_elf.proofs.Tables.{count_is}
-use Rattle.blz_elf.proofs.record.Records.len.Goals as goal
-
-pub returns : goal.returns
-returns g c = count_is _ _ _ c.self.view_is

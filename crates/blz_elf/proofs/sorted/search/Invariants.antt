@@ -1,7 +1,0 @@
-use Rattle.std.proofs.Common.{◌≡◌, ℕ, ◌<◌, ◌≤◌, false, map}
-use Rattle.blz_elf.specs.SymbolRule.{may_answer}
-use Rattle.blz_elf.specs.Accepted.{at_place}
-use Rattle.blz_elf.proofs.sorted.search.Given as goal
-
-abbrev pub invariant-loop-k : goal.invariant-loop-k
-invariant-loop-k l = (j : ℕ) → l.begin ≤ j → j < l.k → may_answer l.question (at_place l.typed l.places j) ≡ false

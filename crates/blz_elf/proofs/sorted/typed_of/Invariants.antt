@@ -1,6 +1,0 @@
-use Rattle.std.proofs.Common.{◌≡◌, map, take, filter}
-use Rattle.blz_elf.specs.SymbolRule.{is_typed}
-use Rattle.blz_elf.proofs.sorted.typed_of.Given as goal
-
-abbrev pub invariant-loop-i : goal.invariant-loop-i
-invariant-loop-i l = l.typed.items ≡ filter is_typed (take l.i l.symbols)

@@ -1,0 +1,14 @@
+pub mod Formats
+pub mod Headers
+pub mod Sections
+pub mod Images
+pub mod SymbolTables
+pub mod Segments
+pub mod SegmentViews
+pub mod RelocationTables
+pub mod EntryPlaces
+pub mod EntryViews
+pub mod Names
+pub mod Places
+pub mod Views
+pub mod Frames

@@ -1,0 +1,15 @@
+//! An ELF image as its bytes tell it: the header, tables of records, sections, segments, texts, symbols, relocations.
+#![tactic(auto)]
+
+mod entries;
+pub mod format;
+pub mod header;
+pub mod image;
+mod number;
+pub mod record;
+pub mod relocating;
+pub mod section;
+pub mod segments;
+pub mod span;
+pub mod symbols;
+pub mod text;

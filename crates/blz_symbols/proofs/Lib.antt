@@ -1,0 +1,7 @@
+mod Greatest
+mod Halving
+mod Search
+mod Leading
+mod NeededSteps
+mod NameScans
+mod NameSearch
