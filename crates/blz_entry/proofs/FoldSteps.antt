@@ -3,15 +3,15 @@ use Rattle.std.proofs.Common.{◌≡◌, ◌∙◌, ℕ, false, List, [], ◌∷
 use Rattle.std.specs.Prelude.{if◌then◌else◌}
 use Rattle.std.proofs.lemmas.Bool.{cases_Bool}
 use Rattle.blz_model.specs.Reads.{Read, ◌>>=◌}
-use Rattle.blz_entry.specs.Contents.{Contents}
-use Rattle.blz_entry.specs.Attributes.{attribute, attributes}
+use Rattle.blz_info.specs.Contents.{Contents}
+use Rattle.blz_info.specs.Attributes.{attribute, attributes}
 use Rattle.blz_entry.specs.Folds.{fold_maybe, over_attributes, over_pending}
-use Rattle.blz_entry.specs.Walks.{Walk}
-use Rattle.blz_entry.specs.Wanted.{Wanted, is_wanted, wanted_in, wanted_of}
-use Rattle.blz_entry.specs.declared.abbreviations.AttrSpec.{AttrSpec}
-use Rattle.blz_entry.specs.declared.encoding.Encoding.{Encoding}
-use Rattle.blz_entry.specs.declared.text.StrBase.{StrBase}
-use Rattle.blz_entry.specs.declared.value.AttrValue.{AttrValue}
+use Rattle.blz_info.specs.Walks.{Walk}
+use Rattle.blz_info.specs.Wanted.{Wanted, is_wanted, wanted_in, wanted_of}
+use Rattle.blz_info.specs.declared.abbreviations.AttrSpec.{AttrSpec}
+use Rattle.blz_info.specs.declared.encoding.Encoding.{Encoding}
+use Rattle.blz_info.specs.declared.text.StrBase.{StrBase}
+use Rattle.blz_info.specs.declared.value.AttrValue.{AttrValue}
 
 -- an attribute before others
 abbrev with_first : ℕ × AttrValue → Read (List (ℕ × AttrValue)) → Read (List (ℕ × AttrValue))

@@ -8,14 +8,14 @@ use Rattle.blz_model.specs.Reads.{Read, ◌>>=◌}
 use Rattle.blz_error.specs.Fault.{Fault}
 use Rattle.blz_error.specs.declared.kind.ErrorKind.TheVariants.{OutOfMemory}
 use Rattle.blz_model.specs.Part.{Fails}
-use Rattle.blz_entry.specs.Marks.{or_invalid}
-use Rattle.blz_entry.proofs.Marked.{marks_on}
+use Rattle.blz_info.specs.Marks.{or_invalid}
+use Rattle.blz_info.proofs.Marked.{marks_on}
 use Rattle.blz_entry.specs.RangeLists.{spans_in, spans_from, spans_at, joined, list_length, range_entry_at, is_end, base_behind, spelled}
 use Rattle.blz_entry.specs.declared.range_list.RangeEntry.{RangeEntry}
 use Rattle.blz_entry.specs.declared.root.UnitRoot.{UnitRoot}
-use Rattle.blz_entry.specs.declared.section.Sections.{Sections}
+use Rattle.blz_info.specs.declared.section.Sections.{Sections}
 use Rattle.blz_ranges.specs.declared.span.Span.{Span}
-use Rattle.blz_entry.specs.declared.units.UnitHeader.{UnitHeader}
+use Rattle.blz_info.specs.declared.units.UnitHeader.{UnitHeader}
 
 pub spans_more : (s : Sections) (h : UnitHeader) (root : UnitRoot) (m n base at next : ℕ) (so_far : List Span) (entry : RangeEntry) → m ≡ suc n → eqb at (list_length s h) ≡ false → range_entry_at s h root at ≡ Some (entry, next) → is_end entry ≡ false → spans_in s h root m base so_far at ≡ spans_in s h root n (base_behind base entry) (so_far ++ option_to_list (spelled h.version h.address_size base entry)) next
 unfolding spans_in

@@ -3,18 +3,18 @@ use Rattle.std.proofs.Common.{◌≡◌, ◌∙◌, ℕ, true, false, cond, eqb,
 use Rattle.std.proofs.lemmas.Bool.{cases_Bool, eqb-true}
 use Rattle.blz_model.specs.Reads.{Read, ◌>>=◌}
 use Rattle.blz_model.specs.LebNumbers.{uleb}
-use Rattle.blz_entry.specs.Abbrevs.{Abbrev, of_code}
-use Rattle.blz_entry.specs.Attributes.{attributes}
+use Rattle.blz_info.specs.Abbrevs.{Abbrev, of_code}
+use Rattle.blz_info.specs.Attributes.{attributes}
 use Rattle.blz_entry.specs.Folds.{fold_maybe, over_pending}
 use Rattle.blz_entry.specs.RangeLists.{range_step}
 use Rattle.blz_entry.specs.Roots.{noted_step, nothing_noted, root_attributes, root_from, root_of, root_step, with_names, based}
-use Rattle.blz_entry.specs.Walks.{Source, Walk, opened, source_of}
-use Rattle.blz_entry.specs.Wanted.{is_wanted}
+use Rattle.blz_info.specs.Walks.{Source, Walk, opened, source_of}
+use Rattle.blz_info.specs.Wanted.{is_wanted}
 use Rattle.blz_entry.specs.declared.root.RootValues.{RootValues}
 use Rattle.blz_entry.specs.declared.root.UnitRoot.{UnitRoot}
-use Rattle.blz_entry.specs.declared.section.Sections.{Sections}
-use Rattle.blz_entry.specs.declared.units.UnitHeader.{UnitHeader}
-use Rattle.blz_entry.specs.declared.value.AttrValue.{AttrValue}
+use Rattle.blz_info.specs.declared.section.Sections.{Sections}
+use Rattle.blz_info.specs.declared.units.UnitHeader.{UnitHeader}
+use Rattle.blz_info.specs.declared.value.AttrValue.{AttrValue}
 
 -- ---- an attribute that is not wanted changes nothing
 

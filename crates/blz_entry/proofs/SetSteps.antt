@@ -5,9 +5,9 @@ use Rattle.std.specs.Option.{option_to_list}
 use Rattle.std.proofs.lemmas.Bool.{cases_Bool, leb-true, eqb-true}
 use Rattle.blz_model.specs.Reads.{Read, ◌>>=◌}
 use Rattle.blz_entry.specs.AddressSets.{length_at, kept, range_pair, next_pair, then_pairs, pairs_in, pairs_from}
-use Rattle.blz_entry.specs.Contents.{Contents, moved_number, address_at}
+use Rattle.blz_info.specs.Contents.{Contents, moved_number, address_at}
 use Rattle.blz_ranges.specs.declared.span.Span.{Span}
-use Rattle.blz_entry.proofs.Ahead.{Ahead, Past, number_ahead, address_past, if_ahead}
+use Rattle.blz_info.proofs.Ahead.{Ahead, Past, number_ahead, address_past, if_ahead}
 
 length_ahead : (size : ℕ) (s : Contents) (at : ℕ) → Ahead s.bytes at (length_at size s at)
 unfolding length_at

@@ -6,12 +6,12 @@ use Rattle.blz_error.specs.Fault.{Fault}
 use Rattle.blz_error.specs.declared.kind.ErrorKind.TheVariants.{InvalidDwarf}
 use Rattle.blz_model.specs.Reads.{Read, ◌>>=◌}
 use Rattle.blz_bytes.specs.Pieces.{byte}
-use Rattle.blz_entry.specs.Contents.{Contents, cut, number_at, address_at, offset_at}
-use Rattle.blz_entry.specs.Codes.{contents_code}
-use Rattle.blz_entry.specs.Headers.{extent_at, is_address_size}
+use Rattle.blz_info.specs.Contents.{Contents, cut, number_at, address_at, offset_at}
+use Rattle.blz_info.specs.Codes.{contents_code}
+use Rattle.blz_info.specs.Headers.{extent_at, is_address_size}
 use Rattle.blz_entry.specs.RangeLists.{greatest}
 use Rattle.blz_entry.specs.declared.aranges.ArangeSet.{ArangeSet}
-use Rattle.blz_entry.specs.declared.extent.Extent.{Extent}
+use Rattle.blz_info.specs.declared.extent.Extent.{Extent}
 use Rattle.blz_ranges.specs.declared.span.Span.{Span}
 
 -- the least multiple of k from n up

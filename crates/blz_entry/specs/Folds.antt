@@ -1,13 +1,13 @@
 -- Steps that may fail, one after the other, and those over the attributes of an entry.
 use Rattle.std.specs.Prelude.{ℕ, List, [], ◌∷◌, Option, Some}
 use Rattle.blz_model.specs.Reads.{◌>>=◌}
-use Rattle.blz_entry.specs.Attributes.{attributes}
-use Rattle.blz_entry.specs.Contents.{Contents}
-use Rattle.blz_entry.specs.declared.abbreviations.AttrSpec.{AttrSpec}
-use Rattle.blz_entry.specs.declared.encoding.Encoding.{Encoding}
-use Rattle.blz_entry.specs.declared.text.StrBase.{StrBase}
-use Rattle.blz_entry.specs.declared.value.AttrValue.{AttrValue}
-use Rattle.blz_entry.specs.Walks.{Walk}
+use Rattle.blz_info.specs.Attributes.{attributes}
+use Rattle.blz_info.specs.Contents.{Contents}
+use Rattle.blz_info.specs.declared.abbreviations.AttrSpec.{AttrSpec}
+use Rattle.blz_info.specs.declared.encoding.Encoding.{Encoding}
+use Rattle.blz_info.specs.declared.text.StrBase.{StrBase}
+use Rattle.blz_info.specs.declared.value.AttrValue.{AttrValue}
+use Rattle.blz_info.specs.Walks.{Walk}
 
 abbrev pub fold_maybe : {S A : Type 0} → (S → A → Option S) → S → List A → Option S
 fold_maybe step s [] = Some s

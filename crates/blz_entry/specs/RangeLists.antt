@@ -8,19 +8,19 @@ use Rattle.blz_model.specs.Part.{Fails}
 use Rattle.blz_model.specs.Reads.{Read, ◌>>=◌}
 use Rattle.blz_model.specs.LebNumbers.{uleb}
 use Rattle.blz_bytes.specs.Pieces.{byte}
-use Rattle.blz_entry.specs.Contents.{Contents, section_view, address_at, offset_at, offset_len}
-use Rattle.blz_entry.specs.Forms.{udata}
-use Rattle.blz_entry.specs.Marks.{or_invalid}
+use Rattle.blz_info.specs.Contents.{Contents, section_view, address_at, offset_at, offset_len}
+use Rattle.blz_info.specs.Forms.{udata}
+use Rattle.blz_info.specs.Marks.{or_invalid}
 use Rattle.blz_entry.specs.AddressIndexes.{address_of, value_address}
 use Rattle.blz_entry.specs.declared.range_list.RangeEntry.{RangeEntry}
 use Rattle.blz_entry.specs.declared.range_list.RangeEntry.TheVariants.{End, Base, Offsets, Addresses, Length}
 use Rattle.blz_entry.specs.declared.ranges.RangeAttributes.{RangeAttributes}
 use Rattle.blz_entry.specs.declared.root.UnitRoot.{UnitRoot}
-use Rattle.blz_entry.specs.declared.section.Sections.{Sections}
+use Rattle.blz_info.specs.declared.section.Sections.{Sections}
 use Rattle.blz_ranges.specs.declared.span.Span.{Span}
-use Rattle.blz_entry.specs.declared.units.UnitHeader.{UnitHeader}
-use Rattle.blz_entry.specs.declared.value.AttrValue.{AttrValue}
-use Rattle.blz_entry.specs.declared.value.AttrValue.TheVariants.{SecOffset, RangeIndex}
+use Rattle.blz_info.specs.declared.units.UnitHeader.{UnitHeader}
+use Rattle.blz_info.specs.declared.value.AttrValue.{AttrValue}
+use Rattle.blz_info.specs.declared.value.AttrValue.TheVariants.{SecOffset, RangeIndex}
 
 -- Where the list of a value begins, if it is one: an offset, or an index into the unit's offsets, which count from
 -- their own base. It is a whole number, and there is none where the index lies outside.

@@ -3,20 +3,20 @@ use Rattle.std.specs.Prelude.{ℕ, Bool, true, false, ◌&&◌, List, Option, So
 use Rattle.blz_constants.specs.declared.dwarf.TheConstants as dwarf
 use Rattle.blz_model.specs.Reads.{◌>>=◌}
 use Rattle.blz_model.specs.LebNumbers.{uleb}
-use Rattle.blz_entry.specs.Abbrevs.{Abbrev, of_code}
-use Rattle.blz_entry.specs.Attributes.{attributes}
+use Rattle.blz_info.specs.Abbrevs.{Abbrev, of_code}
+use Rattle.blz_info.specs.Attributes.{attributes}
 use Rattle.blz_entry.specs.Folds.{fold_maybe}
-use Rattle.blz_entry.specs.Forms.{udata}
+use Rattle.blz_info.specs.Forms.{udata}
 use Rattle.blz_entry.specs.RangeLists.{range_step}
 use Rattle.blz_entry.specs.StringPlaces.{string_of}
-use Rattle.blz_entry.specs.Walks.{Source, source_of}
+use Rattle.blz_info.specs.Walks.{Source, source_of}
 use Rattle.blz_entry.specs.declared.ranges.RangeAttributes.{RangeAttributes}
 use Rattle.blz_entry.specs.declared.root.RootValues.{RootValues}
 use Rattle.blz_entry.specs.declared.root.UnitRoot.{UnitRoot}
-use Rattle.blz_entry.specs.declared.section.Sections.{Sections}
-use Rattle.blz_entry.specs.declared.units.UnitHeader.{UnitHeader}
-use Rattle.blz_entry.specs.declared.value.AttrValue.{AttrValue}
-use Rattle.blz_entry.specs.declared.value.AttrValue.TheVariants.{Addr, AddrIndex, SecOffset}
+use Rattle.blz_info.specs.declared.section.Sections.{Sections}
+use Rattle.blz_info.specs.declared.units.UnitHeader.{UnitHeader}
+use Rattle.blz_info.specs.declared.value.AttrValue.{AttrValue}
+use Rattle.blz_info.specs.declared.value.AttrValue.TheVariants.{Addr, AddrIndex, SecOffset}
 
 -- the attributes of the entry at a place, which has to be one
 unfoldable pub root_attributes : Source → ℕ → Option (List (ℕ × AttrValue))

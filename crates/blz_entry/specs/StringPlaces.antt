@@ -2,16 +2,16 @@
 use Rattle.std.specs.Prelude.{ℕ, ◌+◌, ◌*◌, length, Option, Some, None, if◌then◌else◌}
 use Rattle.blz_model.specs.Reads.{◌>>=◌}
 use Rattle.blz_bytes.specs.Pieces.{zero_ended}
-use Rattle.blz_entry.specs.Contents.{Contents, section_view, offset_at, offset_len}
+use Rattle.blz_info.specs.Contents.{Contents, section_view, offset_at, offset_len}
 use Rattle.blz_entry.specs.declared.root.UnitRoot.{UnitRoot}
-use Rattle.blz_entry.specs.declared.section.Section.{Section}
-use Rattle.blz_entry.specs.declared.section.Sections.{Sections}
-use Rattle.blz_entry.specs.declared.text.StrPart.{StrPart}
-use Rattle.blz_entry.specs.declared.text.StrPart.TheVariants.{Strings, LineStr, SupStrings, PackStrings, SupLineStr}
-use Rattle.blz_entry.specs.declared.text.StrPlace.{StrPlace}
-use Rattle.blz_entry.specs.declared.units.UnitHeader.{UnitHeader}
-use Rattle.blz_entry.specs.declared.value.AttrValue.{AttrValue}
-use Rattle.blz_entry.specs.declared.value.AttrValue.TheVariants.{Text, StrRef, LineStrRef, StrIndex, SupStr}
+use Rattle.blz_info.specs.declared.section.Section.{Section}
+use Rattle.blz_info.specs.declared.section.Sections.{Sections}
+use Rattle.blz_info.specs.declared.text.StrPart.{StrPart}
+use Rattle.blz_info.specs.declared.text.StrPart.TheVariants.{Strings, LineStr, SupStrings, PackStrings, SupLineStr}
+use Rattle.blz_info.specs.declared.text.StrPlace.{StrPlace}
+use Rattle.blz_info.specs.declared.units.UnitHeader.{UnitHeader}
+use Rattle.blz_info.specs.declared.value.AttrValue.{AttrValue}
+use Rattle.blz_info.specs.declared.value.AttrValue.TheVariants.{Text, StrRef, LineStrRef, StrIndex, SupStr}
 
 -- the text at an offset of a section, up to its zero
 unfoldable pub text_in : StrPart → Contents → ℕ → Option StrPlace

@@ -1,16 +1,12 @@
 //! Addresses by their index.
 ghost use Rattle.std.specs.Prelude.{◌≡◌};
 ghost use Rattle.blz_model.specs.Part.{Exactly};
-ghost use Rattle.blz_entry.specs.Marks.{or_invalid};
+ghost use Rattle.blz_info.specs.Marks.{or_invalid};
 ghost use Rattle.blz_entry.specs.AddressIndexes.{address_of, value_address};
 
-use crate::fault::invalid;
-use crate::field::indexed_address;
 use crate::root::UnitRoot;
-use crate::section::Sections;
-use crate::units::UnitHeader;
-use crate::value::AttrValue;
 use blz_error::Result;
+use blz_info::{AttrValue, Sections, UnitHeader, indexed_address, invalid};
 
 #[tactic(auto, unfolding(crate::specs::AddressIndexes::address_of))]
 pub(crate) fn address_of(

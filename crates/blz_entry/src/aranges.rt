@@ -1,17 +1,15 @@
 //! Sets of address ranges, which tell where a unit has code.
 ghost use Rattle.std.specs.Prelude.{◌≡◌, ◌≤◌, ◌<◌, ◌+◌, ◌-◌, ◌*◌, ◌^◌, ◌∷◌, [], length, IfSome, IfOk, MatchOption};
-ghost use Rattle.blz_entry.specs.Contents.{section_view};
+ghost use Rattle.blz_info.specs.Contents.{section_view};
 ghost use Rattle.blz_entry.specs.AddressSets.{rounded_up, set_of, set_in, set_at, next_set, length_at, range_pair, kept, next_pair, pairs_from, pairs_of, GivesSet};
 
-use crate::extent::{Extent, extent_at};
-use crate::fault::invalid;
-use crate::field::{address_at, fixed_at, offset_at};
-use crate::form::Width;
 use crate::range_list::greatest;
-use crate::section::{Section, cut};
-use crate::units::is_address_size;
 use blz_bytes::{u8_at, u16_at};
 use blz_error::Result;
+use blz_info::{
+    Extent, Section, Width, address_at, cut, extent_at, fixed_at, invalid, is_address_size,
+    offset_at,
+};
 use blz_ranges::Span;
 use std::marker::Model;
 
@@ -90,7 +88,7 @@ pub struct Aranges<'s, 'b> {
 }
 
 impl<'s, 'b> Model for Aranges<'s, 'b> {
-    ghost use Rattle.blz_entry.specs.Contents.{section_view};
+    ghost use Rattle.blz_info.specs.Contents.{section_view};
     ghost use Rattle.blz_entry.specs.AddressSets.{SetList, set_list_code};
 
     ghost Value = { SetList };

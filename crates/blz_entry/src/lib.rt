@@ -1,48 +1,22 @@
-//! The entries of DWARF debugging information: units, abbreviations, forms, strings, addresses and ranges.
+//! The entries of DWARF debugging information, and what is told of them: strings, addresses, ranges, the root of a unit.
 #![tactic(auto)]
 
-mod abbreviations;
 mod addresses;
 mod aranges;
-mod attributes;
-mod behind;
-mod encoding;
-mod entries;
-mod extent;
-mod fault;
-mod field;
-mod form;
-pub mod laws;
-mod listing;
-mod passing;
 mod range_list;
 mod ranges;
-mod ready;
 mod root;
-mod runs;
-mod section;
 mod strings;
-mod text;
-mod units;
-mod value;
-mod wanted;
 
-pub use abbreviations::{Abbreviation, Abbreviations, AttrSpec};
 pub use addresses::address;
 pub use aranges::{ArangeSet, Aranges};
+pub use blz_info::{
+    Abbreviation, Abbreviations, AttrSpec, AttrValue, Encoding, Entries, Entry, Extent, Field,
+    Form, Listed, Makes, Passing, Section, Sections, StrBase, StrPart, StrPlace, Texts, UnitHeader,
+    UnitHeaders, UnitKind, Width, address_at, cut, extent_at, fixed_at, form_value, invalid, laws,
+    list_unit, offset_at,
+};
 pub use blz_ranges::Span;
-pub use encoding::Encoding;
-pub use entries::{Entries, Entry};
-pub use extent::{Extent, extent_at};
-pub use fault::invalid;
-pub use field::{address_at, fixed_at, offset_at};
-pub use form::{Field, Form, Makes, Width};
-pub use listing::{Listed, list_unit};
-pub use passing::Passing;
 pub use ranges::{RangeAttributes, attr_ranges_offset};
 pub use root::UnitRoot;
-pub use section::{Section, Sections, cut};
 pub use strings::{attr_string, supplementary_string};
-pub use text::{StrBase, StrPart, StrPlace, Texts};
-pub use units::{UnitHeader, UnitHeaders, UnitKind};
-pub use value::{AttrValue, form_value};

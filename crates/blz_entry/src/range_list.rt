@@ -3,19 +3,16 @@ ghost use Rattle.std.specs.Prelude.{◌≡◌, ◌≤◌, ◌<◌, ◌+◌, ◌^
 ghost use Rattle.std.specs.Option.{option_to_list};
 ghost use Rattle.blz_error.specs.declared.kind.ErrorKind.TheVariants.{OutOfMemory};
 ghost use Rattle.blz_model.specs.Part.{Fails};
-ghost use Rattle.blz_entry.specs.Contents.{section_view};
-ghost use Rattle.blz_entry.specs.Marks.{or_invalid};
+ghost use Rattle.blz_info.specs.Contents.{section_view};
+ghost use Rattle.blz_info.specs.Marks.{or_invalid};
 ghost use Rattle.blz_entry.specs.RangeLists.{greatest, is_dead, live, spelled, base_behind, is_end, pair_meaning, pair_at, base_of_index, both_by_index, begin_by_index, offset_pair, base_address, begin_and_end, begin_and_length, coded_entry, coded_entry_at, range_entry_at, list_length, spans_from};
 
 use crate::addresses::address_of;
-use crate::fault::invalid;
-use crate::field::address_at;
 use crate::root::UnitRoot;
-use crate::section::{Section, Sections};
-use crate::units::UnitHeader;
 use blz_bytes::{u8_at, uleb_at};
 use blz_constants::dwarf;
 use blz_error::Result;
+use blz_info::{Section, Sections, UnitHeader, address_at, invalid};
 use blz_ranges::Span;
 
 /// An entry of a list of ranges.

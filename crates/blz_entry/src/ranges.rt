@@ -1,19 +1,15 @@
 //! The attributes that tell which addresses an entry covers.
 ghost use Rattle.std.specs.Prelude.{◌≡◌, MatchResult, Some, option_and_then, option_map, take, vec_len};
 ghost use Rattle.blz_model.specs.Part.{Exactly, Fails};
-ghost use Rattle.blz_entry.specs.Marks.{or_invalid};
+ghost use Rattle.blz_info.specs.Marks.{or_invalid};
 ghost use Rattle.blz_entry.specs.RangeLists.{range_offset, held_offset, answered_offset, with_low, with_high, range_step, sized, bounds_of, not_empty, ranges_of, joined, Appends};
 
 use crate::addresses::value_address;
-use crate::fault::invalid;
-use crate::field::indexed_offset;
 use crate::range_list::{append_list, put};
 use crate::root::UnitRoot;
-use crate::section::Sections;
-use crate::units::UnitHeader;
-use crate::value::AttrValue;
 use blz_constants::dwarf;
 use blz_error::Result;
+use blz_info::{AttrValue, Sections, UnitHeader, indexed_offset, invalid};
 use blz_ranges::Span;
 
 /// The attributes of an entry that tell which addresses it covers (DWARF 5 section 2.17).

@@ -2,22 +2,16 @@
 ghost use Rattle.std.specs.Prelude.{◌≡◌, ◌<◌, ◌+◌, ◌^◌, length, option_and_then};
 ghost use Rattle.blz_model.specs.Part.{Exactly};
 ghost use Rattle.blz_entry.specs.Folds.{over_pending};
-ghost use Rattle.blz_entry.specs.Marks.{or_invalid};
+ghost use Rattle.blz_info.specs.Marks.{or_invalid};
 ghost use Rattle.blz_entry.specs.Roots.{first_of, last_offset, noted, noted_step, nothing_noted, base_behind_header, based, with_names, is_address, low_behind, root_step, root_of};
-ghost use Rattle.blz_entry.specs.Forms.{udata};
+ghost use Rattle.blz_info.specs.Forms.{udata};
 ghost use Rattle.blz_entry.specs.StringPlaces.{string_of};
 
-use crate::abbreviations::Abbreviations;
-use crate::entries::Entries;
-use crate::fault::invalid;
 use crate::ranges::{RangeAttributes, range_step};
-use crate::section::Sections;
 use crate::strings::attr_string;
-use crate::text::StrPlace;
-use crate::units::UnitHeader;
-use crate::value::AttrValue;
 use blz_constants::dwarf;
 use blz_error::Result;
+use blz_info::{Abbreviations, AttrValue, Entries, Sections, StrPlace, UnitHeader, invalid};
 
 /// What the first entry of a unit says (DWARF 5 section 3.1.1).
 #[derive(Clone, Copy)]

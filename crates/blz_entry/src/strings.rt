@@ -1,16 +1,12 @@
 //! Where strings stand.
 ghost use Rattle.std.specs.Prelude.{◌≡◌};
-ghost use Rattle.blz_entry.specs.Contents.{section_view};
-ghost use Rattle.blz_entry.specs.declared.text.StrPart.TheVariants.{SupStrings};
+ghost use Rattle.blz_info.specs.Contents.{section_view};
+ghost use Rattle.blz_info.specs.declared.text.StrPart.TheVariants.{SupStrings};
 ghost use Rattle.blz_entry.specs.StringPlaces.{text_in, strings_part, line_str_part, sup_string, indexed_string, string_of};
 
-use crate::field::indexed_offset;
 use crate::root::UnitRoot;
-use crate::section::{Section, Sections};
-use crate::text::{StrPart, StrPlace};
-use crate::units::UnitHeader;
-use crate::value::AttrValue;
 use blz_bytes::zero_ended_at;
+use blz_info::{AttrValue, Section, Sections, StrPart, StrPlace, UnitHeader, indexed_offset};
 
 #[tactic(auto, unfolding(crate::specs::StringPlaces::text_in))]
 fn text_in(part: StrPart, section: &Section<'_, '_>, offset: u64) -> Option<StrPlace>

@@ -6,11 +6,11 @@ use Rattle.blz_error.specs.declared.kind.ErrorKind.{ErrorKind}
 use Rattle.blz_error.specs.declared.kind.ErrorKind.TheVariants.{InvalidDwarf}
 use Rattle.blz_model.specs.Part.{Part, Good, Broken}
 use Rattle.blz_model.specs.Reads.{Read, ◌>>=◌}
-use Rattle.blz_entry.specs.Attributes.{passed}
-use Rattle.blz_entry.specs.Forest.{Info, Head, Close, Open}
-use Rattle.blz_entry.specs.Walks.{Source, Walk, head_at, walk_from, next_of, skipped_of}
-use Rattle.blz_entry.specs.declared.entries.Entry.{Entry}
-use Rattle.blz_entry.specs.declared.value.AttrValue.{AttrValue}
+use Rattle.blz_info.specs.Attributes.{passed}
+use Rattle.blz_info.specs.Forest.{Info, Head, Close, Open}
+use Rattle.blz_info.specs.Walks.{Source, Walk, head_at, walk_from, next_of, skipped_of}
+use Rattle.blz_info.specs.declared.entries.Entry.{Entry}
+use Rattle.blz_info.specs.declared.value.AttrValue.{AttrValue}
 use Rattle.blz_functions.specs.CallTree.{all_closed, calls_from, all_calls, calls_in, below_head, lists_below, no_calls, trees_below, unit_calls}
 use Rattle.blz_functions.specs.Describing.{Refer}
 use Rattle.blz_functions.specs.Leaves.{UnitParts, source_in}

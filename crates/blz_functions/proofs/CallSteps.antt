@@ -4,11 +4,11 @@ use Rattle.std.specs.Prelude.{is_some, nat_lt}
 use Rattle.std.specs.List.{slice_get}
 use Rattle.std.proofs.lemmas.Bool.{ltb-false, eq-eqb}
 use Rattle.blz_model.specs.Reads.{Read, ◌>>=◌}
-use Rattle.blz_entry.specs.Forest.{Info, Head, Close, Open, Forest, Empty, Node, Grown, leaf, grown_step, Leads}
-use Rattle.blz_entry.specs.Walks.{Walk, head_at, next_of}
-use Rattle.blz_entry.specs.declared.entries.Entry.{Entry}
-use Rattle.blz_entry.specs.declared.value.AttrValue.{AttrValue}
-use Rattle.blz_entry.proofs.Preorder.{IfEnds}
+use Rattle.blz_info.specs.Forest.{Info, Head, Close, Open, Forest, Empty, Node, Grown, leaf, grown_step, Leads}
+use Rattle.blz_info.specs.Walks.{Walk, head_at, next_of}
+use Rattle.blz_info.specs.declared.entries.Entry.{Entry}
+use Rattle.blz_info.specs.declared.value.AttrValue.{AttrValue}
+use Rattle.blz_info.proofs.Preorder.{IfEnds}
 use Rattle.blz_functions.specs.declared.levels.Above.{Above}
 use Rattle.blz_functions.specs.declared.levels.Above.TheVariants.{Calls}
 use Rattle.blz_functions.specs.CallTree.{CallLists, RangedCall, all_closed, children, calls_below, calls_of, trees_below, calls_with, calls_from, no_calls, lists_below, unit_calls}

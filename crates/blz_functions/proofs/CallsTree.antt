@@ -6,7 +6,7 @@ use Rattle.std.proofs.lemmas.List.{append-nil, length-map}
 use Rattle.std.proofs.lemmas.Option.{slice_get_within}
 use Rattle.blz_model.specs.Reads.{◌>>=◌}
 use Rattle.blz_entry.specs.Folds.{fold_maybe}
-use Rattle.blz_entry.specs.Forest.{Info, Forest, Empty, Node, Grown}
+use Rattle.blz_info.specs.Forest.{Info, Forest, Empty, Node, Grown}
 use Rattle.blz_ranges.specs.declared.span.Span.{Span}
 use Rattle.blz_functions.specs.declared.description.Description.{Description}
 use Rattle.blz_ranges.specs.declared.grouped.Grouped.{Grouped}

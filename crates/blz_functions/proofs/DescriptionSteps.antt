@@ -2,23 +2,23 @@
 use Rattle.std.proofs.Common.{◌≡◌, ℕ, Bool, true, false, cond, leb, eqb, inl, inr, ◌≤◌, List, [], ◌∷◌, length, Option, Some, None, refl, sym, ap, subst, ◌∙◌, arith}
 use Rattle.std.specs.Prelude.{◌&&◌, ◌||◌, ◌⊎◌}
 use Rattle.blz_model.specs.Reads.{Read, ◌>>=◌}
-use Rattle.blz_entry.specs.Attributes.{attribute, attributes}
+use Rattle.blz_info.specs.Attributes.{attribute, attributes}
 use Rattle.blz_entry.specs.Folds.{fold_maybe}
 use Rattle.blz_entry.specs.RangeLists.{range_step}
-use Rattle.blz_entry.specs.Wanted.{Wanted, is_wanted, wanted_in, wanted_of}
+use Rattle.blz_info.specs.Wanted.{Wanted, is_wanted, wanted_in, wanted_of}
 use Rattle.blz_entry.specs.declared.ranges.RangeAttributes.{RangeAttributes}
-use Rattle.blz_entry.specs.Walks.{Source, Walk, walk_from, next_of}
+use Rattle.blz_info.specs.Walks.{Source, Walk, walk_from, next_of}
 use Rattle.blz_error.specs.declared.kind.ErrorKind.TheVariants.{InvalidDwarf}
 use Rattle.blz_model.specs.LebNumbers.{uleb}
 use Rattle.blz_model.specs.Part.{Good, Broken}
-use Rattle.blz_entry.proofs.Ahead.{Past, uleb_past}
+use Rattle.blz_info.proofs.Ahead.{Past, uleb_past}
 use Rattle.blz_entry.proofs.RootSteps.{apart}
-use Rattle.blz_entry.proofs.WalkSteps.{walk_made}
+use Rattle.blz_info.proofs.WalkSteps.{walk_made}
 use Rattle.blz_functions.proofs.MetEntries.{cut_length, ended, next_is}
 use Rattle.std.proofs.lemmas.Bool.{cases_Bool, eqb-true}
-use Rattle.blz_entry.specs.declared.abbreviations.AttrSpec.{AttrSpec}
-use Rattle.blz_entry.specs.declared.text.StrPlace.{StrPlace}
-use Rattle.blz_entry.specs.declared.value.AttrValue.{AttrValue}
+use Rattle.blz_info.specs.declared.abbreviations.AttrSpec.{AttrSpec}
+use Rattle.blz_info.specs.declared.text.StrPlace.{StrPlace}
+use Rattle.blz_info.specs.declared.value.AttrValue.{AttrValue}
 use Rattle.blz_functions.specs.declared.description.CallSite.{CallSite}
 use Rattle.blz_functions.specs.declared.description.Description.{Description}
 use Rattle.blz_functions.specs.declared.referred.Visited.TheVariants.{Named}

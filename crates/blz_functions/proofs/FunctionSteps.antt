@@ -2,14 +2,14 @@
 use Rattle.std.proofs.Common.{◌≡◌, ℕ, ◌+◌, ◌-◌, ◌<◌, Bool, true, false, cond, List, [], ◌∷◌, Option, Some, None, refl, sym, ap, ◌∙◌, arith, inl, inr}
 use Rattle.std.specs.Prelude.{option_map}
 use Rattle.blz_model.specs.Reads.{Read, ◌>>=◌}
-use Rattle.blz_entry.specs.Abbrevs.{Abbrev}
+use Rattle.blz_info.specs.Abbrevs.{Abbrev}
 use Rattle.blz_ranges.specs.declared.span.Span.{Span}
-use Rattle.blz_entry.specs.declared.value.AttrValue.{AttrValue}
-use Rattle.blz_entry.specs.declared.entries.Entry.{Entry}
-use Rattle.blz_entry.specs.Forest.{Info, Head, Open, flat_step}
+use Rattle.blz_info.specs.declared.value.AttrValue.{AttrValue}
+use Rattle.blz_info.specs.declared.entries.Entry.{Entry}
+use Rattle.blz_info.specs.Forest.{Info, Head, Open, flat_step}
 use Rattle.blz_entry.specs.Folds.{fold_maybe}
-use Rattle.blz_entry.specs.Walks.{Walk, head_at, next_of}
-use Rattle.blz_entry.proofs.Preorder.{flat_on, flat_end}
+use Rattle.blz_info.specs.Walks.{Walk, head_at, next_of}
+use Rattle.blz_info.proofs.Preorder.{flat_on, flat_end}
 use Rattle.blz_functions.specs.declared.description.Description.{Description}
 use Rattle.blz_functions.specs.Describing.{Refer, undescribed, description_step, described_to}
 use Rattle.blz_functions.specs.FunctionList.{RangedFunction, function_by, function_of, is_function, is_function_tag, functions_among, entries_from, infos, Lists, with_ranges, lists_with, lists_added, lists_from, function_behind, entry_met}

@@ -8,14 +8,14 @@ use Rattle.blz_entry.specs.RangeLists.{range_offset, range_step, range_entry_at,
 use Rattle.blz_entry.specs.StringPlaces.{string_of, indexed_string, sup_string}
 use Rattle.blz_entry.specs.declared.ranges.RangeAttributes.{RangeAttributes}
 use Rattle.blz_entry.specs.declared.root.UnitRoot.{UnitRoot}
-use Rattle.blz_entry.specs.declared.section.Section.{Section}
-use Rattle.blz_entry.specs.declared.section.Sections.{Sections}
+use Rattle.blz_info.specs.declared.section.Section.{Section}
+use Rattle.blz_info.specs.declared.section.Sections.{Sections}
 use Rattle.blz_ranges.specs.declared.span.Span.{Span}
-use Rattle.blz_entry.specs.declared.text.StrPlace.{StrPlace}
-use Rattle.blz_entry.specs.declared.units.UnitHeader.{UnitHeader}
-use Rattle.blz_entry.specs.declared.value.AttrValue.{AttrValue}
-use Rattle.blz_entry.specs.declared.value.AttrValue.TheVariants.{SupStr}
-use Rattle.blz_entry.specs.FileSections.{sections_view}
+use Rattle.blz_info.specs.declared.text.StrPlace.{StrPlace}
+use Rattle.blz_info.specs.declared.units.UnitHeader.{UnitHeader}
+use Rattle.blz_info.specs.declared.value.AttrValue.{AttrValue}
+use Rattle.blz_info.specs.declared.value.AttrValue.TheVariants.{SupStr}
+use Rattle.blz_info.specs.FileSections.{sections_view}
 use Rattle.blz_functions.specs.Leaves.{lying}
 
 sup_same : (o : Option Section) (offset : ℕ) (s : Sections) → s.sup_strings ≡ o → sup_string s.sup_strings offset ≡ sup_string (lying (sections_view s)).sup_strings offset

@@ -4,18 +4,18 @@ use Rattle.std.specs.Prelude.{is_some, option_map, nat_lt, pos}
 use Rattle.std.proofs.lemmas.Bool.{cases_Bool, ltb-true, ltb-false, eqb-true}
 use Rattle.blz_model.specs.LebNumbers.{uleb}
 use Rattle.blz_model.specs.Reads.{Read, ◌>>=◌}
-use Rattle.blz_entry.specs.Abbrevs.{Abbrev, of_code}
-use Rattle.blz_entry.specs.Attributes.{attribute, attributes, passed}
-use Rattle.blz_entry.specs.Contents.{Contents}
-use Rattle.blz_entry.specs.declared.abbreviations.AttrSpec.{AttrSpec}
-use Rattle.blz_entry.specs.declared.encoding.Encoding.{Encoding}
-use Rattle.blz_entry.specs.declared.text.StrBase.{StrBase}
-use Rattle.blz_entry.specs.declared.value.AttrValue.{AttrValue}
-use Rattle.blz_entry.specs.Forest.{Info, Head, Close, Open, LeadsOn}
+use Rattle.blz_info.specs.Abbrevs.{Abbrev, of_code}
+use Rattle.blz_info.specs.Attributes.{attribute, attributes, passed}
+use Rattle.blz_info.specs.Contents.{Contents}
+use Rattle.blz_info.specs.declared.abbreviations.AttrSpec.{AttrSpec}
+use Rattle.blz_info.specs.declared.encoding.Encoding.{Encoding}
+use Rattle.blz_info.specs.declared.text.StrBase.{StrBase}
+use Rattle.blz_info.specs.declared.value.AttrValue.{AttrValue}
+use Rattle.blz_info.specs.Forest.{Info, Head, Close, Open, LeadsOn}
 use Rattle.blz_entry.specs.Folds.{fold_maybe}
-use Rattle.blz_entry.specs.Walks.{Source, Walk, head_at, next_of, entry_from, skipped_of}
-use Rattle.blz_entry.specs.declared.entries.Entry.{Entry}
-use Rattle.blz_entry.proofs.HeadsLead.{heads_lead_on}
+use Rattle.blz_info.specs.Walks.{Source, Walk, head_at, next_of, entry_from, skipped_of}
+use Rattle.blz_info.specs.declared.entries.Entry.{Entry}
+use Rattle.blz_info.proofs.HeadsLead.{heads_lead_on}
 use Rattle.blz_functions.specs.declared.description.Description.{Description}
 use Rattle.blz_functions.specs.Describing.{Refer, undescribed, description_step, described, undescribed_to, described_to, described_if, specs_of}
 use Rattle.blz_functions.specs.Leaves.{UnitParts, source_in}

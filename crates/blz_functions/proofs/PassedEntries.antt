@@ -3,12 +3,12 @@ use Rattle.std.proofs.Common.{◌≡◌, ℕ, zero, suc, ◌<◌, Bool, true, fa
 use Rattle.std.specs.Prelude.{not, ◌&&◌}
 use Rattle.std.proofs.lemmas.Bool.{cases_Bool}
 use Rattle.blz_model.specs.Reads.{◌>>=◌}
-use Rattle.blz_entry.specs.Passing.{is_leaf, past, past_one}
-use Rattle.blz_entry.specs.Walks.{Walk, next_of, skipped_of}
-use Rattle.blz_entry.specs.declared.entries.Entry.{Entry}
-use Rattle.blz_entry.specs.declared.passing.Passing.{Passing}
-use Rattle.blz_entry.specs.declared.passing.Passing.TheVariants.{Others, Leaves}
-use Rattle.blz_entry.proofs.PassingSteps.{passed_entry, behind_skipped}
+use Rattle.blz_info.specs.Passing.{is_leaf, past, past_one}
+use Rattle.blz_info.specs.Walks.{Walk, next_of, skipped_of}
+use Rattle.blz_info.specs.declared.entries.Entry.{Entry}
+use Rattle.blz_info.specs.declared.passing.Passing.{Passing}
+use Rattle.blz_info.specs.declared.passing.Passing.TheVariants.{Others, Leaves}
+use Rattle.blz_info.proofs.PassingSteps.{passed_entry, behind_skipped}
 use Rattle.blz_functions.specs.CallTree.{CallLists, is_call_tag}
 use Rattle.blz_functions.specs.CallWalk.{innermost, levels_behind, call_depth, call_met}
 use Rattle.blz_functions.specs.declared.levels.Above.{Above}

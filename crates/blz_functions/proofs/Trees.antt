@@ -2,8 +2,8 @@
 use Rattle.std.proofs.Common.{◌≡◌, ℕ, zero, suc, ◌-◌, ◌<◌, ◌≤◌, Bool, true, false, ltb, Option, Some, None, refl, ap, ◌∙◌, arith, inl, inr}
 use Rattle.std.proofs.lemmas.Bool.{cases_Bool, cases_lt, ltb-true, le-ltb, lt-ltb, and_from, both_ways}
 use Rattle.blz_model.specs.Reads.{◌>>=◌}
-use Rattle.blz_entry.specs.Forest.{Info, Head, Close, Open, Grown, node, leaf, grown_step, grown, Leads, LeadsOn}
-use Rattle.blz_entry.proofs.Preorder.{IfEnds, ends}
+use Rattle.blz_info.specs.Forest.{Info, Head, Close, Open, Grown, node, leaf, grown_step, grown, Leads, LeadsOn}
+use Rattle.blz_info.proofs.Preorder.{IfEnds, ends}
 use Rattle.blz_functions.specs.CallTree.{all_closed, children}
 
 -- ---- enough fuel is enough

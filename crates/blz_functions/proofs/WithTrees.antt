@@ -4,7 +4,7 @@ use Rattle.std.specs.Prelude.{is_some}
 use Rattle.std.proofs.lemmas.Bool.{cases_Bool}
 use Rattle.blz_model.specs.Reads.{◌>>=◌}
 use Rattle.blz_entry.specs.Folds.{fold_maybe}
-use Rattle.blz_entry.specs.Forest.{Info, Forest, Empty, Node}
+use Rattle.blz_info.specs.Forest.{Info, Forest, Empty, Node}
 use Rattle.blz_ranges.specs.declared.span.Span.{Span}
 use Rattle.blz_functions.specs.declared.description.Description.{Description}
 use Rattle.blz_functions.specs.declared.levels.Above.{Above}

@@ -3,8 +3,8 @@ use Rattle.std.specs.Prelude.{◌≡◌, ℕ, suc, ◌+◌, ◌-◌, Bool, true,
 use Rattle.blz_constants.specs.declared.dwarf.TheConstants as dwarf
 use Rattle.blz_model.specs.Reads.{◌>>=◌}
 use Rattle.blz_entry.specs.Folds.{fold_maybe}
-use Rattle.blz_entry.specs.Forest.{Info, Head, Close, Open, Forest, Empty, Node, Grown, grown}
-use Rattle.blz_entry.specs.Walks.{head_at}
+use Rattle.blz_info.specs.Forest.{Info, Head, Close, Open, Forest, Empty, Node, Grown, grown}
+use Rattle.blz_info.specs.Walks.{head_at}
 use Rattle.blz_ranges.specs.declared.span.Span.{Span}
 use Rattle.blz_functions.specs.declared.description.Description.{Description}
 use Rattle.blz_ranges.specs.declared.grouped.Grouped.{Grouped}

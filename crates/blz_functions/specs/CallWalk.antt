@@ -2,8 +2,8 @@
 use Rattle.std.specs.Prelude.{◌≡◌, ℕ, ◌+◌, ◌-◌, ◌≤◌, List, ◌∷◌, [], ◌++◌, length, take, Option, Some, None, is_some, ◌==◌, if◌then◌else◌}
 use Rattle.std.specs.List.{slice_get}
 use Rattle.blz_model.specs.Reads.{◌>>=◌}
-use Rattle.blz_entry.specs.Walks.{Walk}
-use Rattle.blz_entry.specs.declared.entries.Entry.{Entry}
+use Rattle.blz_info.specs.Walks.{Walk}
+use Rattle.blz_info.specs.declared.entries.Entry.{Entry}
 use Rattle.blz_functions.specs.declared.description.Description.{Description}
 use Rattle.blz_functions.specs.declared.levels.Above.{Above}
 use Rattle.blz_functions.specs.declared.levels.Above.TheVariants.{Calls, AnotherFunction}

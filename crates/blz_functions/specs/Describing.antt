@@ -2,15 +2,15 @@
 use Rattle.std.specs.Prelude.{ℕ, ◌^◌, ◌%◌, Bool, ◌||◌, ◌&&◌, not, List, [], Option, Some, None, nat_lt, ◌==◌, if◌then◌else◌}
 use Rattle.blz_constants.specs.declared.dwarf.TheConstants as dwarf
 use Rattle.blz_model.specs.Reads.{◌>>=◌}
-use Rattle.blz_entry.specs.Abbrevs.{Abbrev, of_code}
-use Rattle.blz_entry.specs.Attributes.{attributes}
+use Rattle.blz_info.specs.Abbrevs.{Abbrev, of_code}
+use Rattle.blz_info.specs.Attributes.{attributes}
 use Rattle.blz_entry.specs.Folds.{fold_maybe}
-use Rattle.blz_entry.specs.Forms.{udata}
-use Rattle.blz_entry.specs.Walks.{Walk, skipped_of}
-use Rattle.blz_entry.specs.declared.abbreviations.AttrSpec.{AttrSpec}
+use Rattle.blz_info.specs.Forms.{udata}
+use Rattle.blz_info.specs.Walks.{Walk, skipped_of}
+use Rattle.blz_info.specs.declared.abbreviations.AttrSpec.{AttrSpec}
 use Rattle.blz_entry.specs.declared.ranges.RangeAttributes.{RangeAttributes}
-use Rattle.blz_entry.specs.declared.text.StrPlace.{StrPlace}
-use Rattle.blz_entry.specs.declared.value.AttrValue.{AttrValue}
+use Rattle.blz_info.specs.declared.text.StrPlace.{StrPlace}
+use Rattle.blz_info.specs.declared.value.AttrValue.{AttrValue}
 use Rattle.blz_functions.specs.declared.description.CallSite.{CallSite}
 use Rattle.blz_functions.specs.declared.description.Description.{Description}
 use Rattle.blz_functions.specs.Leaves.{UnitParts, range_step_in, source_in}

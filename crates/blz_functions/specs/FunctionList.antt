@@ -3,10 +3,10 @@ use Rattle.std.specs.Prelude.{ℕ, Bool, List, [], ◌∷◌, ◌++◌, length, 
 use Rattle.blz_constants.specs.declared.dwarf.TheConstants as dwarf
 use Rattle.blz_model.specs.Reads.{◌>>=◌}
 use Rattle.blz_entry.specs.Folds.{fold_maybe}
-use Rattle.blz_entry.specs.Forest.{Info, flat}
+use Rattle.blz_info.specs.Forest.{Info, flat}
 use Rattle.blz_entry.specs.RangeLists.{bounds_of}
-use Rattle.blz_entry.specs.Walks.{Walk, head_at}
-use Rattle.blz_entry.specs.declared.entries.Entry.{Entry}
+use Rattle.blz_info.specs.Walks.{Walk, head_at}
+use Rattle.blz_info.specs.declared.entries.Entry.{Entry}
 use Rattle.blz_ranges.specs.declared.span.Span.{Span}
 use Rattle.blz_functions.specs.declared.functions.Function.{Function}
 use Rattle.blz_functions.specs.declared.description.Description.{Description}

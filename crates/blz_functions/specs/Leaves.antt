@@ -1,19 +1,19 @@
 -- What is read from the sections of a file, without where they lie in memory.
 use Rattle.std.specs.Prelude.{ℕ, List, Option, option_map}
-use Rattle.blz_entry.specs.Abbrevs.{Abbrev}
-use Rattle.blz_entry.specs.Contents.{Contents}
+use Rattle.blz_info.specs.Abbrevs.{Abbrev}
+use Rattle.blz_info.specs.Contents.{Contents}
 use Rattle.blz_entry.specs.RangeLists.{range_step, ranges_of}
 use Rattle.blz_entry.specs.StringPlaces.{string_of}
-use Rattle.blz_entry.specs.Walks.{Source, source_of}
+use Rattle.blz_info.specs.Walks.{Source, source_of}
 use Rattle.blz_entry.specs.declared.ranges.RangeAttributes.{RangeAttributes}
 use Rattle.blz_entry.specs.declared.root.UnitRoot.{UnitRoot}
-use Rattle.blz_entry.specs.declared.section.Section.{Section}
-use Rattle.blz_entry.specs.declared.section.Sections.{Sections}
+use Rattle.blz_info.specs.declared.section.Section.{Section}
+use Rattle.blz_info.specs.declared.section.Sections.{Sections}
 use Rattle.blz_ranges.specs.declared.span.Span.{Span}
-use Rattle.blz_entry.specs.declared.text.StrPlace.{StrPlace}
-use Rattle.blz_entry.specs.declared.units.UnitHeader.{UnitHeader}
-use Rattle.blz_entry.specs.declared.value.AttrValue.{AttrValue}
-use Rattle.blz_entry.specs.FileSections.{FileSections}
+use Rattle.blz_info.specs.declared.text.StrPlace.{StrPlace}
+use Rattle.blz_info.specs.declared.units.UnitHeader.{UnitHeader}
+use Rattle.blz_info.specs.declared.value.AttrValue.{AttrValue}
+use Rattle.blz_info.specs.FileSections.{FileSections}
 
 abbrev pub at_rest : Contents → Section
 at_rest c = record { bytes = record { ref_ptr = (0, 0); now = c.bytes }; moves = record { ref_ptr = (0, 0); now = c.moves }; order = c.order }

@@ -3,11 +3,11 @@ use Rattle.std.specs.Prelude.{ℕ, Bool, ◌&&◌, ◌||◌, List, [], ◌∷◌
 use Rattle.blz_constants.specs.declared.dwarf.TheConstants as dwarf
 use Rattle.blz_model.specs.Reads.{◌>>=◌}
 use Rattle.blz_model.specs.LebNumbers.{uleb}
-use Rattle.blz_entry.specs.Abbrevs.{of_code}
-use Rattle.blz_entry.specs.Attributes.{attribute}
-use Rattle.blz_entry.specs.declared.abbreviations.AttrSpec.{AttrSpec}
-use Rattle.blz_entry.specs.declared.text.StrPlace.{StrPlace}
-use Rattle.blz_entry.specs.declared.value.AttrValue.{AttrValue}
+use Rattle.blz_info.specs.Abbrevs.{of_code}
+use Rattle.blz_info.specs.Attributes.{attribute}
+use Rattle.blz_info.specs.declared.abbreviations.AttrSpec.{AttrSpec}
+use Rattle.blz_info.specs.declared.text.StrPlace.{StrPlace}
+use Rattle.blz_info.specs.declared.value.AttrValue.{AttrValue}
 use Rattle.blz_functions.specs.declared.referred.Visited.{Visited}
 use Rattle.blz_functions.specs.declared.referred.Visited.TheVariants.{Named, Leads, Nameless}
 use Rattle.blz_functions.specs.Leaves.{UnitParts, string_in, source_in}

@@ -1,6 +1,6 @@
 -- A unit whose entries are read, without where it lies in memory.
 use Rattle.std.specs.Prelude.{◌+◌, ◌^◌, ◌<◌, ◌≤◌, length}
-use Rattle.blz_entry.specs.FileSections.{sections_view}
+use Rattle.blz_info.specs.FileSections.{sections_view}
 use Rattle.blz_functions.specs.declared.open_unit.OpenUnit.{OpenUnit}
 use Rattle.blz_functions.specs.Leaves.{UnitParts}
 

@@ -1,10 +1,10 @@
 -- Where references lead, and the names that they give (DWARF 5 section 7.5.5, class reference).
 use Rattle.std.specs.Prelude.{ℕ, zero, suc, ◌+◌, ◌-◌, Bool, ◌&&◌, List, [], ◌∷◌, Option, Some, None, nat_lt, nat_le, if◌then◌else◌}
 use Rattle.blz_model.specs.Reads.{◌>>=◌}
-use Rattle.blz_entry.specs.declared.text.StrPlace.{StrPlace}
-use Rattle.blz_entry.specs.declared.units.UnitHeader.{UnitHeader}
-use Rattle.blz_entry.specs.declared.value.AttrValue.{AttrValue}
-use Rattle.blz_entry.specs.declared.value.AttrValue.TheVariants.{UnitRef, InfoRef, SupRef}
+use Rattle.blz_info.specs.declared.text.StrPlace.{StrPlace}
+use Rattle.blz_info.specs.declared.units.UnitHeader.{UnitHeader}
+use Rattle.blz_info.specs.declared.value.AttrValue.{AttrValue}
+use Rattle.blz_info.specs.declared.value.AttrValue.TheVariants.{UnitRef, InfoRef, SupRef}
 use Rattle.blz_functions.specs.declared.referred.Visited.{Visited}
 use Rattle.blz_functions.specs.declared.referred.Visited.TheVariants.{Named, Leads, Nameless}
 use Rattle.blz_functions.specs.Leaves.{UnitParts}

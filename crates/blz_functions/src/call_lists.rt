@@ -1,7 +1,7 @@
 //! The inlined calls among the entries below a function.
 ghost use Rattle.std.specs.Prelude.{◌≡◌, ◌++◌, [], ◌≤◌, length, map, OnOk, IfOk};
 ghost use Rattle.blz_model.specs.Part.{Gives};
-ghost use Rattle.blz_entry.specs.Marks.{or_invalid};
+ghost use Rattle.blz_info.specs.Marks.{or_invalid};
 ghost use Rattle.blz_functions.specs.CallTree.{no_calls, call_by, call_added, calls_from, unit_calls};
 ghost use Rattle.blz_functions.specs.CallWalk.{call_if, call_met};
 ghost use Rattle.blz_functions.specs.Describing.{specs_of};

@@ -1,7 +1,7 @@
 //! What an entry is called and covers.
 ghost use Rattle.std.specs.Prelude.{◌≡◌, ◌≤◌, [], Option, None, Some, IfOk, MatchResult, if◌then◌else◌};
 ghost use Rattle.blz_model.specs.Part.{Gives, Exactly, Fails};
-ghost use Rattle.blz_entry.specs.Marks.{or_invalid};
+ghost use Rattle.blz_info.specs.Marks.{or_invalid};
 ghost use Rattle.blz_functions.specs.Describing.{tells_range, tells_site, low_bits, kept_file, with_call_site, no_ranges, undescribed, description_step, described, described_if, specs_of};
 ghost use Rattle.blz_functions.specs.Leaves.{source_in};
 ghost use Rattle.blz_functions.specs.Naming.{referred, name_step};
@@ -183,7 +183,7 @@ impl Description {
     /// The description of the entry that was met last, where it is wanted; a zero has none. Else its attributes are passed
     /// over.
     #[inline(always)]
-    #[tactic(auto, unfolding(crate::specs::Describing::described_if, blz_entry::specs::Walks::skipped_of))]
+    #[tactic(auto, unfolding(crate::specs::Describing::described_if, blz_info::specs::Walks::skipped_of))]
     pub fn of_entry<F: Links>(
         unit: &OpenUnit<'_, '_>,
         links: &mut F,

@@ -1,7 +1,7 @@
 //! The functions among the entries of a unit.
 ghost use Rattle.std.specs.Prelude.{◌≡◌, [], ◌≤◌, map, IfOk};
 ghost use Rattle.blz_model.specs.Part.{Gives};
-ghost use Rattle.blz_entry.specs.Marks.{or_invalid};
+ghost use Rattle.blz_info.specs.Marks.{or_invalid};
 ghost use Rattle.blz_functions.specs.Describing.{specs_of};
 ghost use Rattle.blz_functions.specs.FunctionList.{is_function_tag, function_by, lists_added, function_added, no_lists, unit_lists, entry_met};
 ghost use Rattle.blz_ranges.specs.Keyed.{IsAccepted, begin_key};

@@ -1,7 +1,7 @@
 //! Where the references of a unit lead.
 ghost use Rattle.std.specs.Prelude.{◌≡◌};
 ghost use Rattle.blz_model.specs.Part.{Gives};
-ghost use Rattle.blz_entry.specs.Marks.{or_invalid};
+ghost use Rattle.blz_info.specs.Marks.{or_invalid};
 ghost use Rattle.blz_functions.specs.Describing.{Refer};
 
 use blz_entry::{AttrValue, StrPlace};

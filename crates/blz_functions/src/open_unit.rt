@@ -2,9 +2,9 @@
 ghost use Rattle.std.specs.Prelude.{◌≡◌, ◌≤◌, ◌<◌, ◌+◌, ◌^◌, ◌&&◌, length, nat_le, if◌then◌else◌};
 ghost use Rattle.blz_error.specs.declared.kind.ErrorKind.TheVariants.{InvalidDwarf};
 ghost use Rattle.blz_model.specs.Part.{Exactly, Good, Broken};
-ghost use Rattle.blz_entry.specs.Marks.{or_invalid};
+ghost use Rattle.blz_info.specs.Marks.{or_invalid};
 ghost use Rattle.blz_entry.specs.RangeLists.{Appends};
-ghost use Rattle.blz_entry.specs.Walks.{walk_from};
+ghost use Rattle.blz_info.specs.Walks.{walk_from};
 ghost use Rattle.blz_functions.specs.Leaves.{string_in, range_step_in, ranges_in, source_in};
 ghost use Rattle.blz_functions.specs.Opened.{open_view, CanBeOpened};
 

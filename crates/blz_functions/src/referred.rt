@@ -1,7 +1,7 @@
 //! An entry that another one refers to.
 ghost use Rattle.std.specs.Prelude.{◌≡◌, Option, None, Some, if◌then◌else◌};
 ghost use Rattle.blz_model.specs.Part.{Exactly};
-ghost use Rattle.blz_entry.specs.Marks.{or_invalid};
+ghost use Rattle.blz_info.specs.Marks.{or_invalid};
 ghost use Rattle.blz_functions.specs.Leaves.{source_in};
 ghost use Rattle.blz_functions.specs.Naming.{is_linkage_name, is_name, is_reference, or_else, linkage_of, name_behind, link_behind, visit_end, visit_from, visited};
 ghost use Rattle.blz_functions.specs.Opened.{open_view, CanBeOpened};
@@ -119,7 +119,7 @@ fn visit_attributes(unit: &OpenUnit<'_, '_>, entries: &mut Entries<'_, '_>) -> R
 /// What the entry at a place of a unit tells of a name: its first linkage name, else its last name, else where its last
 /// reference leads. InvalidDwarf exactly where no entry of the unit stands there, or one of its attributes up to its
 /// linkage name has no value.
-#[tactic(auto, unfolding(crate::specs::Naming::visited, blz_entry::specs::Walks::next_of, blz_entry::specs::Walks::entry_from, blz_entry::specs::Attributes::passed))]
+#[tactic(auto, unfolding(crate::specs::Naming::visited, blz_info::specs::Walks::next_of, blz_info::specs::Walks::entry_from, blz_info::specs::Attributes::passed))]
 pub fn visit(unit: &OpenUnit<'_, '_>, place: usize) -> Result<Visited>
     requires { CanBeOpened unit.now }
     ensures { Exactly (λ v. v) result (or_invalid (visited (open_view unit.now) place)) }

@@ -2,7 +2,7 @@
 use Rattle.std.proofs.Common.{◌≡◌, ℕ, Result, subst}
 use Rattle.blz_error.specs.Fault.{Fault}
 use Rattle.blz_model.specs.Part.{Gives}
-use Rattle.blz_entry.specs.Marks.{or_invalid}
+use Rattle.blz_info.specs.Marks.{or_invalid}
 use Rattle.blz_index.specs.BuiltUnits.{Files}
 use Rattle.blz_functions.specs.CallTree.{CallLists, unit_calls}
 use Rattle.blz_functions.specs.FunctionList.{Lists, unit_lists}

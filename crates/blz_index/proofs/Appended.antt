@@ -7,10 +7,10 @@ use Rattle.blz_error.specs.declared.kind.ErrorKind.{ErrorKind}
 use Rattle.blz_error.specs.declared.kind.ErrorKind.TheVariants.{OutOfMemory}
 use Rattle.blz_model.specs.Part.{Good, Fails}
 use Rattle.blz_model.specs.Reads.{◌>>=◌}
-use Rattle.blz_entry.specs.Marks.{or_invalid}
+use Rattle.blz_info.specs.Marks.{or_invalid}
 use Rattle.blz_entry.specs.RangeLists.{appended}
 use Rattle.blz_ranges.specs.declared.span.Span.{Span}
-use Rattle.blz_entry.proofs.Marked.{good_some, marks_on}
+use Rattle.blz_info.proofs.Marked.{good_some, marks_on}
 use Rattle.blz_line.specs.Lookups.{span_of, spans_of}
 use Rattle.blz_line.specs.Sequences.{Sequence}
 use Rattle.blz_line.specs.UnitLines.{LineTable}

@@ -6,14 +6,14 @@ use Rattle.blz_model.specs.Kept.{Kept, is_kept}
 use Rattle.blz_model.specs.Part.{Good}
 use Rattle.blz_model.specs.declared.cache.Cache.{Cache}
 use Rattle.blz_model.specs.declared.cache.Cache.TheVariants.{Empty, Value, Mark}
-use Rattle.blz_entry.specs.Marks.{or_invalid}
-use Rattle.blz_entry.specs.declared.units.UnitHeader.{UnitHeader}
+use Rattle.blz_info.specs.Marks.{or_invalid}
+use Rattle.blz_info.specs.declared.units.UnitHeader.{UnitHeader}
 use Rattle.blz_index.specs.declared.built_unit.BuiltUnit.{BuiltUnit}
 use Rattle.blz_index.specs.declared.built_units.BuiltUnits as built
 use Rattle.blz_index.specs.declared.built_units.Side.{Side}
 use Rattle.blz_index.specs.declared.built_units.Side.TheVariants.{File}
 use Rattle.blz_index.specs.declared.built_units.SideUnits.{SideUnits}
-use Rattle.blz_entry.specs.FileSections.{FileSections}
+use Rattle.blz_info.specs.FileSections.{FileSections}
 use Rattle.blz_index.specs.Sharing.{AreShared}
 use Rattle.blz_index.specs.BuiltUnits.{Files, built_view, BuiltFits}
 use Rattle.blz_index.specs.KeptParts.{or_empty, is_missing, unit_of, IsFilled, IsBuilt, IsPartOf, AllBuilt, SideFits, BuiltFit, side_unit}

@@ -7,7 +7,7 @@ use Rattle.std.proofs.lemmas.List.{length-set}
 use Rattle.blz_model.specs.Kept.{Kept, is_kept}
 use Rattle.blz_model.specs.declared.cache.Cache.{Cache}
 use Rattle.blz_model.specs.declared.cache.Cache.TheVariants.{Empty, Value, Mark}
-use Rattle.blz_entry.specs.Marks.{or_invalid}
+use Rattle.blz_info.specs.Marks.{or_invalid}
 use Rattle.blz_entry.specs.declared.root.UnitRoot.{UnitRoot}
 use Rattle.blz_line.specs.UnitLines.{OrderedLines}
 use Rattle.blz_index.specs.declared.units.caches.UnitCaches.{UnitCaches}

@@ -3,9 +3,9 @@ use Rattle.std.proofs.Common.{◌≡◌, ℕ, true, false, List, Some, refl}
 use Rattle.std.specs.Str.{is_utf8}
 use Rattle.blz_error.specs.declared.kind.ErrorKind.TheVariants.{InvalidDwarf}
 use Rattle.blz_model.specs.Part.{Good, Broken}
-use Rattle.blz_entry.specs.TextParts.{text_of}
-use Rattle.blz_entry.specs.declared.text.StrPlace.{StrPlace}
-use Rattle.blz_entry.specs.declared.text.Texts.{Texts}
+use Rattle.blz_info.specs.TextParts.{text_of}
+use Rattle.blz_info.specs.declared.text.StrPlace.{StrPlace}
+use Rattle.blz_info.specs.declared.text.Texts.{Texts}
 use Rattle.blz_index.specs.UnitSites.{call_name}
 
 pub name_good : (texts : Texts) (place : StrPlace) (bytes : List ℕ) → bytes ≡ text_of texts place → is_utf8 bytes ≡ true → call_name texts (Some place) ≡ Good bytes

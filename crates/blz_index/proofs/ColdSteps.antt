@@ -5,8 +5,8 @@ use Rattle.blz_model.specs.Kept.{Kept}
 use Rattle.blz_model.specs.Part.{Part}
 use Rattle.blz_model.specs.declared.cache.Cache.{Cache}
 use Rattle.blz_model.specs.declared.cache.Cache.TheVariants.{Empty}
-use Rattle.blz_entry.specs.Marks.{or_invalid}
-use Rattle.blz_entry.specs.declared.units.UnitHeader.{UnitHeader}
+use Rattle.blz_info.specs.Marks.{or_invalid}
+use Rattle.blz_info.specs.declared.units.UnitHeader.{UnitHeader}
 use Rattle.blz_index.specs.declared.built_unit.BuiltUnit.{BuiltUnit}
 use Rattle.blz_index.specs.declared.built_units.Side.{Side}
 use Rattle.blz_index.specs.declared.built_units.Side.TheVariants.{File, Sup}

@@ -6,13 +6,13 @@ use Rattle.blz_error.specs.declared.kind.ErrorKind.{ErrorKind}
 use Rattle.blz_error.specs.declared.kind.ErrorKind.TheVariants.{InvalidDwarf}
 use Rattle.blz_model.specs.Part.{Good, Broken, Fails}
 use Rattle.blz_model.specs.Reads.{◌>>=◌}
-use Rattle.blz_entry.specs.Contents.{Contents}
+use Rattle.blz_info.specs.Contents.{Contents}
 use Rattle.blz_entry.specs.Folds.{fold_maybe}
-use Rattle.blz_entry.specs.Headers.{header_at, UnitList, next_unit, behind, headers_from, headers_behind}
-use Rattle.blz_entry.specs.Marks.{or_invalid}
-use Rattle.blz_entry.specs.declared.units.UnitHeader.{UnitHeader}
-use Rattle.blz_entry.proofs.HeadersEnd.{headers_on, headers_end}
-use Rattle.blz_entry.proofs.Marked.{marks, good_some}
+use Rattle.blz_info.specs.Headers.{header_at, UnitList, next_unit, behind, headers_from, headers_behind}
+use Rattle.blz_info.specs.Marks.{or_invalid}
+use Rattle.blz_info.specs.declared.units.UnitHeader.{UnitHeader}
+use Rattle.blz_info.proofs.HeadersEnd.{headers_on, headers_end}
+use Rattle.blz_info.proofs.Marked.{marks, good_some}
 use Rattle.blz_index.specs.UnitTables.{is_type, no_types}
 
 -- ---- one call

@@ -4,10 +4,10 @@ use Rattle.std.proofs.lemmas.Bool.{false≢true}
 use Rattle.blz_error.specs.declared.kind.ErrorKind.{ErrorKind}
 use Rattle.blz_model.specs.Part.{Good, Fails}
 use Rattle.blz_model.specs.Reads.{◌>>=◌}
-use Rattle.blz_entry.specs.Marks.{or_invalid}
+use Rattle.blz_info.specs.Marks.{or_invalid}
 use Rattle.blz_ranges.specs.declared.span.Span.{Span}
-use Rattle.blz_entry.specs.declared.units.UnitHeader.{UnitHeader}
-use Rattle.blz_entry.proofs.Marked.{marks_on}
+use Rattle.blz_info.specs.declared.units.UnitHeader.{UnitHeader}
+use Rattle.blz_info.proofs.Marked.{marks_on}
 use Rattle.blz_ranges.specs.Owned.{Owned, owned, own_all, filled_up}
 use Rattle.blz_index.specs.UnitTables.{KeptUnits, added_to, keep}
 use Rattle.blz_index.proofs.Appended.{list_of, flag_of}

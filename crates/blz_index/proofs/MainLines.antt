@@ -2,12 +2,12 @@
 use Rattle.std.proofs.Common.{◌≡◌, ℕ, Option, Some, None, refl, sym, ap}
 use Rattle.std.specs.List.{slice_get}
 use Rattle.blz_model.specs.Reads.{◌>>=◌}
-use Rattle.blz_entry.specs.AbbreviationTables.{abbreviations}
+use Rattle.blz_info.specs.AbbreviationTables.{abbreviations}
 use Rattle.blz_entry.specs.Roots.{root_of}
 use Rattle.blz_entry.specs.declared.root.UnitRoot.{UnitRoot}
-use Rattle.blz_entry.specs.declared.units.UnitHeader.{UnitHeader}
+use Rattle.blz_info.specs.declared.units.UnitHeader.{UnitHeader}
 use Rattle.blz_line.specs.UnitLines.{maybe_table}
-use Rattle.blz_entry.specs.FileSections.{FileSections}
+use Rattle.blz_info.specs.FileSections.{FileSections}
 use Rattle.blz_index.specs.BuiltUnits.{Files, built, has_lines}
 use Rattle.blz_index.specs.KeptParts.{unit_root}
 use Rattle.blz_functions.specs.Leaves.{UnitParts, lying}

@@ -2,7 +2,7 @@
 use Rattle.std.proofs.Common.{◌≡◌, ℕ, suc, ◌+◌, List, [], ◌∷◌, ◌++◌, Option, Some, None, refl, sym, ap, ◌∙◌, append_assoc}
 use Rattle.std.proofs.lemmas.List.{append-nil}
 use Rattle.blz_model.specs.Reads.{◌>>=◌}
-use Rattle.blz_entry.specs.declared.text.Texts.{Texts}
+use Rattle.blz_info.specs.declared.text.Texts.{Texts}
 use Rattle.blz_index.specs.BuiltUnits.{Files}
 use Rattle.blz_functions.specs.FunctionList.{Lists}
 use Rattle.blz_index.specs.ShownFunctions.{Numbered, shown_from}

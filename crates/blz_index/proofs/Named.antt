@@ -8,7 +8,7 @@ use Rattle.std.proofs.Math.ListN.{drop_of_length-le}
 use Rattle.std.proofs.lemmas.List.{append-nil}
 use Rattle.std.proofs.lemmas.Option.{get_or_from_slice_get, slice_get_within}
 use Rattle.blz_entry.specs.AddressSets.{pairs_of}
-use Rattle.blz_entry.specs.Contents.{Contents}
+use Rattle.blz_info.specs.Contents.{Contents}
 use Rattle.blz_entry.specs.declared.aranges.ArangeSet.{ArangeSet}
 use Rattle.blz_ranges.specs.declared.span.Span.{Span}
 use Rattle.blz_index.specs.Sets.{ranges_for, named, IsExtent}

@@ -6,8 +6,8 @@ use Rattle.blz_error.specs.Fault.{Fault}
 use Rattle.blz_error.specs.declared.kind.ErrorKind.TheVariants.{InvalidDwarf, OutOfMemory}
 use Rattle.blz_model.specs.Answers.{Site}
 use Rattle.blz_model.specs.Part.{Part, Good, Broken, ◌>>=◌, or_mark, Exactly}
-use Rattle.blz_entry.specs.Marks.{or_invalid}
-use Rattle.blz_entry.specs.declared.text.Texts.{Texts}
+use Rattle.blz_info.specs.Marks.{or_invalid}
+use Rattle.blz_info.specs.declared.text.Texts.{Texts}
 use Rattle.blz_line.specs.declared.lines.Location.{Location}
 use Rattle.blz_line.specs.declared.row.LineRow.{LineRow}
 use Rattle.blz_line.specs.FileNames.{file_text}

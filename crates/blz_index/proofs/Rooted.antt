@@ -2,18 +2,18 @@
 use Rattle.std.proofs.Common.{◌≡◌, ℕ, List, [], ◌∷◌, Option, Some, None, refl, ap, ◌∙◌}
 use Rattle.std.specs.Prelude.{option_and_then, if◌then◌else◌}
 use Rattle.blz_model.specs.Reads.{◌>>=◌}
-use Rattle.blz_entry.specs.Abbrevs.{Abbrev}
+use Rattle.blz_info.specs.Abbrevs.{Abbrev}
 use Rattle.blz_entry.specs.Folds.{fold_maybe}
 use Rattle.blz_entry.specs.Roots.{root_attributes, noted_step, nothing_noted, based, low_behind, root_step, root_of}
 use Rattle.blz_entry.specs.StringPlaces.{string_of}
-use Rattle.blz_entry.specs.Walks.{source_of}
+use Rattle.blz_info.specs.Walks.{source_of}
 use Rattle.blz_entry.specs.declared.ranges.RangeAttributes.{RangeAttributes}
 use Rattle.blz_entry.specs.declared.root.UnitRoot.{UnitRoot}
-use Rattle.blz_entry.specs.declared.section.Sections.{Sections}
-use Rattle.blz_entry.specs.declared.text.StrPlace.{StrPlace}
-use Rattle.blz_entry.specs.declared.units.UnitHeader.{UnitHeader}
-use Rattle.blz_entry.specs.declared.value.AttrValue.{AttrValue}
-use Rattle.blz_entry.specs.FileSections.{sections_view}
+use Rattle.blz_info.specs.declared.section.Sections.{Sections}
+use Rattle.blz_info.specs.declared.text.StrPlace.{StrPlace}
+use Rattle.blz_info.specs.declared.units.UnitHeader.{UnitHeader}
+use Rattle.blz_info.specs.declared.value.AttrValue.{AttrValue}
+use Rattle.blz_info.specs.FileSections.{sections_view}
 use Rattle.blz_functions.specs.Leaves.{lying}
 use Rattle.blz_functions.proofs.Lying.{string_lying, range_step_lying}
 

@@ -7,11 +7,11 @@ use Rattle.std.proofs.lemmas.Option.{IfSome_then}
 use Rattle.blz_model.specs.Reads.{Read, ◌>>=◌}
 use Rattle.blz_bytes.specs.Pieces.{byte}
 use Rattle.blz_entry.specs.AddressSets.{rounded_up, set_of, set_in, set_at, SetList, next_set}
-use Rattle.blz_entry.specs.Contents.{Contents, cut, number_at, offset_at}
-use Rattle.blz_entry.specs.Headers.{extent_at, is_address_size}
+use Rattle.blz_info.specs.Contents.{Contents, cut, number_at, offset_at}
+use Rattle.blz_info.specs.Headers.{extent_at, is_address_size}
 use Rattle.blz_entry.specs.declared.aranges.ArangeSet.{ArangeSet}
-use Rattle.blz_entry.specs.declared.extent.Extent.{Extent}
-use Rattle.blz_entry.proofs.HeadersEnd.{extent_ahead}
+use Rattle.blz_info.specs.declared.extent.Extent.{Extent}
+use Rattle.blz_info.proofs.HeadersEnd.{extent_ahead}
 use Rattle.blz_index.specs.Sets.{sets_in, sets_from, sets_behind}
 
 each : {A B : Type 0} (o : Option A) (f : A → Option B) (P : B → Type 0) → ((x : A) → IfSome (f x) P) → IfSome (o >>= f) P

@@ -8,9 +8,9 @@ use Rattle.std.specs.BTreeMap.{BTreeMap, get, IsEmpty, Updates}
 use Rattle.std.specs.Ordering.{nat_cmp, is_eq}
 use Rattle.std.proofs.lemmas.Bool.{cases_eq}
 use Rattle.std.proofs.lemmas.Grind.{common_steps}
-use Rattle.blz_entry.specs.FileSections.{FileSections}
-use Rattle.blz_entry.specs.AbbreviationTables.{abbreviations}
-use Rattle.blz_entry.specs.Abbrevs.{Abbrev}
+use Rattle.blz_info.specs.FileSections.{FileSections}
+use Rattle.blz_info.specs.AbbreviationTables.{abbreviations}
+use Rattle.blz_info.specs.Abbrevs.{Abbrev}
 use Rattle.blz_ranges.specs.declared.span.Span.{Span}
 use Rattle.blz_index.specs.declared.shared_lines.LinesKey.{LinesKey}
 use Rattle.blz_index.specs.declared.shared_lines.ProgramSpans.{ProgramSpans}

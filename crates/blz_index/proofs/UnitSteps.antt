@@ -4,7 +4,7 @@ use Rattle.std.specs.List.{slice_get}
 use Rattle.blz_error.specs.declared.kind.ErrorKind.{ErrorKind}
 use Rattle.blz_model.specs.Answers.{Site}
 use Rattle.blz_model.specs.Part.{Good, Broken}
-use Rattle.blz_entry.specs.declared.text.Texts.{Texts}
+use Rattle.blz_info.specs.declared.text.Texts.{Texts}
 use Rattle.blz_index.specs.declared.units.caches.UnitCaches.{UnitCaches}
 use Rattle.blz_index.specs.BuiltUnits.{Files}
 use Rattle.blz_index.specs.KeptAnswers.{kept_best, kept_line, or_later, first_kept, first_kept_line}

@@ -7,7 +7,7 @@ use Rattle.std.proofs.lemmas.Bool.{cases_Bool}
 use Rattle.std.proofs.lemmas.List.{append-nil}
 use Rattle.std.proofs.lemmas.List.Sorted.{IsNonDecreasingBy-push, IsNonDecreasingBy-short}
 use Rattle.std.proofs.lemmas.Option.{slice_get-get_or}
-use Rattle.blz_entry.specs.declared.units.UnitHeader.{UnitHeader}
+use Rattle.blz_info.specs.declared.units.UnitHeader.{UnitHeader}
 use Rattle.blz_functions.specs.References.{later, last_to, distance_in, unit_at}
 use Rattle.blz_index.specs.UnitLists.{IsInPlace, EndBefore, AreUnits}
 use Rattle.blz_index.specs.UnitTables.{is_type, no_types}

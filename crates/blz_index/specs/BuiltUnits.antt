@@ -4,19 +4,19 @@ use Rattle.std.specs.Arc.{arc_value}
 use Rattle.std.specs.FinMap as map
 use Rattle.blz_model.specs.Reads.{◌>>=◌}
 use Rattle.blz_moves.specs.Relocations.{OffsetMap}
-use Rattle.blz_entry.specs.AbbreviationTables.{abbreviations}
-use Rattle.blz_entry.specs.Abbrevs.{Abbrev}
-use Rattle.blz_entry.specs.Headers.{next_unit}
+use Rattle.blz_info.specs.AbbreviationTables.{abbreviations}
+use Rattle.blz_info.specs.Abbrevs.{Abbrev}
+use Rattle.blz_info.specs.Headers.{next_unit}
 use Rattle.blz_entry.specs.Roots.{root_of}
 use Rattle.blz_entry.specs.declared.root.UnitRoot.{UnitRoot}
-use Rattle.blz_entry.specs.declared.section.Section.{Section}
-use Rattle.blz_entry.specs.declared.section.Sections.{Sections}
-use Rattle.blz_entry.specs.declared.text.Texts.{Texts}
-use Rattle.blz_entry.specs.declared.units.UnitHeader.{UnitHeader}
-use Rattle.blz_entry.specs.declared.units.UnitKind.{UnitKind}
-use Rattle.blz_entry.specs.declared.units.UnitKind.TheVariants.{Compile, TypeUnit, Partial, Skeleton, SplitCompile, SplitType}
+use Rattle.blz_info.specs.declared.section.Section.{Section}
+use Rattle.blz_info.specs.declared.section.Sections.{Sections}
+use Rattle.blz_info.specs.declared.text.Texts.{Texts}
+use Rattle.blz_info.specs.declared.units.UnitHeader.{UnitHeader}
+use Rattle.blz_info.specs.declared.units.UnitKind.{UnitKind}
+use Rattle.blz_info.specs.declared.units.UnitKind.TheVariants.{Compile, TypeUnit, Partial, Skeleton, SplitCompile, SplitType}
 use Rattle.blz_line.specs.Headers.{header_at}
-use Rattle.blz_entry.specs.FileSections.{FileSections, sections_view}
+use Rattle.blz_info.specs.FileSections.{FileSections, sections_view}
 use Rattle.blz_split.specs.SplitSections.{split_sections}
 use Rattle.blz_split.specs.PackageParts.{PackageParts, package_view, split_unit, PiecesFit}
 use Rattle.blz_split.specs.declared.package.Package.{Package}

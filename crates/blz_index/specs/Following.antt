@@ -5,9 +5,9 @@ use Rattle.std.specs.FinMap as map
 use Rattle.std.specs.Option.{option_map}
 use Rattle.blz_moves.specs.Relocations.{OffsetMap, relocation_code}
 use Rattle.blz_model.specs.Reads.{◌>>=◌}
-use Rattle.blz_entry.specs.declared.text.StrPlace.{StrPlace}
-use Rattle.blz_entry.specs.declared.value.AttrValue.{AttrValue}
-use Rattle.blz_entry.specs.declared.value.AttrValue.TheVariants.{UnitRef, InfoRef, SupRef}
+use Rattle.blz_info.specs.declared.text.StrPlace.{StrPlace}
+use Rattle.blz_info.specs.declared.value.AttrValue.{AttrValue}
+use Rattle.blz_info.specs.declared.value.AttrValue.TheVariants.{UnitRef, InfoRef, SupRef}
 use Rattle.blz_index.specs.declared.built_units.Side.{Side}
 use Rattle.blz_index.specs.declared.built_units.Side.TheVariants.{File, Sup}
 use Rattle.blz_index.specs.declared.references.Standing.{Standing}

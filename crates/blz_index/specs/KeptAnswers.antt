@@ -8,9 +8,9 @@ use Rattle.blz_model.specs.Part.{Part, Good, Broken, ◌>>=◌}
 use Rattle.blz_model.specs.declared.cache.Cache.{Cache}
 use Rattle.blz_model.specs.declared.cache.Cache.TheVariants.{Empty, Value, Mark}
 use Rattle.blz_model.specs.declared.src_lang.SrcLang.{SrcLang}
-use Rattle.blz_entry.specs.Marks.{or_invalid}
+use Rattle.blz_info.specs.Marks.{or_invalid}
 use Rattle.blz_entry.specs.declared.root.UnitRoot.{UnitRoot}
-use Rattle.blz_entry.specs.declared.text.Texts.{Texts}
+use Rattle.blz_info.specs.declared.text.Texts.{Texts}
 use Rattle.blz_line.specs.UnitLines.{OrderedLines}
 use Rattle.blz_functions.specs.declared.inlined_functions.InlinedFunction.{InlinedFunction}
 use Rattle.blz_index.specs.declared.units.caches.UnitCaches.{UnitCaches}

@@ -7,11 +7,11 @@ use Rattle.blz_model.specs.Kept.{Kept, is_kept}
 use Rattle.blz_model.specs.declared.cache.Cache.{Cache}
 use Rattle.blz_model.specs.declared.cache.Cache.TheVariants.{Empty, Value, Mark}
 use Rattle.blz_model.specs.Reads.{◌>>=◌}
-use Rattle.blz_entry.specs.Marks.{or_invalid}
+use Rattle.blz_info.specs.Marks.{or_invalid}
 use Rattle.blz_entry.specs.declared.root.UnitRoot.{UnitRoot}
-use Rattle.blz_entry.specs.declared.units.UnitHeader.{UnitHeader}
+use Rattle.blz_info.specs.declared.units.UnitHeader.{UnitHeader}
 use Rattle.blz_line.specs.UnitLines.{LineTable, OrderedLines}
-use Rattle.blz_entry.specs.FileSections.{FileSections}
+use Rattle.blz_info.specs.FileSections.{FileSections}
 use Rattle.blz_index.specs.declared.built_unit.BuiltUnit.{BuiltUnit}
 use Rattle.blz_index.specs.declared.built_units.BuiltUnits as built
 use Rattle.blz_index.specs.declared.built_units.Side.{Side}

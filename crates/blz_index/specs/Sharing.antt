@@ -4,11 +4,11 @@ use Rattle.std.specs.Prelude.{◌≡◌, ℕ, ◌+◌, ◌-◌, ◌/◌, ◌&&�
 use Rattle.std.specs.Arc.{arc_value}
 use Rattle.std.specs.BTreeMap.{get}
 use Rattle.std.specs.Ordering.{nat_cmp}
-use Rattle.blz_entry.specs.AbbreviationTables.{abbreviations}
-use Rattle.blz_entry.specs.Abbrevs.{Abbrev}
-use Rattle.blz_entry.specs.FileSections.{FileSections}
+use Rattle.blz_info.specs.AbbreviationTables.{abbreviations}
+use Rattle.blz_info.specs.Abbrevs.{Abbrev}
+use Rattle.blz_info.specs.FileSections.{FileSections}
 use Rattle.blz_entry.specs.declared.root.UnitRoot.{UnitRoot}
-use Rattle.blz_entry.specs.declared.units.UnitHeader.{UnitHeader}
+use Rattle.blz_info.specs.declared.units.UnitHeader.{UnitHeader}
 use Rattle.blz_functions.specs.Leaves.{lying}
 use Rattle.blz_line.specs.UnitLines.{maybe_table}
 use Rattle.blz_ranges.specs.declared.span.Span.{Span}

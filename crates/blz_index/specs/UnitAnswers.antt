@@ -5,9 +5,9 @@ use Rattle.std.specs.Str.{bytes_eq}
 use Rattle.blz_model.specs.Languages.{language_of}
 use Rattle.blz_model.specs.Reads.{◌>>=◌}
 use Rattle.blz_model.specs.declared.src_lang.SrcLang.{SrcLang}
-use Rattle.blz_entry.specs.TextParts.{text_of}
-use Rattle.blz_entry.specs.declared.text.StrPlace.{StrPlace}
-use Rattle.blz_entry.specs.declared.text.Texts.{Texts}
+use Rattle.blz_info.specs.TextParts.{text_of}
+use Rattle.blz_info.specs.declared.text.StrPlace.{StrPlace}
+use Rattle.blz_info.specs.declared.text.Texts.{Texts}
 use Rattle.blz_line.specs.UnitLines.{LineTable}
 use Rattle.blz_functions.specs.declared.functions.Function.{Function}
 use Rattle.blz_functions.specs.declared.inlined_functions.InlinedFunction.{InlinedFunction}

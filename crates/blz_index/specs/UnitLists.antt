@@ -2,7 +2,7 @@
 use Rattle.std.specs.Prelude.{◌≡◌, ℕ, ◌<◌, ◌≤◌, List, Some}
 use Rattle.std.specs.List.{slice_get}
 use Rattle.std.specs.List.Sorted.{IsNonDecreasingBy}
-use Rattle.blz_entry.specs.declared.units.UnitHeader.{UnitHeader}
+use Rattle.blz_info.specs.declared.units.UnitHeader.{UnitHeader}
 
 -- The entries of a unit stand behind its start, and before its end.
 pub record IsInPlace (h : UnitHeader) : Type 0 where

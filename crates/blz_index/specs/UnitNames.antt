@@ -5,8 +5,8 @@ use Rattle.blz_error.specs.Fault.{Fault}
 use Rattle.blz_model.specs.Part.{Part, Good, Fails, ◌>>=◌}
 use Rattle.blz_model.specs.declared.cache.Cache.{Cache}
 use Rattle.blz_model.specs.declared.cache.Cache.TheVariants.{Empty, Value, Mark}
-use Rattle.blz_entry.specs.Marks.{or_invalid}
-use Rattle.blz_entry.specs.declared.text.Texts.{Texts}
+use Rattle.blz_info.specs.Marks.{or_invalid}
+use Rattle.blz_info.specs.declared.text.Texts.{Texts}
 use Rattle.blz_moves.specs.declared.flow.Flow.{Flow}
 use Rattle.blz_functions.specs.declared.functions.Function.{Function}
 use Rattle.blz_index.specs.declared.units.caches.UnitCaches.{UnitCaches}

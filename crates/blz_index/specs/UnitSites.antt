@@ -5,10 +5,10 @@ use Rattle.std.specs.Str.{is_utf8}
 use Rattle.blz_error.specs.declared.kind.ErrorKind.TheVariants.{InvalidDwarf}
 use Rattle.blz_model.specs.Answers.{Site, Inlined}
 use Rattle.blz_model.specs.Part.{Part, Good, ◌>>=◌, check, all_good}
-use Rattle.blz_entry.specs.Marks.{or_invalid}
-use Rattle.blz_entry.specs.TextParts.{text_of}
-use Rattle.blz_entry.specs.declared.text.StrPlace.{StrPlace}
-use Rattle.blz_entry.specs.declared.text.Texts.{Texts}
+use Rattle.blz_info.specs.Marks.{or_invalid}
+use Rattle.blz_info.specs.TextParts.{text_of}
+use Rattle.blz_info.specs.declared.text.StrPlace.{StrPlace}
+use Rattle.blz_info.specs.declared.text.Texts.{Texts}
 use Rattle.blz_line.specs.FileNames.{file_text}
 use Rattle.blz_line.specs.Lookups.{line_at}
 use Rattle.blz_line.specs.UnitLines.{LineTable}

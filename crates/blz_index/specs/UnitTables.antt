@@ -2,17 +2,17 @@
 use Rattle.std.specs.Prelude.{ℕ, Bool, true, false, not, List, [], ◌∷◌, ◌++◌, length, Option, Some, None, filter, is_some, if◌then◌else◌}
 use Rattle.std.specs.List.{slice_get}
 use Rattle.blz_model.specs.Reads.{◌>>=◌}
-use Rattle.blz_entry.specs.Contents.{Contents}
+use Rattle.blz_info.specs.Contents.{Contents}
 use Rattle.blz_entry.specs.Folds.{fold_maybe}
-use Rattle.blz_entry.specs.Headers.{headers_from}
+use Rattle.blz_info.specs.Headers.{headers_from}
 use Rattle.blz_entry.specs.declared.aranges.ArangeSet.{ArangeSet}
 use Rattle.blz_ranges.specs.declared.span.Span.{Span}
-use Rattle.blz_entry.specs.declared.units.UnitHeader.{UnitHeader}
-use Rattle.blz_entry.specs.declared.units.UnitKind.{UnitKind}
-use Rattle.blz_entry.specs.declared.units.UnitKind.TheVariants.{Compile, TypeUnit, Partial, Skeleton, SplitCompile, SplitType}
+use Rattle.blz_info.specs.declared.units.UnitHeader.{UnitHeader}
+use Rattle.blz_info.specs.declared.units.UnitKind.{UnitKind}
+use Rattle.blz_info.specs.declared.units.UnitKind.TheVariants.{Compile, TypeUnit, Partial, Skeleton, SplitCompile, SplitType}
 use Rattle.blz_line.specs.Lookups.{spans_of}
 use Rattle.blz_line.specs.UnitLines.{LineTable, maybe_table}
-use Rattle.blz_entry.specs.FileSections.{FileSections}
+use Rattle.blz_info.specs.FileSections.{FileSections}
 use Rattle.blz_index.specs.BuiltUnits.{Files, built, reading, sup_built}
 use Rattle.blz_functions.specs.Leaves.{UnitParts, lying, ranges_in}
 use Rattle.blz_ranges.specs.Owned.{Owned, items_of, own_all, owners_of}

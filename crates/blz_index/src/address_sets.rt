@@ -4,8 +4,8 @@ ghost use Rattle.std.specs.Bool.{OnTrue};
 ghost use Rattle.std.specs.List.Sorted.{IsNonDecreasingBy};
 ghost use Rattle.blz_model.specs.Part.{Gives};
 ghost use Rattle.blz_entry.specs.AddressSets.{pairs_of};
-ghost use Rattle.blz_entry.specs.Contents.{section_view};
-ghost use Rattle.blz_entry.specs.Marks.{or_invalid};
+ghost use Rattle.blz_info.specs.Contents.{section_view};
+ghost use Rattle.blz_info.specs.Marks.{or_invalid};
 ghost use Rattle.blz_entry.specs.declared.aranges.ArangeSet.{ArangeSet};
 ghost use Rattle.blz_index.specs.Sets.{sets_from, ranges_for, named, IsExtent};
 

@@ -2,14 +2,14 @@
 ghost use Rattle.std.specs.Prelude.{◌≡◌, ◌≤◌, ◌<◌, ◌+◌, ◌^◌, length, IfOk, IfSome, Option};
 ghost use Rattle.std.specs.Arc.{arc_value};
 ghost use Rattle.blz_model.specs.Part.{Gives, Exactly};
-ghost use Rattle.blz_entry.specs.Marks.{or_invalid};
+ghost use Rattle.blz_info.specs.Marks.{or_invalid};
 ghost use Rattle.blz_entry.specs.Roots.{root_of};
 ghost use Rattle.blz_index.specs.BuiltUnits.{built, built_view, first_unit, has_lines, has_id, not_empty, parts_of, pieces_of, reading, rooted_on, sections_from, split_built, files_view, BuiltFits, IsInside, IsReadable};
 ghost use Rattle.blz_functions.specs.Leaves.{lying};
 ghost use Rattle.blz_index.specs.declared.dwarf.Origin.TheVariants.{Split};
 ghost use Rattle.blz_functions.specs.Opened.{open_view, CanBeOpened};
 ghost use Rattle.blz_index.specs.Sharing.{AreShared};
-ghost use Rattle.blz_entry.specs.FileSections.{sections_view};
+ghost use Rattle.blz_info.specs.FileSections.{sections_view};
 
 use crate::dwarf::{Dwarf, Origin};
 use crate::shared_parts::SharedParts;

@@ -4,13 +4,13 @@ ghost use Rattle.std.specs.List.{slice_get, slice_set};
 ghost use Rattle.blz_model.specs.Part.{Gives, Exactly};
 ghost use Rattle.blz_model.specs.Kept.{Kept, is_kept};
 ghost use Rattle.blz_model.specs.declared.cache.Cache.TheVariants.{Empty};
-ghost use Rattle.blz_entry.specs.Marks.{or_invalid};
+ghost use Rattle.blz_info.specs.Marks.{or_invalid};
 ghost use Rattle.blz_index.specs.BuiltUnits.{files_view, built_view, BuiltFits, IsReadable};
 ghost use Rattle.blz_index.specs.KeptParts.{or_empty, is_missing, caches_of, side_sections, side_unit, unit_of, IsFilled, AllBuilt, SideFits, BuiltFit};
 ghost use Rattle.blz_functions.specs.Opened.{open_view, CanBeOpened};
 ghost use Rattle.blz_index.specs.Readers.{reader_files, reader_table};
 ghost use Rattle.blz_index.specs.Sharing.{AreShared};
-ghost use Rattle.blz_entry.specs.FileSections.{FileSections};
+ghost use Rattle.blz_info.specs.FileSections.{FileSections};
 
 use crate::built_unit::BuiltUnit;
 use crate::dwarf::{Dwarf, Origin};

@@ -1,7 +1,7 @@
 //! The inlined calls that cover an address, with their names and their places in the sources.
 ghost use Rattle.std.specs.Prelude.{◌≡◌, map, Option, Some, option_map};
 ghost use Rattle.blz_model.specs.Part.{Gives, Exactly, all_good};
-ghost use Rattle.blz_entry.specs.Marks.{or_invalid};
+ghost use Rattle.blz_info.specs.Marks.{or_invalid};
 ghost use Rattle.blz_line.specs.Lookups.{location_view};
 ghost use Rattle.blz_index.specs.BuiltUnits.{IsReadable};
 ghost use Rattle.blz_index.specs.Growing.{UnitsGrowTo};

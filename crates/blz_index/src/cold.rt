@@ -2,7 +2,7 @@
 ghost use Rattle.std.specs.Prelude.{◌≡◌, length, IfOk};
 ghost use Rattle.blz_index.specs.Cold.{NothingKept, AreEmpty, IsCold};
 ghost use Rattle.blz_index.specs.Sharing.{AreShared};
-ghost use Rattle.blz_entry.specs.FileSections.{FileSections};
+ghost use Rattle.blz_info.specs.FileSections.{FileSections};
 
 use crate::built_unit::BuiltUnit;
 use crate::built_units::{BuiltUnits, SideUnits};

@@ -1,8 +1,8 @@
 //! The files that units are read from.
 ghost use Rattle.std.specs.Prelude.{◌≡◌, ◌+◌, ◌<◌, ◌^◌, length, option_map};
-ghost use Rattle.blz_entry.specs.Contents.{section_view};
+ghost use Rattle.blz_info.specs.Contents.{section_view};
 ghost use Rattle.blz_index.specs.BuiltUnits.{files_view, sections_from, IsInside, IsReadable};
-ghost use Rattle.blz_entry.specs.FileSections.{sections_view};
+ghost use Rattle.blz_info.specs.FileSections.{sections_view};
 ghost use Rattle.blz_split.specs.SplitSections.{split_sections};
 ghost use Rattle.blz_split.specs.PackageParts.{package_view, PiecesFit};
 

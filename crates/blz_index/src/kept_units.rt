@@ -1,7 +1,7 @@
 //! The units of a file that are kept, and the ranges that they announce.
 ghost use Rattle.std.specs.Prelude.{◌≡◌, ◌≤◌, ◌++◌, ◌∷◌, [], length, IfOk};
 ghost use Rattle.blz_model.specs.Part.{Gives};
-ghost use Rattle.blz_entry.specs.Marks.{or_invalid};
+ghost use Rattle.blz_info.specs.Marks.{or_invalid};
 ghost use Rattle.blz_index.specs.BuiltUnits.{files_view, IsReadable};
 ghost use Rattle.blz_index.specs.KeptParts.{SideFits};
 ghost use Rattle.blz_index.specs.declared.built_units.Side.TheVariants.{File};

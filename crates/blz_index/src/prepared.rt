@@ -1,7 +1,7 @@
 //! Questions to units of which each part is kept.
 ghost use Rattle.std.specs.Prelude.{◌≡◌, ◌<◌, ◌-◌, true, length, Option, option_map, IfOk, IfSome};
 ghost use Rattle.blz_model.specs.Part.{Exactly};
-ghost use Rattle.blz_entry.specs.Marks.{or_invalid};
+ghost use Rattle.blz_info.specs.Marks.{or_invalid};
 ghost use Rattle.blz_line.specs.Lookups.{location_view};
 ghost use Rattle.blz_index.specs.BuiltUnits.{Files};
 ghost use Rattle.blz_index.specs.KeptAnswers.{Repeats, first_kept, first_kept_line};

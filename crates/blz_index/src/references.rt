@@ -2,7 +2,7 @@
 ghost use Rattle.std.specs.Prelude.{◌≡◌, ◌≤◌, ◌<◌, ◌+◌, ◌^◌, ◌-◌, Option, IfOk};
 ghost use Rattle.std.specs.List.{slice_get};
 ghost use Rattle.blz_model.specs.Part.{Gives, Exactly};
-ghost use Rattle.blz_entry.specs.Marks.{or_invalid};
+ghost use Rattle.blz_info.specs.Marks.{or_invalid};
 ghost use Rattle.blz_index.specs.BuiltUnits.{built_view, files_view, BuiltFits, IsReadable};
 ghost use Rattle.blz_index.specs.Following.{target_in, target_of, seen, seen_from, numbered_seen, entry_seen, step_of, name_over, own_side};
 ghost use Rattle.blz_index.specs.KeptParts.{caches_of, IsFilled, BuiltFit};

@@ -4,11 +4,11 @@ ghost use Rattle.std.specs.Arc.{arc_value};
 ghost use Rattle.std.specs.BTreeMap.{get};
 ghost use Rattle.std.specs.Ordering.{nat_cmp};
 ghost use Rattle.blz_model.specs.Part.{Gives};
-ghost use Rattle.blz_entry.specs.AbbreviationTables.{abbreviations};
-ghost use Rattle.blz_entry.specs.Marks.{or_invalid};
+ghost use Rattle.blz_info.specs.AbbreviationTables.{abbreviations};
+ghost use Rattle.blz_info.specs.Marks.{or_invalid};
 ghost use Rattle.blz_index.specs.BuiltUnits.{line_header};
 ghost use Rattle.blz_index.specs.Sharing.{count_with, table_kept, AreShared};
-ghost use Rattle.blz_entry.specs.FileSections.{FileSections, sections_view};
+ghost use Rattle.blz_info.specs.FileSections.{FileSections, sections_view};
 
 use crate::shared_lines::ProgramSpans;
 use blz_entry::{Abbreviations, Sections, UnitHeader};

@@ -1,7 +1,7 @@
 //! The headers of units in the order in which the units stand.
 ghost use Rattle.std.specs.Prelude.{◌≡◌, ◌<◌, ◌++◌, ◌∷◌, [], List, length, Option, IfSome, MatchResult, OnOk, Some};
 ghost use Rattle.std.specs.List.{slice_get};
-ghost use Rattle.blz_entry.specs.declared.units.UnitHeader.{UnitHeader};
+ghost use Rattle.blz_info.specs.declared.units.UnitHeader.{UnitHeader};
 ghost use Rattle.blz_functions.specs.References.{distance_in, unit_at};
 ghost use Rattle.blz_index.specs.UnitLists.{AreUnits, EndBefore, IsInPlace};
 ghost use Rattle.blz_index.specs.UnitTables.{no_types};

@@ -1,8 +1,8 @@
 //! The units of a file, and the addresses that they announce.
 ghost use Rattle.std.specs.Prelude.{◌≡◌, map, IfOk, Option, Some, option_map};
 ghost use Rattle.blz_model.specs.Part.{Gives, Exactly};
-ghost use Rattle.blz_entry.specs.Contents.{section_view};
-ghost use Rattle.blz_entry.specs.Marks.{or_invalid};
+ghost use Rattle.blz_info.specs.Contents.{section_view};
+ghost use Rattle.blz_info.specs.Marks.{or_invalid};
 ghost use Rattle.blz_index.specs.Announced.{announced_at};
 ghost use Rattle.blz_index.specs.BuiltUnits.{files_view, IsReadable};
 ghost use Rattle.blz_index.specs.KeptParts.{SideFits};
@@ -12,7 +12,7 @@ ghost use Rattle.blz_ranges.specs.Owned.{items_of};
 ghost use Rattle.blz_functions.specs.References.{unit_at};
 ghost use Rattle.blz_index.specs.TableViews.{table_view};
 ghost use Rattle.blz_index.specs.UnitTables.{sup_units, sups_checked, units_in, units_of};
-ghost use Rattle.blz_entry.specs.FileSections.{sections_view};
+ghost use Rattle.blz_info.specs.FileSections.{sections_view};
 
 use crate::address_sets::AddressSets;
 use crate::built_units::SideUnits;

@@ -2,7 +2,7 @@
 ghost use Rattle.std.specs.Prelude.{◌≡◌, ◌<◌, ◌-◌, true, false, length, map, Option, IfOk, IfSome, IfErr};
 ghost use Rattle.std.specs.Option.{option_map};
 ghost use Rattle.blz_model.specs.Part.{Gives, Exactly};
-ghost use Rattle.blz_entry.specs.Marks.{or_invalid};
+ghost use Rattle.blz_info.specs.Marks.{or_invalid};
 ghost use Rattle.blz_line.specs.Lookups.{location_view};
 ghost use Rattle.blz_index.specs.BuiltUnits.{Files, files_view, IsReadable};
 ghost use Rattle.blz_index.specs.Growing.{Told};

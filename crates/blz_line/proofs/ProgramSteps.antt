@@ -6,7 +6,7 @@ use Rattle.blz_error.specs.declared.kind.ErrorKind.TheVariants.{InvalidDwarf}
 use Rattle.blz_model.specs.Part.{Broken, Fails, or_mark}
 use Rattle.blz_model.specs.LebNumbers.{uleb}
 use Rattle.blz_model.specs.Reads.{◌>>=◌}
-use Rattle.blz_entry.specs.Contents.{Contents}
+use Rattle.blz_info.specs.Contents.{Contents}
 use Rattle.blz_line.specs.declared.rules.Rules.{Rules}
 use Rattle.blz_line.specs.declared.opcode.Op.{Op}
 use Rattle.blz_line.specs.Opcodes.{ulebs_passed, op_at}

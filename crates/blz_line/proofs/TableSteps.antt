@@ -4,14 +4,14 @@ use Rattle.std.proofs.lemmas.List.{append-nil, at_drop_more, at_drop_all}
 use Rattle.blz_error.specs.declared.kind.ErrorKind.TheVariants.{InvalidDwarf}
 use Rattle.blz_model.specs.Part.{Good, or_mark}
 use Rattle.blz_bytes.specs.Pieces.{zero_ended}
-use Rattle.blz_entry.specs.Contents.{Contents}
-use Rattle.blz_entry.specs.declared.encoding.Encoding.{Encoding}
+use Rattle.blz_info.specs.Contents.{Contents}
+use Rattle.blz_info.specs.declared.encoding.Encoding.{Encoding}
 use Rattle.blz_line.specs.declared.paths.FileEntry.{FileEntry}
 use Rattle.blz_line.specs.declared.paths.Kind.{Kind}
 use Rattle.blz_line.specs.declared.formats.EntryFormat.{EntryFormat}
 use Rattle.blz_line.specs.PathTables.{text_place, entry_behind, listed_in}
-use Rattle.blz_entry.specs.Forms.{form_value}
-use Rattle.blz_entry.specs.declared.value.AttrValue.{AttrValue}
+use Rattle.blz_info.specs.Forms.{form_value}
+use Rattle.blz_info.specs.declared.value.AttrValue.{AttrValue}
 use Rattle.blz_line.specs.Formats.{format_at, formats_in, entry_at, entries_in, values_in, with_content, line_texts}
 
 -- ---- formats of version 5

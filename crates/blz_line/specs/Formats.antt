@@ -5,13 +5,13 @@ use Rattle.blz_constants.specs.declared.dwarf.TheConstants as dwarf
 use Rattle.blz_model.specs.Reads.{Read, ◌>>=◌}
 use Rattle.blz_model.specs.LebNumbers.{uleb}
 use Rattle.blz_bytes.specs.Pieces.{byte}
-use Rattle.blz_entry.specs.Contents.{Contents}
-use Rattle.blz_entry.specs.Forms.{form_value, udata}
-use Rattle.blz_entry.specs.declared.encoding.Encoding.{Encoding}
-use Rattle.blz_entry.specs.declared.text.StrBase.{StrBase}
-use Rattle.blz_entry.specs.declared.text.StrPart.TheVariants.{Line}
-use Rattle.blz_entry.specs.declared.value.AttrValue.{AttrValue}
-use Rattle.blz_entry.specs.declared.value.AttrValue.TheVariants.{Other}
+use Rattle.blz_info.specs.Contents.{Contents}
+use Rattle.blz_info.specs.Forms.{form_value, udata}
+use Rattle.blz_info.specs.declared.encoding.Encoding.{Encoding}
+use Rattle.blz_info.specs.declared.text.StrBase.{StrBase}
+use Rattle.blz_info.specs.declared.text.StrPart.TheVariants.{Line}
+use Rattle.blz_info.specs.declared.value.AttrValue.{AttrValue}
+use Rattle.blz_info.specs.declared.value.AttrValue.TheVariants.{Other}
 use Rattle.blz_line.specs.declared.paths.FileEntry.{FileEntry}
 use Rattle.blz_line.specs.declared.paths.Paths.{Paths}
 use Rattle.blz_line.specs.declared.formats.EntryFormat.{EntryFormat}

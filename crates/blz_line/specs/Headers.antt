@@ -2,9 +2,9 @@
 use Rattle.std.specs.Prelude.{ℕ, ◌+◌, ◌-◌, Bool, ◌&&◌, not, length, Option, Some, None, ◌==◌, nat_lt, nat_le, if◌then◌else◌, ℤ, pos, ◌-ℤ◌}
 use Rattle.blz_model.specs.Reads.{Read, ◌>>=◌, passed_over}
 use Rattle.blz_bytes.specs.Pieces.{byte}
-use Rattle.blz_entry.specs.Contents.{Contents, cut, number_at, offset_len}
-use Rattle.blz_entry.specs.Headers.{extent_at, is_address_size}
-use Rattle.blz_entry.specs.declared.encoding.Encoding.{Encoding}
+use Rattle.blz_info.specs.Contents.{Contents, cut, number_at, offset_len}
+use Rattle.blz_info.specs.Headers.{extent_at, is_address_size}
+use Rattle.blz_info.specs.declared.encoding.Encoding.{Encoding}
 use Rattle.blz_line.specs.declared.paths.Paths.{Paths}
 use Rattle.blz_line.specs.declared.rules.Rules.{Rules}
 use Rattle.blz_line.specs.declared.header.LineHeader.{LineHeader}

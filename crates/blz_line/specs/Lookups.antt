@@ -4,7 +4,7 @@ use Rattle.blz_error.specs.declared.kind.ErrorKind.TheVariants.{InvalidDwarf}
 use Rattle.blz_model.specs.Part.{Part, Good, ◌>>=◌, or_mark}
 use Rattle.blz_model.specs.Answers.{Site}
 use Rattle.blz_ranges.specs.declared.span.Span.{Span}
-use Rattle.blz_entry.specs.declared.text.Texts.{Texts}
+use Rattle.blz_info.specs.declared.text.Texts.{Texts}
 use Rattle.blz_line.specs.declared.row.LineRow.{LineRow}
 use Rattle.blz_line.specs.declared.lines.Location.{Location}
 use Rattle.blz_line.specs.Sequences.{Sequence}

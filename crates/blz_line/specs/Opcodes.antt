@@ -4,7 +4,7 @@ use Rattle.blz_constants.specs.declared.dwarf.TheConstants as dwarf
 use Rattle.blz_model.specs.Reads.{Read, ◌>>=◌, number}
 use Rattle.blz_model.specs.LebNumbers.{uleb, sleb}
 use Rattle.blz_bytes.specs.Pieces.{byte}
-use Rattle.blz_entry.specs.Contents.{Contents, address_at, cut}
+use Rattle.blz_info.specs.Contents.{Contents, address_at, cut}
 use Rattle.blz_line.specs.declared.rules.Rules.{Rules}
 use Rattle.blz_line.specs.PathTables.{file_at}
 use Rattle.blz_line.specs.declared.opcode.Op.{Op}

@@ -1,7 +1,7 @@
 -- The line number program: a fold of one step for each opcode (DWARF 5 section 6.2.5).
 use Rattle.std.specs.Prelude.{ℕ, zero, suc, ◌+◌, ◌-◌, ◌%◌, ◌^◌, Bool, false, ◌||◌, List, [], ◌∷◌, ◌++◌, length, take, slice_get, Option, Some, None, ◌==◌, nat_lt, if◌then◌else◌}
 use Rattle.blz_model.specs.Reads.{◌>>=◌}
-use Rattle.blz_entry.specs.Contents.{Contents}
+use Rattle.blz_info.specs.Contents.{Contents}
 use Rattle.blz_line.specs.declared.row.LineRow.{LineRow}
 use Rattle.blz_line.specs.declared.rules.Rules.{Rules}
 use Rattle.blz_line.specs.declared.paths.FileEntry.{FileEntry}

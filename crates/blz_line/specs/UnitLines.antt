@@ -3,9 +3,9 @@ use Rattle.std.specs.Prelude.{ℕ, ◌+◌, ◌-◌, Bool, List, slice_range, Op
 use Rattle.blz_error.specs.declared.kind.ErrorKind.TheVariants.{InvalidDwarf}
 use Rattle.blz_model.specs.Part.{Part, or_mark}
 use Rattle.blz_model.specs.Reads.{◌>>=◌}
-use Rattle.blz_entry.specs.Contents.{Contents, cut, section_view}
-use Rattle.blz_entry.specs.declared.section.Sections.{Sections}
-use Rattle.blz_entry.specs.declared.units.UnitHeader.{UnitHeader}
+use Rattle.blz_info.specs.Contents.{Contents, cut, section_view}
+use Rattle.blz_info.specs.declared.section.Sections.{Sections}
+use Rattle.blz_info.specs.declared.units.UnitHeader.{UnitHeader}
 use Rattle.blz_entry.specs.declared.root.UnitRoot.{UnitRoot}
 use Rattle.blz_line.specs.declared.header.LineHeader.{LineHeader}
 use Rattle.blz_line.specs.declared.files.FilePlaces.{FilePlaces}

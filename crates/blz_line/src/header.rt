@@ -2,7 +2,7 @@
 ghost use Rattle.std.specs.Prelude.{◌≡◌, ◌≤◌, ◌<◌, ◌+◌, ◌-◌, length, IfSome, IfOk};
 ghost use Rattle.blz_error.specs.declared.kind.ErrorKind.TheVariants.{InvalidDwarf};
 ghost use Rattle.blz_model.specs.Part.{Gives, or_mark};
-ghost use Rattle.blz_entry.specs.Contents.{section_view, number_at, offset_len};
+ghost use Rattle.blz_info.specs.Contents.{section_view, number_at, offset_len};
 ghost use Rattle.blz_line.specs.Headers.{with_address_size, encoding_at, program_at, max_ops_at, signed_byte, is_usable, rules_at, usable_rules_at, paths_at, fields_at, header_at, rules_of};
 ghost use Rattle.blz_line.specs.HeaderFacts.{IsInside, IsReady};
 ghost use Rattle.blz_line.specs.UnitLines.{counts_of};

@@ -1,6 +1,6 @@
 //! Opcodes and their operands.
 ghost use Rattle.std.specs.Prelude.{◌≡◌, ◌≤◌, ◌<◌, ◌+◌, length, IfSome};
-ghost use Rattle.blz_entry.specs.Contents.{section_view};
+ghost use Rattle.blz_info.specs.Contents.{section_view};
 ghost use Rattle.blz_line.specs.Opcodes.{ulebs_passed, extended_op, extended_at, standard_at, op_at};
 
 use crate::paths::{FileEntry, file_at};

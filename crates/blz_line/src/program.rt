@@ -2,7 +2,7 @@
 ghost use Rattle.std.specs.Prelude.{◌≡◌, ◌≤◌, ◌<◌, ◌+◌, length, IfOk, IfErr, Some, MatchResult};
 ghost use Rattle.blz_error.specs.declared.kind.ErrorKind.TheVariants.{InvalidDwarf};
 ghost use Rattle.blz_model.specs.Part.{Fails, or_mark};
-ghost use Rattle.blz_entry.specs.Contents.{section_view};
+ghost use Rattle.blz_info.specs.Contents.{section_view};
 ghost use Rattle.blz_line.specs.Program.{State, first_state, last_is_at, with_row, row_of, ended, step, run_from};
 
 use crate::broken::broken;

@@ -5,7 +5,7 @@ use Rattle.std.proofs.lemmas.Option.{slice_get-map, slice_get_within}
 use Rattle.blz_ranges.specs.declared.span.Span.{Span}
 use Rattle.blz_model.specs.Reads.{◌>>=◌}
 use Rattle.blz_ranges.specs.Best.{best, covers, IsBest}
-use Rattle.blz_entry.specs.declared.units.UnitHeader.{UnitHeader}
+use Rattle.blz_info.specs.declared.units.UnitHeader.{UnitHeader}
 use Rattle.blz_index.specs.BuiltUnits.{Files, reading}
 use Rattle.blz_functions.specs.FunctionList.{Lists}
 use Rattle.blz_ranges.specs.Owned.{Owned, items_of}

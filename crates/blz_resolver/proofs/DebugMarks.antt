@@ -6,9 +6,9 @@ use Rattle.blz_model.specs.Answers.{Site, Answer, Known, Unknown}
 use Rattle.blz_model.specs.Part.{Part}
 use Rattle.blz_image.specs.Images as image
 use Rattle.blz_elf.specs.declared.opts.FindSymOpts.{FindSymOpts}
-use Rattle.blz_entry.specs.Marks.{or_invalid}
-use Rattle.blz_entry.specs.declared.text.StrPlace.{StrPlace}
-use Rattle.blz_entry.specs.declared.text.Texts.{Texts}
+use Rattle.blz_info.specs.Marks.{or_invalid}
+use Rattle.blz_info.specs.declared.text.StrPlace.{StrPlace}
+use Rattle.blz_info.specs.declared.text.Texts.{Texts}
 use Rattle.blz_line.specs.Lookups.{row_site, row_in}
 use Rattle.blz_line.specs.UnitLines.{LineTable}
 use Rattle.blz_line.specs.declared.row.LineRow.{LineRow}

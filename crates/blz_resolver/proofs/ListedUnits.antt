@@ -5,8 +5,8 @@ use Rattle.blz_error.specs.declared.kind.ErrorKind.TheVariants.{InvalidDwarf}
 use Rattle.blz_model.specs.Part.{Broken, Fails}
 use Rattle.blz_elf.specs.Listings.{listing_if, Told, IsRefused}
 use Rattle.blz_elf.proofs.ListingLemmas.{read_refused}
-use Rattle.blz_entry.specs.Marks.{or_invalid}
-use Rattle.blz_entry.specs.declared.text.Texts.{Texts}
+use Rattle.blz_info.specs.Marks.{or_invalid}
+use Rattle.blz_info.specs.declared.text.Texts.{Texts}
 use Rattle.blz_functions.specs.FunctionList.{Lists}
 use Rattle.blz_index.specs.UnitNames.{listed}
 use Rattle.blz_resolver.specs.FunctionNames.{lists_listing}

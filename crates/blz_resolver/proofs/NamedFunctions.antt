@@ -10,10 +10,10 @@ use Rattle.blz_error.specs.declared.kind.ErrorKind.TheVariants.{InvalidDwarf}
 use Rattle.blz_model.specs.Part.{Part, Good, ◌>>=◌, check, all_good}
 use Rattle.blz_records.specs.declared.sym_type.SymType.TheVariants as kinds
 use Rattle.blz_elf.specs.Infos.{Info}
-use Rattle.blz_entry.specs.Marks.{or_invalid}
-use Rattle.blz_entry.specs.TextParts.{text_of}
-use Rattle.blz_entry.specs.declared.text.StrPlace.{StrPlace}
-use Rattle.blz_entry.specs.declared.text.Texts.{Texts}
+use Rattle.blz_info.specs.Marks.{or_invalid}
+use Rattle.blz_info.specs.TextParts.{text_of}
+use Rattle.blz_info.specs.declared.text.StrPlace.{StrPlace}
+use Rattle.blz_info.specs.declared.text.Texts.{Texts}
 use Rattle.blz_functions.specs.FunctionList.{Lists}
 use Rattle.blz_index.specs.UnitAnswers.{unit_functions, is_called, first_called, with_called, called_from, functions_named}
 use Rattle.blz_index.specs.UnitSites.{call_name}

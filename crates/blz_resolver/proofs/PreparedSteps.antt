@@ -4,7 +4,7 @@ use Rattle.blz_model.specs.Answers.{Site, Resolved, Known}
 use Rattle.blz_model.specs.Part.{Good}
 use Rattle.blz_elf.specs.Asked.{asks_inlined_fns}
 use Rattle.blz_elf.specs.declared.opts.FindSymOpts.{FindSymOpts}
-use Rattle.blz_entry.specs.declared.text.Texts.{Texts}
+use Rattle.blz_info.specs.declared.text.Texts.{Texts}
 use Rattle.blz_index.specs.declared.units.Units.{Units}
 use Rattle.blz_resolver.specs.AddressAnswers.{function_symbol, direct_site, places_of, placed, function_answer}
 use Rattle.blz_resolver.specs.Books.{Book, frame_of}

@@ -5,12 +5,12 @@ use Rattle.blz_model.specs.Part.{Part, Good, Broken, ◌>>=◌, all_good, check}
 use Rattle.blz_elf.specs.Listings.{broken_by, listing_if}
 use Rattle.blz_elf.specs.declared.find_addr_opts.FindAddrOpts.{FindAddrOpts}
 use Rattle.blz_elf.specs.declared.opts.FindSymOpts.{FindSymOpts}
-use Rattle.blz_entry.specs.Contents.{Contents, section_view}
-use Rattle.blz_entry.specs.Marks.{or_invalid}
-use Rattle.blz_entry.specs.declared.section.Section.{Section}
-use Rattle.blz_entry.specs.declared.section.Sections.{Sections}
-use Rattle.blz_entry.specs.declared.text.Texts.{Texts}
-use Rattle.blz_entry.specs.FileSections.{FileSections, sections_view}
+use Rattle.blz_info.specs.Contents.{Contents, section_view}
+use Rattle.blz_info.specs.Marks.{or_invalid}
+use Rattle.blz_info.specs.declared.section.Section.{Section}
+use Rattle.blz_info.specs.declared.section.Sections.{Sections}
+use Rattle.blz_info.specs.declared.text.Texts.{Texts}
+use Rattle.blz_info.specs.FileSections.{FileSections, sections_view}
 use Rattle.blz_split.specs.PackageParts.{PackageParts, package_view}
 use Rattle.blz_split.specs.declared.package.Package.{Package}
 use Rattle.blz_index.specs.BuiltUnits.{Files, files_view, bytes_of, AreSupTexts, ArePacked, IsReadable}

@@ -5,8 +5,8 @@ use Rattle.blz_model.specs.Part.{Part, Good, ◌>>=◌}
 use Rattle.blz_elf.specs.Asked.{asks_code_info, asks_inlined_fns}
 use Rattle.blz_symbols.specs.SymbolRule.{image_symbol}
 use Rattle.blz_elf.specs.declared.opts.FindSymOpts.{FindSymOpts}
-use Rattle.blz_entry.specs.Marks.{or_invalid}
-use Rattle.blz_entry.specs.declared.text.Texts.{Texts}
+use Rattle.blz_info.specs.Marks.{or_invalid}
+use Rattle.blz_info.specs.declared.text.Texts.{Texts}
 use Rattle.blz_index.specs.UnitAnswers.{unit_language, function_at}
 use Rattle.blz_resolver.specs.AddressAnswers.{function_numbered, begin_of, size_of, function_symbol, direct_site, places_of, placed, function_answer, with_place, symbol_answer, answer_by, answer_in}
 use Rattle.blz_resolver.specs.Books.{Book}

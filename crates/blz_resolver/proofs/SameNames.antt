@@ -5,9 +5,9 @@ use Rattle.std.specs.Str.{bytes_eq}
 use Rattle.blz_model.specs.Part.{Part, Good, Broken, ◌>>=◌, all_good}
 use Rattle.blz_elf.specs.Infos.{Info}
 use Rattle.blz_elf.specs.Listings.{Listing, listing_of, listing_if, then_list}
-use Rattle.blz_entry.specs.Marks.{or_invalid}
-use Rattle.blz_entry.specs.declared.text.StrPlace.{StrPlace}
-use Rattle.blz_entry.specs.declared.text.Texts.{Texts}
+use Rattle.blz_info.specs.Marks.{or_invalid}
+use Rattle.blz_info.specs.declared.text.StrPlace.{StrPlace}
+use Rattle.blz_info.specs.declared.text.Texts.{Texts}
 use Rattle.blz_index.specs.BuiltUnits.{Files}
 use Rattle.blz_functions.specs.FunctionList.{Lists}
 use Rattle.blz_index.specs.UnitAnswers.{unit_functions, is_called, first_called, with_called, called_from, functions_named}

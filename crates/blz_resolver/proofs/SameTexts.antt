@@ -6,12 +6,12 @@ use Rattle.blz_error.specs.declared.kind.ErrorKind.TheVariants.{InvalidDwarf}
 use Rattle.blz_model.specs.Answers.{Site, Inlined}
 use Rattle.blz_model.specs.Part.{Part, Good, Broken, ◌>>=◌, check, all_good}
 use Rattle.blz_bytes.specs.Joined.{joined}
-use Rattle.blz_entry.specs.Marks.{or_invalid}
-use Rattle.blz_entry.specs.TextParts.{part_of, text_of}
-use Rattle.blz_entry.specs.declared.text.StrPart.{StrPart}
-use Rattle.blz_entry.specs.declared.text.StrPart.TheVariants.{Info, Line, Strings, LineStr, SupStrings, PackInfo, PackStrings, SupInfo, SupLineStr}
-use Rattle.blz_entry.specs.declared.text.StrPlace.{StrPlace}
-use Rattle.blz_entry.specs.declared.text.Texts.{Texts}
+use Rattle.blz_info.specs.Marks.{or_invalid}
+use Rattle.blz_info.specs.TextParts.{part_of, text_of}
+use Rattle.blz_info.specs.declared.text.StrPart.{StrPart}
+use Rattle.blz_info.specs.declared.text.StrPart.TheVariants.{Info, Line, Strings, LineStr, SupStrings, PackInfo, PackStrings, SupInfo, SupLineStr}
+use Rattle.blz_info.specs.declared.text.StrPlace.{StrPlace}
+use Rattle.blz_info.specs.declared.text.Texts.{Texts}
 use Rattle.blz_line.specs.FileNames.{maybe_text, directory_text, file_text}
 use Rattle.blz_line.specs.Lookups.{row_site, row_in, site_of}
 use Rattle.blz_line.specs.UnitLines.{LineTable}

@@ -2,7 +2,7 @@
 use Rattle.std.proofs.Common.{◌≡◌, ℕ, zero, suc, ◌+◌, ◌<◌, ◌≤◌, Bool, false, List, [], ◌++◌, length, Option, Some, None, sym, ap, ◌∙◌, subst, append_assoc, length-append, arith}
 use Rattle.std.proofs.lemmas.List.{append-nil}
 use Rattle.blz_error.specs.declared.kind.ErrorKind.{ErrorKind}
-use Rattle.blz_entry.specs.declared.text.Texts.{Texts}
+use Rattle.blz_info.specs.declared.text.Texts.{Texts}
 use Rattle.blz_elf.specs.Infos.{Info}
 use Rattle.blz_elf.specs.Listings.{Listing, then_also, Told, Shown, IsShown, Breaks, IsRefused}
 use Rattle.blz_elf.proofs.ListingLemmas.{shown_more, break_first, refuse_first}

@@ -8,7 +8,7 @@ use Rattle.blz_model.proofs.PartLemmas.{bind_good}
 use Rattle.blz_image.specs.Images.{elf_of}
 use Rattle.blz_moves.specs.Relocations.{SectionMap}
 use Rattle.blz_image.specs.RelocationTables.{image_relocations}
-use Rattle.blz_entry.specs.Marks.{or_invalid}
+use Rattle.blz_info.specs.Marks.{or_invalid}
 use Rattle.blz_split.specs.PackageParts.{PackageParts, package_of, package_view}
 use Rattle.blz_index.specs.UnitTables.{sups_checked}
 use Rattle.blz_index.specs.UnitsWarm.{units_prepared, UnitsFit}

@@ -8,9 +8,9 @@ use Rattle.blz_model.specs.Answers.{Site, Resolved, Answer, Known, Unknown}
 use Rattle.blz_elf.specs.Asked.{asks_code_info, asks_inlined_fns}
 use Rattle.blz_symbols.specs.SymbolRule.{image_symbol}
 use Rattle.blz_elf.specs.declared.opts.FindSymOpts.{FindSymOpts}
-use Rattle.blz_entry.specs.Marks.{or_invalid}
+use Rattle.blz_info.specs.Marks.{or_invalid}
 use Rattle.blz_ranges.specs.declared.span.Span.{Span}
-use Rattle.blz_entry.specs.declared.text.Texts.{Texts}
+use Rattle.blz_info.specs.declared.text.Texts.{Texts}
 use Rattle.blz_index.specs.UnitAnswers.{unit_language, unit_functions, function_at}
 use Rattle.blz_index.specs.UnitSites.{call_name, location_at, inlined_at}
 use Rattle.blz_functions.specs.declared.functions.Function.{Function}

@@ -3,9 +3,9 @@ use Rattle.std.specs.Prelude.{Option, Some, None, option_map, true}
 use Rattle.std.specs.FinMap as map
 use Rattle.blz_error.specs.Texts.{Bytes}
 use Rattle.blz_model.specs.Part.{Part, Good, ◌>>=◌}
-use Rattle.blz_entry.specs.Contents.{Contents}
-use Rattle.blz_entry.specs.Marks.{or_invalid}
-use Rattle.blz_entry.specs.FileSections.{FileSections}
+use Rattle.blz_info.specs.Contents.{Contents}
+use Rattle.blz_info.specs.Marks.{or_invalid}
+use Rattle.blz_info.specs.FileSections.{FileSections}
 use Rattle.blz_split.specs.PackageParts.{PackageParts, package_of}
 use Rattle.blz_index.specs.BuiltUnits.{Files}
 use Rattle.blz_index.specs.UnitTables.{UnitTable, sups_checked, units_of}

@@ -6,8 +6,8 @@ use Rattle.blz_model.specs.Part.{Part, Good, ◌>>=◌}
 use Rattle.blz_image.specs.Images.{elf_of, image_order, image_section, image_section_data, image_data_named}
 use Rattle.blz_moves.specs.Relocations.{OffsetMap, SectionMap, section_map}
 use Rattle.blz_image.specs.RelocationTables.{image_relocations}
-use Rattle.blz_entry.specs.Contents.{Contents}
-use Rattle.blz_entry.specs.FileSections.{FileSections}
+use Rattle.blz_info.specs.Contents.{Contents}
+use Rattle.blz_info.specs.FileSections.{FileSections}
 use Rattle.blz_resolver.specs.declared.debug_section.DebugSection.{DebugSection}
 use Rattle.blz_resolver.specs.declared.debug_section.DebugSection.TheVariants.{Abbrev, Addr, Aranges, Info, Line, LineStr, Ranges, RngLists, Strings, StrOffsets}
 

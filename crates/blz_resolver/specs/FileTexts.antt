@@ -1,9 +1,9 @@
 -- The texts of the files of a book.
 use Rattle.std.specs.Prelude.{ℕ, List, [], Option, Some, None}
 use Rattle.std.specs.Borrow.{Bor}
-use Rattle.blz_entry.specs.Contents.{Contents}
-use Rattle.blz_entry.specs.declared.text.Texts.{Texts}
-use Rattle.blz_entry.specs.FileSections.{FileSections}
+use Rattle.blz_info.specs.Contents.{Contents}
+use Rattle.blz_info.specs.declared.text.Texts.{Texts}
+use Rattle.blz_info.specs.FileSections.{FileSections}
 use Rattle.blz_split.specs.PackageParts.{PackageParts}
 use Rattle.blz_index.specs.BuiltUnits.{Files}
 

@@ -1,6 +1,6 @@
 -- What the debug information of a bundle in the code stands for.
 use Rattle.std.specs.Prelude.{◌≡◌, ℕ, List, [], true, Option, Some, None, option_map}
-use Rattle.blz_entry.specs.declared.section.Sections.{Sections}
+use Rattle.blz_info.specs.declared.section.Sections.{Sections}
 use Rattle.blz_split.specs.PackageParts.{package_view}
 use Rattle.blz_split.specs.declared.package.Package.{Package}
 use Rattle.blz_resolver.specs.declared.debug_files.DebugFiles.{DebugFiles}

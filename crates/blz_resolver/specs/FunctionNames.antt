@@ -9,8 +9,8 @@ use Rattle.blz_elf.specs.Infos.{Info, image_addresses}
 use Rattle.blz_elf.specs.Listings.{Listing, listing_of, listing_if, then_list, broken_by, image_symbols}
 use Rattle.blz_image.specs.Segments.{image_file_place}
 use Rattle.blz_elf.specs.declared.find_addr_opts.FindAddrOpts.{FindAddrOpts}
-use Rattle.blz_entry.specs.Marks.{or_invalid}
-use Rattle.blz_entry.specs.declared.text.Texts.{Texts}
+use Rattle.blz_info.specs.Marks.{or_invalid}
+use Rattle.blz_info.specs.declared.text.Texts.{Texts}
 use Rattle.blz_functions.specs.FunctionList.{Lists}
 use Rattle.blz_index.specs.UnitAnswers.{unit_functions, functions_named}
 use Rattle.blz_index.specs.UnitSites.{call_name}

@@ -1,8 +1,8 @@
 -- The lines of a unit, as they are given.
 use Rattle.std.specs.Prelude.{ℕ, Bool, true, false, List, length, map, Option, None, option_map}
 use Rattle.blz_model.specs.Part.{Part, Good, Broken, ◌>>=◌}
-use Rattle.blz_entry.specs.Marks.{or_invalid}
-use Rattle.blz_entry.specs.declared.text.Texts.{Texts}
+use Rattle.blz_info.specs.Marks.{or_invalid}
+use Rattle.blz_info.specs.declared.text.Texts.{Texts}
 use Rattle.blz_index.specs.UnitAnswers.{unit_lines}
 use Rattle.blz_line.specs.FileNames.{file_text}
 use Rattle.blz_line.specs.Sequences.{Sequence}

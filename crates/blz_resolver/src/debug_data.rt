@@ -2,8 +2,8 @@
 ghost use Rattle.std.specs.Prelude.{◌≡◌, ◌<◌, ◌^◌, length};
 ghost use Rattle.std.specs.FinMap as map;
 ghost use Rattle.blz_model.specs.Part.{Exactly};
-ghost use Rattle.blz_entry.specs.Contents.{section_view};
-ghost use Rattle.blz_entry.specs.FileSections.{sections_view};
+ghost use Rattle.blz_info.specs.Contents.{section_view};
+ghost use Rattle.blz_info.specs.FileSections.{sections_view};
 ghost use Rattle.blz_resolver.specs.DebugSections.{data_numbered, located, debug_parts, moves_of, contents_with, sections_in};
 ghost use Rattle.blz_resolver.specs.DebugViews.{located_view, parts_view, IsWholeFile};
 

@@ -2,7 +2,7 @@
 ghost use Rattle.std.specs.Prelude.{◌≡◌, ◌<◌, ◌^◌, length};
 ghost use Rattle.std.specs.FinMap as map;
 ghost use Rattle.blz_model.specs.Part.{Gives};
-ghost use Rattle.blz_entry.specs.FileSections.{sections_view};
+ghost use Rattle.blz_info.specs.FileSections.{sections_view};
 ghost use Rattle.blz_resolver.specs.DebugSections.{debug_image, sections_of};
 ghost use Rattle.blz_resolver.specs.DebugViews.{debug_view, IsWholeFile};
 

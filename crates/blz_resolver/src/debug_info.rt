@@ -5,7 +5,7 @@ ghost use Rattle.blz_model.specs.Part.{Gives, Exactly, all_good};
 ghost use Rattle.blz_elf.specs.AnswerView.{answer_view};
 ghost use Rattle.blz_elf.specs.Asked.{asks_code_info, asks_inlined_fns};
 ghost use Rattle.blz_elf.specs.Listings.{ShowsAll};
-ghost use Rattle.blz_entry.specs.Marks.{or_invalid};
+ghost use Rattle.blz_info.specs.Marks.{or_invalid};
 ghost use Rattle.blz_ranges.specs.Keyed.{IsAccepted, begin_key};
 ghost use Rattle.blz_ranges.specs.Owned.{items_of};
 ghost use Rattle.blz_index.specs.UnitTables.{units_of};

@@ -1,7 +1,7 @@
 //! Shows the functions of a listing.
 ghost use Rattle.std.specs.Prelude.{◌≡◌, ◌<◌, true, false, map, length, option_map};
 ghost use Rattle.blz_elf.specs.Listings.{Shows, ShowsAll, listing_of, listing_if};
-ghost use Rattle.blz_entry.specs.Marks.{or_invalid};
+ghost use Rattle.blz_info.specs.Marks.{or_invalid};
 ghost use Rattle.blz_index.specs.UnitsWarm.{units_table};
 ghost use Rattle.blz_functions.specs.declared.functions.Function.{Function};
 ghost use Rattle.blz_bundle.specs.BundleViews.{bundle_view};

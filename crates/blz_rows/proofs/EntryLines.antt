@@ -6,9 +6,9 @@ use Rattle.std.proofs.lemmas.Option.{slice_get-map}
 use Rattle.blz_model.specs.Answers.{Site}
 use Rattle.blz_model.specs.Part.{Part, Good, ◌>>=◌}
 use Rattle.blz_model.proofs.PartLemmas.{bind_good}
-use Rattle.blz_entry.specs.Marks.{or_invalid}
-use Rattle.blz_entry.specs.declared.text.Texts.{Texts}
-use Rattle.blz_entry.proofs.Marked.{good_some}
+use Rattle.blz_info.specs.Marks.{or_invalid}
+use Rattle.blz_info.specs.declared.text.Texts.{Texts}
+use Rattle.blz_info.proofs.Marked.{good_some}
 use Rattle.blz_line.specs.FileNames.{file_text}
 use Rattle.blz_line.specs.Lookups.{best_sequence, row_at, row_in, row_site, site_of}
 use Rattle.blz_line.specs.Sequences.{Sequence}

@@ -1,7 +1,7 @@
 -- What is broken in the lines of a bundle has a kind of its format.
 use Rattle.std.proofs.Common.{ℕ, zero, suc, ◌+◌, List, [], ◌∷◌, ◌++◌, Option, Some, None}
 use Rattle.blz_model.specs.Part.{Part}
-use Rattle.blz_entry.specs.declared.text.Texts.{Texts}
+use Rattle.blz_info.specs.declared.text.Texts.{Texts}
 use Rattle.blz_resolver.specs.Images.{ImageSet}
 use Rattle.blz_line.specs.Sequences.{Sequence}
 use Rattle.blz_line.specs.declared.row.LineRow.{LineRow}

@@ -4,7 +4,7 @@ use Rattle.std.specs.List.{slice_get}
 use Rattle.std.proofs.lemmas.List.{append-nil}
 use Rattle.blz_error.specs.declared.kind.ErrorKind.TheVariants.{InvalidDwarf}
 use Rattle.blz_model.specs.Part.{Part, Good, Broken, ◌>>=◌}
-use Rattle.blz_entry.specs.Marks.{or_invalid}
+use Rattle.blz_info.specs.Marks.{or_invalid}
 use Rattle.blz_line.specs.declared.row.LineRow.{LineRow}
 use Rattle.blz_rows.specs.Asking.{asks, behind}
 use Rattle.blz_rows.specs.Entries.{Entry, entry_in, path_of, row_entry}

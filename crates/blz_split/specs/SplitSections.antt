@@ -1,8 +1,8 @@
 -- The sections that a split unit is read from.
 use Rattle.std.specs.Prelude.{ℕ, ◌+◌, true, List, slice_range}
 use Rattle.blz_moves.specs.Relocations.{OffsetMap}
-use Rattle.blz_entry.specs.Contents.{Contents}
-use Rattle.blz_entry.specs.FileSections.{FileSections}
+use Rattle.blz_info.specs.Contents.{Contents}
+use Rattle.blz_info.specs.FileSections.{FileSections}
 use Rattle.blz_split.specs.declared.split_unit.Piece.{Piece}
 use Rattle.blz_split.specs.declared.split_unit.SplitUnit.{SplitUnit}
 use Rattle.blz_split.specs.PackageParts.{PackageParts}

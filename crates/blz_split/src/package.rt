@@ -3,9 +3,9 @@ ghost use Rattle.std.specs.Prelude.{◌≡◌, ◌≤◌, ◌+◌, ◌<◌, leng
 ghost use Rattle.blz_error.specs.declared.kind.ErrorKind.TheVariants.{InvalidDwarf};
 ghost use Rattle.blz_model.specs.Part.{Exactly, or_mark};
 ghost use Rattle.blz_image.specs.Images.{image_order, image_data_named};
-ghost use Rattle.blz_entry.specs.Contents.{section_view};
+ghost use Rattle.blz_info.specs.Contents.{section_view};
 ghost use Rattle.blz_split.specs.Contributions.{index_tables, found_row, contribution};
-ghost use Rattle.blz_entry.specs.FileSections.{sections_view};
+ghost use Rattle.blz_info.specs.FileSections.{sections_view};
 ghost use Rattle.blz_split.specs.SplitSections.{split_sections, piece_of};
 ghost use Rattle.blz_split.specs.PackageParts.{package_view, package_of, row_pieces, unit_of_row, split_unit, PiecesFit, IfPiecesFit, Inside};
 ghost use Rattle.blz_split.specs.SectionNames.{name_of};

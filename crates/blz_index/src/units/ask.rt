@@ -2,7 +2,7 @@
 ghost use Rattle.std.specs.Prelude.{◌≡◌, ◌<◌, true, false, map, Option, option_map, IfOk, IfSome};
 ghost use Rattle.blz_model.specs.Kept.{Kept};
 ghost use Rattle.blz_model.specs.Part.{Part, Gives, all_good};
-ghost use Rattle.blz_entry.specs.Marks.{or_invalid};
+ghost use Rattle.blz_info.specs.Marks.{or_invalid};
 ghost use Rattle.blz_line.specs.Lookups.{location_view};
 ghost use Rattle.blz_index.specs.BuiltUnits.{IsReadable};
 ghost use Rattle.blz_index.specs.Growing.{Told, UnitsGrowTo};

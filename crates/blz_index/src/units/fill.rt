@@ -4,7 +4,7 @@ ghost use Rattle.std.specs.List.{slice_get};
 ghost use Rattle.blz_model.specs.Kept.{Kept, is_kept};
 ghost use Rattle.blz_model.specs.Part.{Gives};
 ghost use Rattle.blz_model.specs.declared.cache.Cache.TheVariants.{Empty};
-ghost use Rattle.blz_entry.specs.Marks.{or_invalid};
+ghost use Rattle.blz_info.specs.Marks.{or_invalid};
 ghost use Rattle.blz_index.specs.BuiltUnits.{IsReadable};
 ghost use Rattle.blz_index.specs.Growing.{Told, Made, AreOrdered, LinesOrdered, CallsOrdered, UnitsGrowTo};
 ghost use Rattle.blz_index.specs.KeptParts.{unit_root, lists_view, lines_view, calls_view, lacks_root, lacks_functions, lacks_lines, lacks_calls, BuiltFit, PartsFit, AllFit};

@@ -1,7 +1,7 @@
 //! Units by the offsets of references, and by addresses.
 ghost use Rattle.std.specs.Prelude.{◌≡◌};
 ghost use Rattle.blz_model.specs.Part.{Exactly};
-ghost use Rattle.blz_entry.specs.Marks.{or_invalid};
+ghost use Rattle.blz_info.specs.Marks.{or_invalid};
 ghost use Rattle.blz_index.specs.Announced.{announced_at};
 ghost use Rattle.blz_functions.specs.References.{unit_at};
 ghost use Rattle.blz_index.specs.UnitsWarm.{announced_ordered, units_table};

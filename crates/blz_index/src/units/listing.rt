@@ -1,7 +1,7 @@
 //! The functions of all units: those of a name, and all of them.
 ghost use Rattle.std.specs.Prelude.{◌≡◌, ◌++◌, [], true, false, option_map, IfOk, OnOk};
 ghost use Rattle.blz_model.specs.Part.{Gives};
-ghost use Rattle.blz_entry.specs.Marks.{or_invalid};
+ghost use Rattle.blz_info.specs.Marks.{or_invalid};
 ghost use Rattle.blz_index.specs.BuiltUnits.{files_view, IsReadable};
 ghost use Rattle.blz_index.specs.Growing.{UnitsGrowTo};
 ghost use Rattle.blz_index.specs.KeptParts.{functions_at, AllFit};

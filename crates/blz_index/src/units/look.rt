@@ -2,7 +2,7 @@
 ghost use Rattle.std.specs.Prelude.{◌≡◌, ◌+◌, ◌-◌, ◌*◌, ◌^◌, ◌≤◌, true, length, Option, option_map};
 ghost use Rattle.std.specs.List.{slice_get};
 ghost use Rattle.blz_model.specs.Part.{Gives};
-ghost use Rattle.blz_entry.specs.Marks.{or_invalid};
+ghost use Rattle.blz_info.specs.Marks.{or_invalid};
 ghost use Rattle.blz_line.specs.Lookups.{location_view};
 ghost use Rattle.blz_ranges.specs.Groups.{AreApart};
 ghost use Rattle.blz_index.specs.KeptAnswers.{Repeats, kept_part, kept_language, kept_best, kept_place, kept_line, kept_chain, kept_site};

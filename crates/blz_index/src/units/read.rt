@@ -4,7 +4,7 @@ ghost use Rattle.std.specs.List.{slice_get};
 ghost use Rattle.blz_model.specs.Part.{Gives};
 ghost use Rattle.blz_model.specs.Kept.{Kept, is_kept};
 ghost use Rattle.blz_model.specs.declared.cache.Cache.TheVariants.{Empty};
-ghost use Rattle.blz_entry.specs.Marks.{or_invalid};
+ghost use Rattle.blz_info.specs.Marks.{or_invalid};
 ghost use Rattle.blz_index.specs.BuiltUnits.{built, built_view, has_id, reading, root_in, files_view, BuiltFits, IsReadable};
 ghost use Rattle.blz_index.specs.Growing.{LinesOrdered};
 ghost use Rattle.blz_index.specs.KeptParts.{lines_view, unit_root, BuiltFit, IsBuilt, IsFilled};

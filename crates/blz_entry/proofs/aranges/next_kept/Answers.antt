@@ -1,5 +1,5 @@
 use Rattle.std.proofs.Common.{◌≡◌, ◌<◌, ◌-◌, Some, None, Option, refl, sym, ◌∙◌, arith}
-use Rattle.blz_entry.specs.Contents.{section_view}
+use Rattle.blz_info.specs.Contents.{section_view}
 use Rattle.blz_ranges.specs.declared.span.Span.{Span}
 use Rattle.blz_entry.proofs.SetSteps.{pair_kept, pair_passed, pairs_end, pair_ahead}
 use Rattle.blz_entry.proofs.aranges.next_kept.Goals as goal

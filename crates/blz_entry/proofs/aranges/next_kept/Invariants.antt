@@ -1,5 +1,5 @@
 use Rattle.std.proofs.Common.{◌≡◌, ◌-◌}
-use Rattle.blz_entry.specs.Contents.{section_view}
+use Rattle.blz_info.specs.Contents.{section_view}
 use Rattle.blz_entry.specs.AddressSets.{pairs_from}
 use Rattle.blz_entry.proofs.aranges.next_kept.Given as goal
 

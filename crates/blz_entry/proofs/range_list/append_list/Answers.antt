@@ -3,7 +3,7 @@ use Rattle.std.specs.Option.{option_to_list}
 use Rattle.std.proofs.lemmas.Bool.{ne_eqb, eq-eqb}
 use Rattle.std.proofs.lemmas.List.{length-append, take-append-le, take_all}
 use Rattle.blz_entry.specs.RangeLists.{spans_in, spans_from, list_length}
-use Rattle.blz_entry.proofs.Marked.{marks}
+use Rattle.blz_info.proofs.Marked.{marks}
 use Rattle.blz_entry.proofs.RangeSteps.{spans_more, spans_last, spans_none, spans_here, spans_over}
 use Rattle.blz_entry.proofs.range_list.append_list.Goals as goal
 

@@ -1,6 +1,6 @@
 use Rattle.std.proofs.Common.{sym, ap, ◌∙◌}
 use Rattle.blz_model.specs.Part.{Good}
-use Rattle.blz_entry.specs.Marks.{or_invalid}
+use Rattle.blz_info.specs.Marks.{or_invalid}
 use Rattle.blz_functions.specs.Opened.{open_view}
 use Rattle.blz_functions.proofs.Broken.{broken}
 use Rattle.blz_functions.proofs.DescriptionSteps.{read_one, read_none, visit_more, visit_found, visit_none, visit_over}

@@ -1,5 +1,5 @@
 use Rattle.std.proofs.Common.{sym, ◌∙◌}
-use Rattle.blz_entry.specs.Contents.{section_view}
+use Rattle.blz_info.specs.Contents.{section_view}
 use Rattle.blz_index.proofs.Named.{named_more, named_over}
 use Rattle.blz_index.proofs.address_sets.append_named.Goals as goal
 

@@ -1,5 +1,5 @@
 use Rattle.std.proofs.Common.{◌≡◌, ◌++◌, drop}
-use Rattle.blz_entry.specs.Contents.{section_view}
+use Rattle.blz_info.specs.Contents.{section_view}
 use Rattle.blz_index.specs.Sets.{named}
 use Rattle.blz_index.proofs.address_sets.append_named.Given as goal
 

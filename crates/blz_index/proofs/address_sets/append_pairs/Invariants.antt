@@ -1,6 +1,6 @@
 use Rattle.std.proofs.Common.{◌≡◌, ◌++◌, length}
 use Rattle.blz_entry.specs.AddressSets.{pairs_of}
-use Rattle.blz_entry.specs.Contents.{section_view}
+use Rattle.blz_info.specs.Contents.{section_view}
 use Rattle.blz_index.proofs.address_sets.append_pairs.Given as goal
 
 abbrev pub invariant-loop-span : goal.invariant-loop-span

@@ -1,4 +1,4 @@
-use Rattle.blz_entry.specs.Contents.{section_view}
+use Rattle.blz_info.specs.Contents.{section_view}
 use Rattle.blz_index.proofs.Named.{named_within}
 use Rattle.blz_index.proofs.address_sets.append_within.Goals as goal
 

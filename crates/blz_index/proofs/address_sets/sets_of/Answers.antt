@@ -1,8 +1,8 @@
 use Rattle.std.proofs.Common.{◌-◌, ◌<◌, length, sym, ap, ◌∙◌, arith, rules}
 use Rattle.std.proofs.lemmas.Result.{err_from_is_err_and}
-use Rattle.blz_entry.specs.Contents.{Contents}
-use Rattle.blz_entry.specs.Marks.{or_invalid}
-use Rattle.blz_entry.proofs.Marked.{marks}
+use Rattle.blz_info.specs.Contents.{Contents}
+use Rattle.blz_info.specs.Marks.{or_invalid}
+use Rattle.blz_info.proofs.Marked.{marks}
 use Rattle.blz_index.proofs.SetLists.{met, at_start, sets_more, sets_none, sets_over}
 use Rattle.blz_index.proofs.address_sets.sets_of.Goals as goal
 

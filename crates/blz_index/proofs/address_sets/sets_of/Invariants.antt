@@ -1,5 +1,5 @@
 use Rattle.std.proofs.Common.{◌≡◌, ◌-◌, length}
-use Rattle.blz_entry.specs.Contents.{section_view}
+use Rattle.blz_info.specs.Contents.{section_view}
 use Rattle.blz_index.specs.Sets.{sets_from}
 use Rattle.blz_index.proofs.SetLists.{put_before}
 use Rattle.blz_index.proofs.address_sets.sets_of.Given as goal

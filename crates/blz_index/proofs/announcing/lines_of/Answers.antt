@@ -1,7 +1,7 @@
 use Rattle.std.proofs.Common.{Option, subst}
 use Rattle.std.specs.Option.{option_map}
 use Rattle.blz_model.specs.Part.{Gives}
-use Rattle.blz_entry.specs.Marks.{or_invalid}
+use Rattle.blz_info.specs.Marks.{or_invalid}
 use Rattle.blz_line.specs.UnitLines.{LineTable, OrderedLines}
 use Rattle.blz_index.proofs.LinesLying.{lines_lying}
 use Rattle.blz_index.proofs.announcing.lines_of.Goals as goal

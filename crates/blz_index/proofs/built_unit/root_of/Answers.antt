@@ -1,6 +1,6 @@
 use Rattle.std.proofs.Common.{Option, subst}
 use Rattle.blz_model.specs.Part.{Exactly}
-use Rattle.blz_entry.specs.Marks.{or_invalid}
+use Rattle.blz_info.specs.Marks.{or_invalid}
 use Rattle.blz_entry.specs.declared.root.UnitRoot.{UnitRoot}
 use Rattle.blz_index.proofs.Rooted.{root_lying}
 use Rattle.blz_index.proofs.built_unit.root_of.Goals as goal

@@ -1,6 +1,6 @@
 use Rattle.std.proofs.Common.{◌∙◌, leb, rules}
 use Rattle.std.proofs.lemmas.List.Sorted.{IsPartitionPoint-from_clause, IsPartitionedBy-leb}
-use Rattle.blz_entry.specs.declared.units.UnitHeader.{UnitHeader}
+use Rattle.blz_info.specs.declared.units.UnitHeader.{UnitHeader}
 use Rattle.blz_index.proofs.UnitsInPlace.{found_none, found_some}
 use Rattle.blz_index.proofs.unit_list.find_in.Goals as goal
 

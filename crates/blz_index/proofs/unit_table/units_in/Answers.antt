@@ -1,7 +1,7 @@
 use Rattle.std.proofs.Common.{sym, ap, ◌∙◌, ◌++◌, ◌∷◌, [], arith}
 use Rattle.std.proofs.lemmas.Result.{err_from_is_err_and}
-use Rattle.blz_entry.specs.Contents.{section_view}
-use Rattle.blz_entry.specs.Marks.{or_invalid}
+use Rattle.blz_info.specs.Contents.{section_view}
+use Rattle.blz_info.specs.Marks.{or_invalid}
 use Rattle.blz_index.specs.UnitLists.{IsInPlace}
 use Rattle.blz_index.specs.UnitTables.{no_types}
 use Rattle.blz_index.proofs.HeaderSteps.{bad_header, good_header, no_header_left, headers_more, headers_over, place_behind, section_behind, with_units, units_more, units_over}

@@ -1,7 +1,7 @@
 use Rattle.std.proofs.Common.{◌≡◌, ◌-◌, length}
 use Rattle.blz_model.specs.Reads.{◌>>=◌}
-use Rattle.blz_entry.specs.Contents.{section_view}
-use Rattle.blz_entry.specs.Headers.{headers_from}
+use Rattle.blz_info.specs.Contents.{section_view}
+use Rattle.blz_info.specs.Headers.{headers_from}
 use Rattle.blz_index.specs.UnitLists.{EndBefore}
 use Rattle.blz_index.specs.UnitTables.{units_in}
 use Rattle.blz_index.proofs.HeaderSteps.{with_units}

@@ -1,5 +1,5 @@
 use Rattle.std.proofs.Common.{◌≡◌, ◌-◌, []}
-use Rattle.blz_entry.specs.Contents.{section_view}
+use Rattle.blz_info.specs.Contents.{section_view}
 use Rattle.blz_line.specs.Formats.{entries_in}
 use Rattle.blz_line.proofs.formats.entries_at.Given as goal
 

@@ -1,5 +1,5 @@
 use Rattle.std.proofs.Common.{◌≡◌, drop}
-use Rattle.blz_entry.specs.Contents.{section_view}
+use Rattle.blz_info.specs.Contents.{section_view}
 use Rattle.blz_line.specs.Formats.{values_in, entry_at}
 use Rattle.blz_line.proofs.formats.entry_at.Given as goal
 

@@ -1,6 +1,6 @@
 use Rattle.std.proofs.Common.{◌-◌, length, sym, ap, ◌∙◌, arith}
 use Rattle.std.proofs.lemmas.Result.{err_from_is_err_and}
-use Rattle.blz_entry.specs.Contents.{section_view}
+use Rattle.blz_info.specs.Contents.{section_view}
 use Rattle.blz_line.specs.Program.{run_from, run_in}
 use Rattle.blz_line.proofs.ProgramSteps.{run_more, run_none, run_fails, run_done, run_out, fails_none}
 use Rattle.blz_line.proofs.program.run.Goals as goal

@@ -1,8 +1,8 @@
 use Rattle.std.proofs.Common.{◌<◌, List, Option, ℕ, refl, sym, ap, ◌∙◌, length}
 use Rattle.std.proofs.lemmas.Bool.{ltb-true}
 use Rattle.blz_model.specs.Reads.{◌>>=◌}
-use Rattle.blz_entry.specs.Marks.{or_invalid}
-use Rattle.blz_entry.proofs.Marked.{marks, marks_on, good_some}
+use Rattle.blz_info.specs.Marks.{or_invalid}
+use Rattle.blz_info.proofs.Marked.{marks, marks_on, good_some}
 use Rattle.blz_functions.specs.declared.levels.Above.{Above}
 use Rattle.blz_functions.specs.CallTree.{CallLists}
 use Rattle.blz_functions.specs.CallWalk.{levels_behind}

@@ -1,8 +1,8 @@
 use Rattle.std.proofs.Common.{◌≡◌, ◌++◌, ◌∷◌, ◌≤◌, [], List, map, refl, ap, ◌∙◌, arith, length, length-append, rules, vec_len}
 use Rattle.std.proofs.lemmas.Result.{err_from_is_err_and}
-use Rattle.blz_entry.specs.Marks.{or_invalid}
+use Rattle.blz_info.specs.Marks.{or_invalid}
 use Rattle.blz_ranges.specs.declared.span.Span.{Span}
-use Rattle.blz_entry.proofs.Marked.{marks_on}
+use Rattle.blz_info.proofs.Marked.{marks_on}
 use Rattle.blz_ranges.specs.declared.grouped.Grouped.{Grouped}
 use Rattle.blz_functions.specs.declared.inlined_functions.InlinedFunction.{InlinedFunction}
 use Rattle.blz_functions.specs.CallTree.{call_added, call_by}

@@ -1,5 +1,5 @@
 use Rattle.std.proofs.Common.{sym, ◌∙◌, refl}
-use Rattle.blz_entry.proofs.Marked.{good_some}
+use Rattle.blz_info.proofs.Marked.{good_some}
 use Rattle.blz_functions.specs.Opened.{open_view}
 use Rattle.blz_functions.proofs.DescriptionSteps.{range_alone, site_alone, name_alone}
 use Rattle.blz_functions.proofs.description.Description.add.Goals.{then-tells_range+in_ok-self, else-tells_range+then-tells_site, else-tells_range+else-tells_site+in_ok-self-2}

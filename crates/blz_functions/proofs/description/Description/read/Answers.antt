@@ -1,6 +1,6 @@
 use Rattle.std.proofs.Common.{sym, ap, ◌∙◌, arith}
-use Rattle.blz_entry.specs.Marks.{or_invalid}
-use Rattle.blz_entry.proofs.Marked.{marks, marks_on}
+use Rattle.blz_info.specs.Marks.{or_invalid}
+use Rattle.blz_info.proofs.Marked.{marks, marks_on}
 use Rattle.blz_functions.specs.Opened.{open_view}
 use Rattle.blz_functions.proofs.DescriptionSteps.{read_one, read_none, described_more, described_none, described_fails, described_over}
 use Rattle.blz_functions.proofs.description.Description.read.Goals as goal

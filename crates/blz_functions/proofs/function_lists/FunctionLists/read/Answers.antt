@@ -1,7 +1,7 @@
 use Rattle.std.proofs.Common.{sym, ap, ◌∙◌, Option, ℕ}
 use Rattle.blz_model.specs.Reads.{◌>>=◌}
-use Rattle.blz_entry.specs.Marks.{or_invalid}
-use Rattle.blz_entry.proofs.Marked.{marks, marks_on, good_some}
+use Rattle.blz_info.specs.Marks.{or_invalid}
+use Rattle.blz_info.proofs.Marked.{marks, marks_on, good_some}
 use Rattle.blz_functions.specs.FunctionList.{Lists}
 use Rattle.blz_functions.specs.Opened.{open_view}
 use Rattle.blz_functions.proofs.FunctionSteps.{one_more, no_more, none_next, lists_behind}

@@ -1,9 +1,9 @@
 use Rattle.std.proofs.Common.{sym, ap, subst, ◌∙◌, ℕ}
 use Rattle.std.proofs.lemmas.Result.{err_from_is_err_and}
-use Rattle.blz_entry.specs.Contents.{section_view}
+use Rattle.blz_info.specs.Contents.{section_view}
 use Rattle.blz_entry.specs.Folds.{fold_maybe}
-use Rattle.blz_entry.specs.Marks.{or_invalid}
-use Rattle.blz_entry.proofs.Marked.{marks_on, good_some}
+use Rattle.blz_info.specs.Marks.{or_invalid}
+use Rattle.blz_info.proofs.Marked.{marks_on, good_some}
 use Rattle.blz_index.specs.BuiltUnits.{files_view}
 use Rattle.blz_index.specs.UnitLists.{EndBefore}
 use Rattle.blz_index.specs.UnitTables.{with_unit}

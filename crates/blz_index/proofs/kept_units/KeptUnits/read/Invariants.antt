@@ -1,8 +1,8 @@
 use Rattle.std.proofs.Common.{◌≡◌, ◌-◌, length}
 use Rattle.blz_model.specs.Reads.{◌>>=◌}
-use Rattle.blz_entry.specs.Contents.{section_view}
+use Rattle.blz_info.specs.Contents.{section_view}
 use Rattle.blz_entry.specs.Folds.{fold_maybe}
-use Rattle.blz_entry.specs.Headers.{headers_from}
+use Rattle.blz_info.specs.Headers.{headers_from}
 use Rattle.blz_index.specs.BuiltUnits.{files_view}
 use Rattle.blz_index.specs.KeptParts.{SideFits}
 use Rattle.blz_index.specs.declared.built_units.Side.TheVariants.{File}

@@ -1,8 +1,8 @@
 use Rattle.std.proofs.Common.{List, refl, ap, sym, subst, arith}
 use Rattle.std.proofs.lemmas.Result.{err_from_is_err_and}
-use Rattle.blz_entry.specs.Marks.{or_invalid}
-use Rattle.blz_entry.specs.declared.units.UnitHeader.{UnitHeader}
-use Rattle.blz_entry.proofs.Marked.{good_some}
+use Rattle.blz_info.specs.Marks.{or_invalid}
+use Rattle.blz_info.specs.declared.units.UnitHeader.{UnitHeader}
+use Rattle.blz_info.proofs.Marked.{good_some}
 use Rattle.blz_index.specs.UnitLists.{EndBefore}
 use Rattle.blz_index.specs.UnitTables.{KeptUnits, with_unit}
 use Rattle.blz_index.specs.BuiltUnits.{files_view}

@@ -1,6 +1,6 @@
 use Rattle.std.proofs.Common.{Option, sym, subst}
 use Rattle.blz_model.specs.Part.{Gives}
-use Rattle.blz_entry.specs.Marks.{or_invalid}
+use Rattle.blz_info.specs.Marks.{or_invalid}
 use Rattle.blz_functions.specs.CallTree.{CallLists}
 use Rattle.blz_index.specs.Readers.{reader_files, reader_table}
 use Rattle.blz_index.proofs.KeptTold.{place_mark, place_good}

@@ -1,6 +1,6 @@
 use Rattle.std.proofs.Common.{ap, sym, refl, ◌∙◌, ℕ, Option, None, Some}
-use Rattle.blz_entry.proofs.Marked.{good_some, marks_on}
-use Rattle.blz_entry.specs.Marks.{or_invalid}
+use Rattle.blz_info.proofs.Marked.{good_some, marks_on}
+use Rattle.blz_info.specs.Marks.{or_invalid}
 use Rattle.blz_index.specs.Readers.{reader_files, reader_table}
 use Rattle.blz_index.specs.UnitAnswers.{function_at}
 use Rattle.blz_index.proofs.CacheSteps.{units_same, units_again}

@@ -1,6 +1,6 @@
 use Rattle.std.proofs.Common.{◌<◌, ◌≤◌, length, ap, arith}
-use Rattle.blz_entry.specs.Marks.{or_invalid}
-use Rattle.blz_entry.proofs.Marked.{good_some, marks_on}
+use Rattle.blz_info.specs.Marks.{or_invalid}
+use Rattle.blz_info.proofs.Marked.{good_some, marks_on}
 use Rattle.blz_index.specs.Readers.{reader_files, reader_table}
 use Rattle.blz_index.proofs.CacheSteps.{units_same, units_again}
 use Rattle.blz_index.proofs.ListingSteps.{none_there, there_more, found_none, found_more, found_mark, found_all}

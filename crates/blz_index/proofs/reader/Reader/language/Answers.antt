@@ -1,4 +1,4 @@
-use Rattle.blz_entry.specs.Marks.{or_invalid}
+use Rattle.blz_info.specs.Marks.{or_invalid}
 use Rattle.blz_index.specs.Readers.{reader_files, reader_table}
 use Rattle.blz_index.specs.UnitAnswers.{unit_language}
 use Rattle.blz_index.proofs.KeptTold.{language_is, repeats_gives}

@@ -1,6 +1,6 @@
 use Rattle.std.proofs.Common.{Option, refl, sym, ◌∙◌, subst}
 use Rattle.blz_model.specs.Part.{Gives}
-use Rattle.blz_entry.specs.Marks.{or_invalid}
+use Rattle.blz_info.specs.Marks.{or_invalid}
 use Rattle.blz_line.specs.UnitLines.{LineTable}
 use Rattle.blz_index.specs.KeptParts.{lines_view}
 use Rattle.blz_index.specs.Readers.{reader_files, reader_table}

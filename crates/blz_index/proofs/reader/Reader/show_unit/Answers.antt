@@ -1,5 +1,5 @@
 use Rattle.std.proofs.Common.{Err, refl}
-use Rattle.blz_entry.specs.Marks.{or_invalid}
+use Rattle.blz_info.specs.Marks.{or_invalid}
 use Rattle.blz_index.specs.KeptParts.{functions_at, lists_view}
 use Rattle.blz_functions.specs.FunctionRanges.{FunctionRanges}
 use Rattle.blz_index.specs.Readers.{reader_files, reader_table}

@@ -1,6 +1,6 @@
 use Rattle.std.proofs.Common.{sym, ap, ◌∙◌, ◌+◌, ◌-◌, arith}
-use Rattle.blz_entry.specs.Marks.{or_invalid}
-use Rattle.blz_entry.proofs.Marked.{good_some, marks_on}
+use Rattle.blz_info.specs.Marks.{or_invalid}
+use Rattle.blz_info.proofs.Marked.{good_some, marks_on}
 use Rattle.blz_index.specs.declared.references.Followed.{Followed}
 use Rattle.blz_index.specs.declared.references.Followed.TheVariants.{Name, On}
 use Rattle.blz_index.proofs.Followed.{on_is, ends_is, fails_is, over_at}

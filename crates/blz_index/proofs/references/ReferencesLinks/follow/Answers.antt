@@ -1,7 +1,7 @@
 use Rattle.std.proofs.Common.{Option, subst}
 use Rattle.blz_model.specs.Part.{Gives}
-use Rattle.blz_entry.specs.Marks.{or_invalid}
-use Rattle.blz_entry.specs.declared.text.StrPlace.{StrPlace}
+use Rattle.blz_info.specs.Marks.{or_invalid}
+use Rattle.blz_info.specs.declared.text.StrPlace.{StrPlace}
 use Rattle.blz_index.proofs.Followed.{name_in}
 use Rattle.blz_index.proofs.references.ReferencesLinks.follow.Goals as goal
 

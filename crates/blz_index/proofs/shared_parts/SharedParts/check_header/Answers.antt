@@ -1,7 +1,7 @@
 use Rattle.std.proofs.Common.{refl, ap}
-use Rattle.blz_entry.specs.FileSections.{sections_view}
-use Rattle.blz_entry.specs.Marks.{or_invalid}
-use Rattle.blz_entry.proofs.Marked.{good_some}
+use Rattle.blz_info.specs.FileSections.{sections_view}
+use Rattle.blz_info.specs.Marks.{or_invalid}
+use Rattle.blz_info.proofs.Marked.{good_some}
 use Rattle.blz_index.proofs.Shared.{header_told}
 use Rattle.blz_index.proofs.shared_parts.SharedParts.check_header.Goals as goal
 

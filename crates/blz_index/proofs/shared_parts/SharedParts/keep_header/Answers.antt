@@ -1,5 +1,5 @@
 use Rattle.std.proofs.Common.{refl}
-use Rattle.blz_entry.specs.FileSections.{sections_view}
+use Rattle.blz_info.specs.FileSections.{sections_view}
 use Rattle.blz_index.proofs.Shared.{header_same, header_more}
 use Rattle.blz_index.proofs.shared_parts.SharedParts.keep_header.Goals as goal
 

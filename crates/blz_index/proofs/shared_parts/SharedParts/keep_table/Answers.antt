@@ -1,7 +1,7 @@
 use Rattle.std.proofs.Common.{◌≡◌, Some, refl}
 use Rattle.std.specs.Arc.{arc_value}
-use Rattle.blz_entry.specs.AbbreviationTables.{abbreviations}
-use Rattle.blz_entry.specs.FileSections.{sections_view}
+use Rattle.blz_info.specs.AbbreviationTables.{abbreviations}
+use Rattle.blz_info.specs.FileSections.{sections_view}
 use Rattle.blz_index.proofs.Shared.{table_same, table_more}
 use Rattle.blz_index.proofs.shared_parts.SharedParts.keep_table.Goals as goal
 

@@ -1,4 +1,4 @@
-use Rattle.blz_entry.proofs.Marked.{good_some}
+use Rattle.blz_info.proofs.Marked.{good_some}
 use Rattle.blz_index.proofs.shared_parts.SharedParts.read_and_keep.Goals as goal
 
 pub keep_table-requires-clause-table : goal.keep_table-requires-clause-table

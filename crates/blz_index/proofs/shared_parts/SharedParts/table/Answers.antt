@@ -1,7 +1,7 @@
 use Rattle.std.proofs.Common.{ap}
 use Rattle.std.specs.Arc.{arc_value}
-use Rattle.blz_entry.specs.FileSections.{sections_view}
-use Rattle.blz_entry.specs.Marks.{or_invalid}
+use Rattle.blz_info.specs.FileSections.{sections_view}
+use Rattle.blz_info.specs.Marks.{or_invalid}
 use Rattle.blz_index.proofs.Shared.{table_told}
 use Rattle.blz_index.proofs.shared_parts.SharedParts.table.Goals as goal
 

@@ -1,9 +1,9 @@
 use Rattle.std.proofs.Common.{◌≡◌, List, Option, Some, refl, ap}
 use Rattle.blz_model.specs.Reads.{◌>>=◌}
-use Rattle.blz_entry.specs.Marks.{or_invalid}
+use Rattle.blz_info.specs.Marks.{or_invalid}
 use Rattle.blz_entry.specs.declared.aranges.ArangeSet.{ArangeSet}
-use Rattle.blz_entry.specs.declared.units.UnitHeader.{UnitHeader}
-use Rattle.blz_entry.proofs.Marked.{good_some}
+use Rattle.blz_info.specs.declared.units.UnitHeader.{UnitHeader}
+use Rattle.blz_info.proofs.Marked.{good_some}
 use Rattle.blz_ranges.proofs.OwnedItems.{items_owned}
 use Rattle.blz_index.specs.BuiltUnits.{Files, files_view}
 use Rattle.blz_index.specs.Sets.{sets_from}

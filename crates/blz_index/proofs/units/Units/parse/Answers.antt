@@ -1,5 +1,5 @@
 use Rattle.std.proofs.Common.{refl}
-use Rattle.blz_entry.proofs.Marked.{good_some}
+use Rattle.blz_info.proofs.Marked.{good_some}
 use Rattle.blz_index.specs.BuiltUnits.{files_view}
 use Rattle.blz_index.specs.TableViews.{table_view}
 use Rattle.blz_index.specs.UnitTables.{units_of}

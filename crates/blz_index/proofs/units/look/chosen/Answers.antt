@@ -1,5 +1,5 @@
 use Rattle.std.proofs.Common.{refl, sym, ap}
-use Rattle.blz_entry.specs.Marks.{or_invalid}
+use Rattle.blz_info.specs.Marks.{or_invalid}
 use Rattle.blz_index.proofs.Choosing.{more, none, over}
 use Rattle.blz_index.proofs.units.look.chosen.Goals as goal
 

@@ -1,0 +1,17 @@
+pub mod Marks
+pub mod TextParts
+pub mod Contents
+pub mod Forms
+pub mod Abbrevs
+pub mod AbbreviationTables
+pub mod Attributes
+pub mod Sizes
+pub mod Headers
+pub mod Forest
+pub mod Walks
+pub mod Wanted
+pub mod AttributeRuns
+pub mod Passing
+pub mod Codes
+pub mod Listing
+pub mod FileSections

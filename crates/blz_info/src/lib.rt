@@ -1,0 +1,36 @@
+//! What stands in `.debug_info`: headers of units, abbreviations, forms, and the entries one after the other.
+#![tactic(auto)]
+
+mod abbreviations;
+mod attributes;
+mod behind;
+mod encoding;
+mod entries;
+mod extent;
+mod fault;
+mod field;
+mod form;
+pub mod laws;
+mod listing;
+mod passing;
+mod ready;
+mod runs;
+mod section;
+mod text;
+mod units;
+mod value;
+mod wanted;
+
+pub use abbreviations::{Abbreviation, Abbreviations, AttrSpec};
+pub use encoding::Encoding;
+pub use entries::{Entries, Entry};
+pub use extent::{Extent, extent_at};
+pub use fault::invalid;
+pub use field::{address_at, fixed_at, indexed_address, indexed_offset, offset_at};
+pub use form::{Field, Form, Makes, Width};
+pub use listing::{Listed, list_unit};
+pub use passing::Passing;
+pub use section::{Section, Sections, cut};
+pub use text::{StrBase, StrPart, StrPlace, Texts};
+pub use units::{UnitHeader, UnitHeaders, UnitKind, is_address_size};
+pub use value::{AttrValue, form_value};

@@ -1,0 +1,25 @@
+//! Which entries a walk passes over.
+ghost use Rattle.std.specs.Prelude.{◌≡◌};
+ghost use Rattle.blz_info.specs.Passing.{is_leaf, is_passed};
+
+/// Entries that are passed over without being looked at.
+#[derive(Clone, Copy)]
+pub enum Passing {
+    /// Those of other tags than one, and zeros.
+    Others,
+    /// Those of other tags that have no children.
+    Leaves,
+}
+
+impl Passing {
+    /// Whether an entry of a tag is passed over, where another tag is sought.
+    #[inline(always)]
+    pub(crate) fn takes(self, sought: u64, tag: u64, leaf: bool) -> bool
+        ensures { result ≡ is_passed self sought tag leaf }
+    {
+        match self {
+            Passing::Others => tag != sought,
+            Passing::Leaves => tag != sought && leaf,
+        }
+    }
+}
