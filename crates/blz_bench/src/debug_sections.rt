@@ -1,6 +1,6 @@
 //! The debug sections of an image, and its units.
 ghost use Rattle.std.specs.Prelude.{◌≡◌, ◌+◌, ◌<◌, ◌^◌, false, length, IfOk, None};
-ghost use Rattle.blz_index.specs.BuiltUnits.{AreSupTexts, AreTextsOf, AreWhole, ArePacked};
+ghost use Rattle.blz_units.specs.BuiltUnits.{AreSupTexts, AreTextsOf, AreWhole, ArePacked};
 
 use blz_elf::{ElfParser, RelocationMap};
 use blz_entry::{Abbreviations, Section, Sections, Texts, UnitHeader, UnitHeaders, UnitRoot};

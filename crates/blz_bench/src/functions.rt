@@ -1,7 +1,7 @@
 //! The functions of all units of a file.
 ghost use Rattle.std.specs.Prelude.{◌≡◌, false, None};
 ghost use Rattle.std.specs.FinMap as map;
-ghost use Rattle.blz_index.specs.BuiltUnits.{AreWhole, IsReadable};
+ghost use Rattle.blz_units.specs.BuiltUnits.{AreWhole, IsReadable};
 
 use crate::clocked::now;
 use crate::debug_sections::{alone, sections_of, texts_of};

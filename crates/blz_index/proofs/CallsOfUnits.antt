@@ -1,14 +1,14 @@
 -- The calls of a function, by its number in a unit, make a tree.
 use Rattle.std.proofs.Common.{◌≡◌, ℕ, List, map, Option, Some, None, refl, subst}
 use Rattle.blz_model.specs.Reads.{◌>>=◌}
-use Rattle.blz_index.specs.BuiltUnits.{Files}
+use Rattle.blz_units.specs.BuiltUnits.{Files}
 use Rattle.blz_functions.specs.CallTree.{CallLists, IsTreeOf, RangedCall, calls_of, calls_with, no_calls, tree_call, unit_calls}
 use Rattle.blz_functions.specs.Describing.{Refer}
 use Rattle.blz_functions.specs.Leaves.{UnitParts}
 use Rattle.blz_functions.specs.References.{refer_from}
 use Rattle.blz_index.specs.FunctionTrees.{HasTree}
-use Rattle.blz_index.specs.UnitAnswers.{read_unit, calls_in, place_calls, function_place, function_calls}
-use Rattle.blz_index.specs.UnitTables.{UnitTable, reach_of}
+use Rattle.blz_units.specs.UnitAnswers.{read_unit, calls_in, place_calls, function_place, function_calls}
+use Rattle.blz_units.specs.UnitTables.{UnitTable, reach_of}
 use Rattle.blz_functions.proofs.CallsTree.{calls_are_tree}
 
 -- the value of the first of two steps, where both have one

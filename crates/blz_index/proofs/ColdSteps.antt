@@ -7,24 +7,17 @@ use Rattle.blz_model.specs.declared.cache.Cache.{Cache}
 use Rattle.blz_model.specs.declared.cache.Cache.TheVariants.{Empty}
 use Rattle.blz_info.specs.Marks.{or_invalid}
 use Rattle.blz_info.specs.declared.units.UnitHeader.{UnitHeader}
-use Rattle.blz_index.specs.declared.built_unit.BuiltUnit.{BuiltUnit}
-use Rattle.blz_index.specs.declared.built_units.Side.{Side}
-use Rattle.blz_index.specs.declared.built_units.Side.TheVariants.{File, Sup}
-use Rattle.blz_index.specs.declared.built_units.SideUnits.{SideUnits}
-use Rattle.blz_index.specs.declared.units.caches.UnitCaches.{UnitCaches}
-use Rattle.blz_index.specs.declared.units.caches.Caches.{Caches}
-use Rattle.blz_index.specs.BuiltUnits.{Files, built_view, BuiltFits}
+use Rattle.blz_units.specs.declared.built_unit.BuiltUnit.{BuiltUnit}
+use Rattle.blz_units.specs.declared.built_units.Side.{Side}
+use Rattle.blz_units.specs.declared.built_units.Side.TheVariants.{File, Sup}
+use Rattle.blz_units.specs.declared.built_units.SideUnits.{SideUnits}
+use Rattle.blz_units.specs.declared.caches.UnitCaches.{UnitCaches}
+use Rattle.blz_units.specs.declared.caches.Caches.{Caches}
+use Rattle.blz_units.specs.BuiltUnits.{Files, built_view, BuiltFits}
 use Rattle.blz_index.specs.Cold.{NothingKept, HasNothing, IsCold}
-use Rattle.blz_index.specs.KeptParts.{or_empty, unit_root, unit_of, lists_view, lines_view, calls_view, kept_root, kept_functions, kept_lines, kept_calls, side_sections, CachesFit, AllBuilt, SideFits, AllFit}
-use Rattle.blz_index.specs.UnitAnswers.{unit_functions, unit_lines, function_calls}
-use Rattle.blz_index.specs.UnitTables.{UnitTable}
-
--- an empty cache behind others changes nothing
-pub push_empty : {X : Type 0} (xs : List (Cache X)) (k : ℕ) → or_empty (slice_get (xs ++ Empty ∷ []) k) ≡ or_empty (slice_get xs k)
-push_empty [] zero = refl
-push_empty [] (suc k) = refl
-push_empty (x ∷ xs) zero = refl
-push_empty (x ∷ xs) (suc k) = push_empty xs k
+use Rattle.blz_units.specs.KeptParts.{or_empty, unit_root, unit_of, lists_view, lines_view, calls_view, kept_root, kept_functions, kept_lines, kept_calls, side_sections, CachesFit, AllBuilt, SideFits, AllFit}
+use Rattle.blz_units.specs.UnitAnswers.{unit_functions, unit_lines, function_calls}
+use Rattle.blz_units.specs.UnitTables.{UnitTable}
 
 pub push_cold : (P : Option UnitCaches → Type 0) (xs : List UnitCaches) (x : UnitCaches) → P None → P (Some x) → ((k : ℕ) → P (slice_get xs k)) → (k : ℕ) → P (slice_get (xs ++ x ∷ []) k)
 push_cold P [] x none some each zero = some

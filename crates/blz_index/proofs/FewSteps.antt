@@ -2,8 +2,8 @@
 use Rattle.std.proofs.Common.{◌≡◌, ℕ, List, [], drop, Option, Some, None, Result, Ok, Err, refl, sym, ◌∙◌}
 use Rattle.blz_error.specs.Fault.{Fault}
 use Rattle.blz_model.specs.Part.{Good}
-use Rattle.blz_index.specs.declared.units.caches.UnitCaches.{UnitCaches}
-use Rattle.blz_index.specs.KeptAnswers.{Repeats, first_kept}
+use Rattle.blz_units.specs.declared.caches.UnitCaches.{UnitCaches}
+use Rattle.blz_units.specs.KeptAnswers.{Repeats, first_kept}
 use Rattle.blz_ranges.specs.Owned.{items_of}
 use Rattle.blz_ranges.specs.Ranges.{OwnedRanges}
 use Rattle.blz_ranges.specs.Turns.{covering}

@@ -5,10 +5,10 @@ use Rattle.std.specs.Prelude.{IfOk}
 use Rattle.blz_model.specs.Kept.{is_kept}
 use Rattle.blz_model.specs.declared.cache.Cache.{Cache}
 use Rattle.blz_model.specs.declared.cache.Cache.TheVariants.{Empty, Value, Mark}
-use Rattle.blz_index.specs.declared.units.caches.UnitCaches.{UnitCaches}
-use Rattle.blz_index.specs.BuiltUnits.{Files}
-use Rattle.blz_index.specs.KeptParts.{is_empty, kept_lines, lines_at, lacks_lines, PartsFit}
-use Rattle.blz_index.specs.UnitTables.{UnitTable}
+use Rattle.blz_units.specs.declared.caches.UnitCaches.{UnitCaches}
+use Rattle.blz_units.specs.BuiltUnits.{Files}
+use Rattle.blz_units.specs.KeptParts.{is_empty, kept_lines, lines_at, lacks_lines, PartsFit}
+use Rattle.blz_units.specs.UnitTables.{UnitTable}
 
 kept_by : {X : Type 0} (c : Cache X) → is_empty c ≡ false → is_kept c ≡ true
 kept_by Empty e = absurd cc

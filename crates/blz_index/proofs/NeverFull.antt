@@ -13,11 +13,11 @@ use Rattle.blz_line.specs.declared.row.LineRow.{LineRow}
 use Rattle.blz_line.specs.FileNames.{file_text}
 use Rattle.blz_line.specs.Lookups.{location_view, row_site, row_in, site_of}
 use Rattle.blz_line.specs.UnitLines.{LineTable}
-use Rattle.blz_index.specs.BuiltUnits.{Files}
-use Rattle.blz_index.specs.KeptAnswers.{Repeats}
-use Rattle.blz_index.specs.UnitAnswers.{unit_lines}
-use Rattle.blz_index.specs.UnitSites.{line_of, line_in, site_or, first_line}
-use Rattle.blz_index.specs.UnitTables.{UnitTable}
+use Rattle.blz_units.specs.BuiltUnits.{Files}
+use Rattle.blz_units.specs.KeptAnswers.{Repeats}
+use Rattle.blz_units.specs.UnitAnswers.{unit_lines}
+use Rattle.blz_units.specs.UnitSites.{line_of, line_in, site_or, first_line}
+use Rattle.blz_units.specs.UnitTables.{UnitTable}
 
 abbrev NeverFull : {A : Type 0} → Part A → Type 0
 NeverFull (Good x) = Unit {0}

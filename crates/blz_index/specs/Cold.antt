@@ -4,12 +4,12 @@ use Rattle.std.specs.List.{slice_get}
 use Rattle.blz_model.specs.declared.cache.Cache.{Cache}
 use Rattle.blz_model.specs.declared.cache.Cache.TheVariants.{Empty}
 use Rattle.blz_info.specs.FileSections.{FileSections}
-use Rattle.blz_index.specs.declared.built_unit.BuiltUnit.{BuiltUnit}
-use Rattle.blz_index.specs.declared.built_units.SideUnits.{SideUnits}
-use Rattle.blz_index.specs.declared.units.caches.UnitCaches.{UnitCaches}
-use Rattle.blz_index.specs.declared.units.caches.Caches.{Caches}
-use Rattle.blz_index.specs.KeptParts.{or_empty, kept_root, kept_functions, kept_lines, kept_calls}
-use Rattle.blz_index.specs.Sharing.{AreShared}
+use Rattle.blz_units.specs.declared.built_unit.BuiltUnit.{BuiltUnit}
+use Rattle.blz_units.specs.declared.built_units.SideUnits.{SideUnits}
+use Rattle.blz_units.specs.declared.caches.UnitCaches.{UnitCaches}
+use Rattle.blz_units.specs.declared.caches.Caches.{Caches}
+use Rattle.blz_units.specs.KeptParts.{or_empty, kept_root, kept_functions, kept_lines, kept_calls}
+use Rattle.blz_units.specs.Sharing.{AreShared}
 
 abbrev pub NothingKept : List (Cache BuiltUnit) → Type 0
 NothingKept caches = (k : ℕ) → or_empty (slice_get caches k) ≡ Empty

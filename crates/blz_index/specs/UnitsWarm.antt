@@ -1,25 +1,26 @@
 -- The units of a file with what is kept of them: the file that they fit, and what a call may add.
-use Rattle.std.specs.Prelude.{◌≡◌, ℕ, ◌+◌, ◌^◌, ◌<◌, ◌≤◌, Bool, true, false, List, [], length, Option, Some, None, Result, Ok, Err, ⊤}
-use Rattle.std.specs.List.{slice_get}
+use Rattle.std.specs.Prelude.{◌≡◌, ℕ, ◌+◌, ◌^◌, ◌<◌, ◌≤◌, Bool, true, false, List, length, Option, Some, None, Result, Ok, Err, ⊤}
 use Rattle.blz_error.specs.Fault.{Fault}
 use Rattle.blz_model.specs.Kept.{is_kept}
 use Rattle.blz_model.specs.declared.cache.Cache.{Cache}
-use Rattle.blz_model.specs.declared.cache.Cache.TheVariants.{Empty, Value, Mark}
-use Rattle.blz_ranges.specs.declared.span.Span.{Span}
+use Rattle.blz_model.specs.declared.cache.Cache.TheVariants.{Empty}
 use Rattle.blz_line.specs.UnitLines.{OrderedLines}
 use Rattle.blz_functions.specs.declared.functions.Function.{Function}
-use Rattle.blz_index.specs.declared.units.caches.UnitCaches.{UnitCaches}
+use Rattle.blz_units.specs.declared.caches.UnitCaches.{UnitCaches}
 use Rattle.blz_index.specs.declared.units.Units.{Units}
-use Rattle.blz_index.specs.BuiltUnits.{Files}
-use Rattle.blz_functions.specs.CallTree.{CallLists}
+use Rattle.blz_units.specs.BuiltUnits.{Files}
 use Rattle.blz_ranges.specs.Groups.{AreApart}
-use Rattle.blz_index.specs.Growing.{Told, UnitsGrowTo}
-use Rattle.blz_index.specs.KeptParts.{AllFit, AllFull, functions_at, lines_at, calls_at, calls_view}
-use Rattle.blz_ranges.specs.Owned.{Owned, items_of}
+use Rattle.blz_reader.specs.Growing.{Told, UnitsGrowTo}
+use Rattle.blz_units.specs.KeptParts.{AllFit, AllFull, functions_at, lines_at, calls_at}
+use Rattle.blz_ranges.specs.Owned.{items_of}
 use Rattle.blz_functions.specs.FunctionRanges.{FunctionRanges, CallRanges}
 use Rattle.blz_ranges.specs.Ranges.{OwnedRanges}
-use Rattle.blz_index.specs.TableViews.{table_view}
-use Rattle.blz_index.specs.UnitTables.{UnitTable, units_of}
+use Rattle.blz_units.specs.TableViews.{table_view}
+use Rattle.blz_units.specs.UnitTables.{UnitTable, units_of}
+use Rattle.blz_units.specs.KeptAnswers.{is_value, has_order, function_in, ranges_in}
+use Rattle.std.specs.List.{slice_get}
+use Rattle.blz_functions.specs.FunctionList.{Lists}
+use Rattle.blz_reader.specs.UnitNames.{list_in}
 
 -- ---- what is seen of them
 
@@ -42,32 +43,6 @@ functions_cache u k = functions_at u.caches.units.items k
 -- the inlined calls of a function of a unit that are kept
 abbrev pub calls_cache : Units → ℕ → ℕ → Cache CallRanges
 calls_cache u k n = calls_at u.caches.units.items k n
-
--- the value that is kept, where one is
-abbrev pub value_in : {X : Type 0} → Cache X → Option X
-value_in Empty = None
-value_in (Value x) = Some x
-value_in (Mark k) = None
-
-abbrev pub is_value : {X : Type 0} → Cache X → Bool
-is_value Empty = false
-is_value (Value x) = true
-is_value (Mark k) = false
-
-abbrev pub has_order : Cache FunctionRanges → Bool
-has_order Empty = false
-has_order (Value x) = x.ordered
-has_order (Mark k) = false
-
-abbrev pub function_in : Cache FunctionRanges → ℕ → Option Function
-function_in Empty n = None
-function_in (Value x) n = slice_get x.functions n
-function_in (Mark k) n = None
-
-abbrev pub ranges_in : Cache FunctionRanges → List (Owned Span)
-ranges_in Empty = []
-ranges_in (Value x) = x.ranges
-ranges_in (Mark k) = []
 
 -- whether the functions of a unit are there
 abbrev pub functions_kept : Units → ℕ → Bool
@@ -93,16 +68,11 @@ lines_cache u k = lines_at u.caches.units.items k
 abbrev pub lines_kept : Units → ℕ → Bool
 lines_kept u k = is_kept (lines_cache u k)
 
--- inlined calls by what is kept of them
-abbrev pub calls_told : Cache CallRanges → Option CallLists
-calls_told Empty = None
-calls_told (Value x) = Some (calls_view x)
-calls_told (Mark k) = None
+abbrev pub AllKept : Units → List (ℕ × ℕ) → Type 0
+AllKept u found = (i : ℕ) (at : ℕ × ℕ) → slice_get found i ≡ Some at → functions_kept u at.0 ≡ true
 
--- the same by the file
-abbrev pub calls_listed : Option CallLists → Option (Option CallLists)
-calls_listed None = None
-calls_listed (Some l) = Some (Some l)
+abbrev pub kept_list : Units → ℕ → Option (List Function)
+kept_list u k = list_in (functions_cache u k)
 
 -- ---- the file that they fit
 

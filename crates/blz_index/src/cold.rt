@@ -1,14 +1,14 @@
 //! Caches of units of which nothing is kept yet.
 ghost use Rattle.std.specs.Prelude.{◌≡◌, length, IfOk};
 ghost use Rattle.blz_index.specs.Cold.{NothingKept, AreEmpty, IsCold};
-ghost use Rattle.blz_index.specs.Sharing.{AreShared};
+ghost use Rattle.blz_units.specs.Sharing.{AreShared};
 ghost use Rattle.blz_info.specs.FileSections.{FileSections};
 
-use crate::built_unit::BuiltUnit;
-use crate::built_units::{BuiltUnits, SideUnits};
-use crate::shared_parts::SharedParts;
-use crate::units::caches::{Caches, UnitCaches};
 use blz_model::Cache;
+use blz_units::built_unit::BuiltUnit;
+use blz_units::built_units::{BuiltUnits, SideUnits};
+use blz_units::caches::{Caches, UnitCaches};
+use blz_units::shared_parts::SharedParts;
 use std::alloc::{AllocError, Global};
 
 fn empty_units(alloc: Global, count: usize) -> Result<Vec<Cache<BuiltUnit>>, AllocError>

@@ -2,10 +2,10 @@
 ghost use Rattle.std.specs.Prelude.{◌≡◌, ℕ, List, Some, length};
 ghost use Rattle.blz_functions.specs.CallTree.{CallLists, IsTreeOf};
 ghost use Rattle.blz_functions.specs.Chain.{IsNested, IsPath, TreeCall, chain};
-ghost use Rattle.blz_index.specs.BuiltUnits.{Files};
+ghost use Rattle.blz_units.specs.BuiltUnits.{Files};
 ghost use Rattle.blz_index.specs.FunctionTrees.{HasTree};
-ghost use Rattle.blz_index.specs.UnitAnswers.{function_calls};
-ghost use Rattle.blz_index.specs.UnitTables.{UnitTable};
+ghost use Rattle.blz_units.specs.UnitAnswers.{function_calls};
+ghost use Rattle.blz_units.specs.UnitTables.{UnitTable};
 
 pub use blz_functions::laws::calls_are_tree;
 pub use blz_ranges::laws::best_and_next_give_all;

@@ -3,24 +3,25 @@ ghost use Rattle.std.specs.Prelude.{◌≡◌, ◌<◌, ◌-◌, true, length, O
 ghost use Rattle.blz_model.specs.Part.{Exactly};
 ghost use Rattle.blz_info.specs.Marks.{or_invalid};
 ghost use Rattle.blz_line.specs.Lookups.{location_view};
-ghost use Rattle.blz_index.specs.BuiltUnits.{Files};
-ghost use Rattle.blz_index.specs.KeptAnswers.{Repeats, first_kept, first_kept_line};
-ghost use Rattle.blz_index.specs.KeptParts.{functions_at};
+ghost use Rattle.blz_units.specs.BuiltUnits.{Files};
+ghost use Rattle.blz_units.specs.KeptAnswers.{Repeats, first_kept, first_kept_line, is_value};
+ghost use Rattle.blz_units.specs.KeptParts.{functions_at};
 ghost use Rattle.blz_ranges.specs.Owned.{items_of};
 ghost use Rattle.blz_ranges.specs.Turns.{covering};
 ghost use Rattle.blz_ranges.specs.Owned.{owners_of};
-ghost use Rattle.blz_index.specs.UnitAnswers.{unit_language, function_at};
-ghost use Rattle.blz_index.specs.UnitSites.{location_at};
-ghost use Rattle.blz_index.specs.UnitsWarm.{units_table, units_prepared, functions_kept, is_value, UnitsFit, FewLooks, LooksFew};
+ghost use Rattle.blz_units.specs.UnitAnswers.{unit_language, function_at};
+ghost use Rattle.blz_units.specs.UnitSites.{location_at};
+ghost use Rattle.blz_index.specs.UnitsWarm.{units_table, units_prepared, functions_kept, UnitsFit, FewLooks, LooksFew};
 
-use crate::units::caches::UnitCaches;
-use crate::units::{Units, look};
-use crate::units_at::UnitsAt;
+use crate::units::Units;
 use blz_bytes::Steps;
 use blz_entry::Texts;
 use blz_error::Result;
 use blz_line::Location;
 use blz_model::SrcLang;
+use blz_units::caches::UnitCaches;
+use blz_units::look;
+use blz_units::units_at::UnitsAt;
 use std::sync::ledger::Ledger;
 
 /// Of the units that are still to be asked the first that has a function for an address.

@@ -6,12 +6,12 @@ use Rattle.blz_ranges.specs.declared.span.Span.{Span}
 use Rattle.blz_model.specs.Reads.{◌>>=◌}
 use Rattle.blz_ranges.specs.Best.{best, covers, IsBest}
 use Rattle.blz_info.specs.declared.units.UnitHeader.{UnitHeader}
-use Rattle.blz_index.specs.BuiltUnits.{Files, reading}
+use Rattle.blz_units.specs.BuiltUnits.{Files, reading}
 use Rattle.blz_functions.specs.FunctionList.{Lists}
 use Rattle.blz_ranges.specs.Owned.{Owned, items_of}
 use Rattle.blz_ranges.specs.Ranges.{owner_of, best_owner}
-use Rattle.blz_index.specs.UnitAnswers.{lists_in, read_unit, unit_functions, best_of, best_function, found_or, first_function, function_at}
-use Rattle.blz_index.specs.UnitTables.{UnitTable, announcing}
+use Rattle.blz_units.specs.UnitAnswers.{lists_in, read_unit, unit_functions, best_of, best_function, found_or, first_function, function_at}
+use Rattle.blz_units.specs.UnitTables.{UnitTable, announcing}
 use Rattle.blz_ranges.proofs.Backward.{passing_covers}
 use Rattle.blz_ranges.proofs.BestOf.{best_is_best}
 use Rattle.blz_resolver.specs.AnswerLaws.{HasRange, IsCovered}

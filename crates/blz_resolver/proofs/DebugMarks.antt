@@ -13,11 +13,11 @@ use Rattle.blz_line.specs.Lookups.{row_site, row_in}
 use Rattle.blz_line.specs.UnitLines.{LineTable}
 use Rattle.blz_line.specs.declared.row.LineRow.{LineRow}
 use Rattle.blz_split.specs.PackageParts.{package_of}
-use Rattle.blz_index.specs.BuiltUnits.{Files}
+use Rattle.blz_units.specs.BuiltUnits.{Files}
 use Rattle.blz_functions.specs.FunctionList.{Lists}
-use Rattle.blz_index.specs.UnitAnswers.{unit_functions, unit_language, unit_lines, function_at}
-use Rattle.blz_index.specs.UnitSites as sites
-use Rattle.blz_index.specs.UnitTables.{UnitTable}
+use Rattle.blz_units.specs.UnitAnswers.{unit_functions, unit_language, unit_lines, function_at}
+use Rattle.blz_units.specs.UnitSites as sites
+use Rattle.blz_units.specs.UnitTables.{UnitTable}
 use Rattle.blz_functions.specs.declared.inlined_functions.InlinedFunction.{InlinedFunction}
 use Rattle.blz_resolver.specs.AddressAnswers.{function_numbered, function_symbol, direct_site, places_of, function_answer, with_place, symbol_answer, answer_by, answer_in, answer_of}
 use Rattle.blz_resolver.specs.Books.{Book, if_there, sup_image, debug_images, frame_of, framed}

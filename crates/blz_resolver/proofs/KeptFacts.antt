@@ -2,7 +2,7 @@
 use Rattle.std.proofs.Common.{◌≡◌, ◌<◌, ℕ, Bool, true, Option, Some, None, Result, Ok, Err, is_some, refl, sym, ◌∙◌, subst, arith}
 use Rattle.blz_elf.specs.Sources.{Source}
 use Rattle.std.specs.Result.{IfOk}
-use Rattle.blz_index.specs.Growing.{Told}
+use Rattle.blz_reader.specs.Growing.{Told}
 use Rattle.blz_index.specs.UnitsWarm.{lines_kept, units_prepared}
 use Rattle.blz_bundle.specs.Images.{ImageSet}
 use Rattle.blz_resolver.specs.Resolver.{Fits, HasBook, HasBookIf, ArePrepared, UnitsStayIf, UnitsGrowIf, lines_in, units_in}

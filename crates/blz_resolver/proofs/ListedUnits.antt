@@ -8,7 +8,7 @@ use Rattle.blz_elf.proofs.ListingLemmas.{read_refused}
 use Rattle.blz_info.specs.Marks.{or_invalid}
 use Rattle.blz_info.specs.declared.text.Texts.{Texts}
 use Rattle.blz_functions.specs.FunctionList.{Lists}
-use Rattle.blz_index.specs.UnitNames.{listed}
+use Rattle.blz_reader.specs.UnitNames.{listed}
 use Rattle.blz_resolver.specs.FunctionNames.{lists_listing}
 use Rattle.blz_bundle.specs.Images.{ImageSet}
 

@@ -15,8 +15,8 @@ use Rattle.blz_info.specs.TextParts.{text_of}
 use Rattle.blz_info.specs.declared.text.StrPlace.{StrPlace}
 use Rattle.blz_info.specs.declared.text.Texts.{Texts}
 use Rattle.blz_functions.specs.FunctionList.{Lists}
-use Rattle.blz_index.specs.UnitAnswers.{unit_functions, is_called, first_called, with_called, called_from, functions_named}
-use Rattle.blz_index.specs.UnitSites.{call_name}
+use Rattle.blz_units.specs.UnitAnswers.{unit_functions, is_called, first_called, with_called, called_from, functions_named}
+use Rattle.blz_units.specs.UnitSites.{call_name}
 use Rattle.blz_functions.specs.declared.functions.Function.{Function}
 use Rattle.blz_resolver.specs.AddressAnswers.{function_numbered, begin_of, size_of}
 use Rattle.blz_resolver.specs.AnswerLaws.{AllRead, IsNamedAt, IsSomeList}

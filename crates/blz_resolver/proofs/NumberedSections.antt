@@ -12,7 +12,8 @@ use Rattle.blz_model.specs.Texts.{name_at}
 use Rattle.blz_model.proofs.PartLemmas.{bind_good}
 use Rattle.blz_image.specs.Headers.{header_of}
 use Rattle.blz_image.specs.Images.{Elf, elf_of, name_table, names_of, section_named, section_called, data_named, image_section, image_section_data, image_data_named}
-use Rattle.blz_image.specs.Sections.{Section, sections_of, data_of}
+use Rattle.blz_image.specs.Sections.{sections_of, data_of}
+use Rattle.blz_image.specs.declared.section.Section.{Section}
 use Rattle.blz_resolver.specs.DebugSections.{Located, data_numbered, located, name_of}
 use Rattle.blz_resolver.specs.declared.debug_section.DebugSection.{DebugSection}
 

@@ -13,11 +13,11 @@ use Rattle.blz_info.specs.declared.text.Texts.{Texts}
 use Rattle.blz_info.specs.FileSections.{FileSections, sections_view}
 use Rattle.blz_split.specs.PackageParts.{PackageParts, package_view}
 use Rattle.blz_split.specs.declared.package.Package.{Package}
-use Rattle.blz_index.specs.BuiltUnits.{Files, files_view, bytes_of, AreSupTexts, ArePacked, IsReadable}
-use Rattle.blz_index.specs.UnitAnswers.{unit_lines}
-use Rattle.blz_index.specs.UnitTables.{units_of}
+use Rattle.blz_units.specs.BuiltUnits.{Files, files_view, bytes_of, AreSupTexts, ArePacked, IsReadable}
+use Rattle.blz_units.specs.UnitAnswers.{unit_lines}
+use Rattle.blz_units.specs.UnitTables.{units_of}
 use Rattle.blz_index.specs.UnitsWarm.{units_table, UnitsFit}
-use Rattle.blz_index.specs.declared.dwarf.Dwarf.{Dwarf}
+use Rattle.blz_units.specs.declared.dwarf.Dwarf.{Dwarf}
 use Rattle.blz_resolver.specs.AddressAnswers.{answer_in, answers_in, answer, answer_of}
 use Rattle.blz_resolver.specs.Books.{Book, files_in, frame_of, framed}
 use Rattle.blz_bundle.specs.BundleViews.{bundle_view}

@@ -1,7 +1,7 @@
 -- What a reader keeps of its units over calls on them.
 use Rattle.std.proofs.Common.{◌≡◌}
-use Rattle.blz_index.specs.BuiltUnits.{files_view, IsReadable}
-use Rattle.blz_index.specs.Growing.{Told}
+use Rattle.blz_units.specs.BuiltUnits.{files_view, IsReadable}
+use Rattle.blz_reader.specs.Growing.{Told}
 use Rattle.blz_index.specs.UnitsWarm.{units_prepared, UnitsFit, UnitsGrow}
 use Rattle.blz_index.specs.declared.units.Units.{Units}
 use Rattle.blz_resolver.specs.Reading.{Reads, Keeps}

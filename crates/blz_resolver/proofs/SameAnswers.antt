@@ -7,7 +7,7 @@ use Rattle.blz_symbols.specs.SymbolRule.{image_symbol}
 use Rattle.blz_elf.specs.declared.opts.FindSymOpts.{FindSymOpts}
 use Rattle.blz_info.specs.Marks.{or_invalid}
 use Rattle.blz_info.specs.declared.text.Texts.{Texts}
-use Rattle.blz_index.specs.UnitAnswers.{unit_language, function_at}
+use Rattle.blz_units.specs.UnitAnswers.{unit_language, function_at}
 use Rattle.blz_resolver.specs.AddressAnswers.{function_numbered, begin_of, size_of, function_symbol, direct_site, places_of, placed, function_answer, with_place, symbol_answer, answer_by, answer_in}
 use Rattle.blz_resolver.specs.Books.{Book}
 use Rattle.blz_resolver.specs.CallFrames.{Places, one_place, one_place_if, frames}

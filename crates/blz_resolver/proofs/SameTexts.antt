@@ -17,10 +17,10 @@ use Rattle.blz_line.specs.Lookups.{row_site, row_in, site_of}
 use Rattle.blz_line.specs.UnitLines.{LineTable}
 use Rattle.blz_line.specs.declared.files.FilePlaces.{FilePlaces}
 use Rattle.blz_line.specs.declared.row.LineRow.{LineRow}
-use Rattle.blz_index.specs.BuiltUnits.{Files}
-use Rattle.blz_index.specs.UnitAnswers.{unit_lines, covering_calls}
-use Rattle.blz_index.specs.UnitSites as sites
-use Rattle.blz_index.specs.UnitTables.{UnitTable, announcing}
+use Rattle.blz_units.specs.BuiltUnits.{Files}
+use Rattle.blz_units.specs.UnitAnswers.{unit_lines, covering_calls}
+use Rattle.blz_units.specs.UnitSites as sites
+use Rattle.blz_units.specs.UnitTables.{UnitTable, announcing}
 use Rattle.blz_functions.specs.declared.inlined_functions.InlinedFunction.{InlinedFunction}
 
 pub record SameTexts (t u : Texts) : Type 0 where

@@ -7,14 +7,15 @@ use Rattle.blz_model.specs.Part.{Part, ◌>>=◌}
 use Rattle.blz_model.specs.declared.cache.Cache.{Cache}
 use Rattle.blz_model.specs.declared.cache.Cache.TheVariants.{Empty, Value, Mark}
 use Rattle.blz_info.specs.Marks.{or_invalid}
-use Rattle.blz_index.specs.BuiltUnits.{Files}
+use Rattle.blz_units.specs.BuiltUnits.{Files}
 use Rattle.blz_functions.specs.FunctionList.{Lists}
-use Rattle.blz_index.specs.Growing.{Told, Made, AreOrdered}
-use Rattle.blz_index.specs.KeptParts.{lists_view, lines_at, kept_functions, kept_lines, is_empty, lacks_lines}
+use Rattle.blz_reader.specs.Growing.{Told, Made, AreOrdered}
+use Rattle.blz_units.specs.KeptParts.{lists_view, lines_at, kept_functions, kept_lines, is_empty, lacks_lines}
 use Rattle.blz_functions.specs.FunctionRanges.{FunctionRanges}
-use Rattle.blz_index.specs.UnitAnswers.{unit_functions}
-use Rattle.blz_index.specs.UnitsWarm.{units_table, units_prepared, functions_cache, functions_kept, kept_function, function_in, lines_kept, is_value, has_order, UnitsFit, UnitsGrow}
-use Rattle.blz_index.specs.declared.units.caches.UnitCaches.{UnitCaches}
+use Rattle.blz_units.specs.UnitAnswers.{unit_functions}
+use Rattle.blz_index.specs.UnitsWarm.{units_table, units_prepared, functions_cache, functions_kept, kept_function, lines_kept, UnitsFit, UnitsGrow}
+use Rattle.blz_units.specs.KeptAnswers.{function_in, is_value, has_order}
+use Rattle.blz_units.specs.declared.caches.UnitCaches.{UnitCaches}
 use Rattle.blz_index.specs.declared.units.Units.{Units}
 use Rattle.blz_resolver.specs.Reading.{FunctionsStay, UnitsStay}
 

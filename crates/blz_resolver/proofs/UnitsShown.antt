@@ -7,8 +7,8 @@ use Rattle.blz_elf.specs.Infos.{Info}
 use Rattle.blz_elf.specs.Listings.{Listing, then_also, Told, Shown, IsShown, Breaks, IsRefused}
 use Rattle.blz_elf.proofs.ListingLemmas.{shown_more, break_first, refuse_first}
 use Rattle.blz_elf.proofs.ListingSteps.{behind, SoFar, none_yet}
-use Rattle.blz_index.specs.BuiltUnits.{files_view}
-use Rattle.blz_index.specs.UnitTables.{UnitTable}
+use Rattle.blz_units.specs.BuiltUnits.{files_view}
+use Rattle.blz_units.specs.UnitTables.{UnitTable}
 use Rattle.blz_index.specs.UnitsWarm.{units_table}
 use Rattle.blz_index.specs.declared.units.Units.{Units}
 use Rattle.blz_resolver.specs.Books.{Book}

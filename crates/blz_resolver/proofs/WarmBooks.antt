@@ -10,7 +10,7 @@ use Rattle.blz_moves.specs.Relocations.{SectionMap}
 use Rattle.blz_image.specs.RelocationTables.{image_relocations}
 use Rattle.blz_info.specs.Marks.{or_invalid}
 use Rattle.blz_split.specs.PackageParts.{PackageParts, package_of, package_view}
-use Rattle.blz_index.specs.UnitTables.{sups_checked}
+use Rattle.blz_units.specs.UnitTables.{sups_checked}
 use Rattle.blz_index.specs.UnitsWarm.{units_prepared, UnitsFit}
 use Rattle.blz_index.specs.declared.units.Units.{Units}
 use Rattle.blz_resolver.specs.Books.{DebugImages, as_sup, debug_images, files_in, if_there, sup_image}

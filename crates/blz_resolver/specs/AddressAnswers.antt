@@ -11,8 +11,8 @@ use Rattle.blz_elf.specs.declared.opts.FindSymOpts.{FindSymOpts}
 use Rattle.blz_info.specs.Marks.{or_invalid}
 use Rattle.blz_ranges.specs.declared.span.Span.{Span}
 use Rattle.blz_info.specs.declared.text.Texts.{Texts}
-use Rattle.blz_index.specs.UnitAnswers.{unit_language, unit_functions, function_at}
-use Rattle.blz_index.specs.UnitSites.{call_name, location_at, inlined_at}
+use Rattle.blz_units.specs.UnitAnswers.{unit_language, unit_functions, function_at}
+use Rattle.blz_units.specs.UnitSites.{call_name, location_at, inlined_at}
 use Rattle.blz_functions.specs.declared.functions.Function.{Function}
 use Rattle.blz_resolver.specs.Books.{Book, frame_of}
 use Rattle.blz_resolver.specs.CallFrames.{Places, no_places, one_place, one_place_if, frames}

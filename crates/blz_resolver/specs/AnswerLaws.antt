@@ -5,12 +5,12 @@ use Rattle.blz_ranges.specs.declared.span.Span.{Span}
 use Rattle.blz_model.specs.Part.{Part, Good}
 use Rattle.blz_elf.specs.Infos.{Info}
 use Rattle.blz_ranges.specs.Best.{Covers}
-use Rattle.blz_index.specs.BuiltUnits.{Files}
+use Rattle.blz_units.specs.BuiltUnits.{Files}
 use Rattle.blz_functions.specs.FunctionList.{Lists}
 use Rattle.blz_ranges.specs.Owned.{Owned}
-use Rattle.blz_index.specs.UnitAnswers.{unit_functions, function_at}
-use Rattle.blz_index.specs.UnitSites.{call_name}
-use Rattle.blz_index.specs.UnitTables.{UnitTable}
+use Rattle.blz_units.specs.UnitAnswers.{unit_functions, function_at}
+use Rattle.blz_units.specs.UnitSites.{call_name}
+use Rattle.blz_units.specs.UnitTables.{UnitTable}
 use Rattle.blz_functions.specs.declared.functions.Function.{Function}
 use Rattle.blz_resolver.specs.AddressAnswers.{function_numbered}
 use Rattle.blz_resolver.specs.Books.{Book}

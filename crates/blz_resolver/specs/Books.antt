@@ -7,8 +7,8 @@ use Rattle.blz_info.specs.Contents.{Contents}
 use Rattle.blz_info.specs.Marks.{or_invalid}
 use Rattle.blz_info.specs.FileSections.{FileSections}
 use Rattle.blz_split.specs.PackageParts.{PackageParts, package_of}
-use Rattle.blz_index.specs.BuiltUnits.{Files}
-use Rattle.blz_index.specs.UnitTables.{UnitTable, sups_checked, units_of}
+use Rattle.blz_units.specs.BuiltUnits.{Files}
+use Rattle.blz_units.specs.UnitTables.{UnitTable, sups_checked, units_of}
 use Rattle.blz_resolver.specs.DebugSections.{DebugImage, debug_image, sections_of}
 use Rattle.blz_bundle.specs.Images.{NamedImage, ImageSet, debug_file}
 

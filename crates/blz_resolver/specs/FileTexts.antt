@@ -5,7 +5,7 @@ use Rattle.blz_info.specs.Contents.{Contents}
 use Rattle.blz_info.specs.declared.text.Texts.{Texts}
 use Rattle.blz_info.specs.FileSections.{FileSections}
 use Rattle.blz_split.specs.PackageParts.{PackageParts}
-use Rattle.blz_index.specs.BuiltUnits.{Files}
+use Rattle.blz_units.specs.BuiltUnits.{Files}
 
 -- bytes that lie anywhere
 abbrev pub resting : List ℕ → Bor (List ℕ)

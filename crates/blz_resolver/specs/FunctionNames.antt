@@ -12,8 +12,8 @@ use Rattle.blz_elf.specs.declared.find_addr_opts.FindAddrOpts.{FindAddrOpts}
 use Rattle.blz_info.specs.Marks.{or_invalid}
 use Rattle.blz_info.specs.declared.text.Texts.{Texts}
 use Rattle.blz_functions.specs.FunctionList.{Lists}
-use Rattle.blz_index.specs.UnitAnswers.{unit_functions, functions_named}
-use Rattle.blz_index.specs.UnitSites.{call_name}
+use Rattle.blz_units.specs.UnitAnswers.{unit_functions, functions_named}
+use Rattle.blz_units.specs.UnitSites.{call_name}
 use Rattle.blz_functions.specs.declared.functions.Function.{Function}
 use Rattle.blz_resolver.specs.AddressAnswers.{function_numbered, begin_of, size_of}
 use Rattle.blz_resolver.specs.Books.{Book, frame_of}

@@ -1,7 +1,7 @@
 -- How many entries of the indexes an answer from what was prepared looks at.
 use Rattle.std.specs.Prelude.{◌≡◌, ℕ, Option, Some, None, Ok, ⊤}
 use Rattle.blz_model.specs.Part.{Good}
-use Rattle.blz_index.specs.UnitAnswers.{function_at}
+use Rattle.blz_units.specs.UnitAnswers.{function_at}
 use Rattle.blz_index.specs.UnitsWarm.{LooksFew}
 use Rattle.blz_index.specs.declared.units.Units.{Units}
 use Rattle.blz_resolver.specs.Books.{Book, frame_of}

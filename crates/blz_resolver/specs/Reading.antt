@@ -1,6 +1,6 @@
 -- The book that is read of a bundle by its units, and what stays of them over a call.
 use Rattle.std.specs.Prelude.{◌≡◌, ℕ, true}
-use Rattle.blz_index.specs.BuiltUnits.{files_view, IsReadable}
+use Rattle.blz_units.specs.BuiltUnits.{files_view, IsReadable}
 use Rattle.blz_index.specs.UnitsWarm.{units_table, announced_ordered, units_prepared, functions_kept, functions_ordered, lines_kept, UnitsFit}
 use Rattle.blz_index.specs.declared.units.Units.{Units}
 use Rattle.blz_resolver.specs.Books.{Book}

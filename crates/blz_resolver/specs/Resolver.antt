@@ -4,7 +4,7 @@ use Rattle.std.specs.FinMap as finite
 use Rattle.blz_model.specs.Part.{Good}
 use Rattle.blz_elf.specs.Sources.{Source}
 use Rattle.blz_index.specs.UnitsWarm.{units_prepared, lines_kept, UnitsFit, UnitsGrow}
-use Rattle.blz_index.specs.Growing.{Told}
+use Rattle.blz_reader.specs.Growing.{Told}
 use Rattle.blz_index.specs.declared.units.Units.{Units}
 use Rattle.blz_resolver.specs.Books.{debug_images, files_in}
 use Rattle.blz_resolver.specs.FileViews.{images_view}

@@ -3,7 +3,7 @@ use Rattle.std.specs.Prelude.{ℕ, Bool, true, false, List, length, map, Option,
 use Rattle.blz_model.specs.Part.{Part, Good, Broken, ◌>>=◌}
 use Rattle.blz_info.specs.Marks.{or_invalid}
 use Rattle.blz_info.specs.declared.text.Texts.{Texts}
-use Rattle.blz_index.specs.UnitAnswers.{unit_lines}
+use Rattle.blz_units.specs.UnitAnswers.{unit_lines}
 use Rattle.blz_line.specs.FileNames.{file_text}
 use Rattle.blz_line.specs.Sequences.{Sequence}
 use Rattle.blz_line.specs.UnitLines.{LineTable}

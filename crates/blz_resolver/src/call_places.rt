@@ -3,7 +3,7 @@ ghost use Rattle.std.specs.Prelude.{◌≡◌, true, false, is_some, map, None, 
 ghost use Rattle.std.specs.Option.{option_map};
 ghost use Rattle.blz_elf.specs.CallViews as shown;
 ghost use Rattle.blz_line.specs.Lookups.{location_view};
-ghost use Rattle.blz_index.specs.SiteViews.{inlined_view};
+ghost use Rattle.blz_reader.specs.SiteViews.{inlined_view};
 ghost use Rattle.blz_resolver.specs.CallFrames.{shown_site, site_of_next, moved, no_places, one_place, one_place_if, frames};
 ghost use Rattle.blz_resolver.specs.PlaceViews.{places_view};
 

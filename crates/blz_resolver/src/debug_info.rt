@@ -8,7 +8,7 @@ ghost use Rattle.blz_elf.specs.Listings.{ShowsAll};
 ghost use Rattle.blz_info.specs.Marks.{or_invalid};
 ghost use Rattle.blz_ranges.specs.Keyed.{IsAccepted, begin_key};
 ghost use Rattle.blz_ranges.specs.Owned.{items_of};
-ghost use Rattle.blz_index.specs.UnitTables.{units_of};
+ghost use Rattle.blz_units.specs.UnitTables.{units_of};
 ghost use Rattle.blz_index.specs.UnitsWarm.{units_table, units_prepared, lines_kept, announced_ordered, UnitsFit, UnitsGrow, AreCold};
 ghost use Rattle.blz_resolver.specs.AddressAnswers.{answer_of};
 ghost use Rattle.blz_resolver.specs.Books.{files_in, frame_of};

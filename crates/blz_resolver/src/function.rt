@@ -2,7 +2,7 @@
 ghost use Rattle.std.specs.Prelude.{◌≡◌, ◌<◌, true, length, IfOk};
 ghost use Rattle.blz_model.specs.Part.{Gives, Exactly};
 ghost use Rattle.blz_elf.specs.AnswerView.{resolved_view};
-ghost use Rattle.blz_index.specs.UnitSites.{call_name};
+ghost use Rattle.blz_units.specs.UnitSites.{call_name};
 ghost use Rattle.blz_index.specs.UnitsWarm.{units_table, functions_kept, lines_kept};
 ghost use Rattle.blz_resolver.specs.AddressAnswers.{utf8_text, function_numbered, begin_of, size_of, function_symbol};
 ghost use Rattle.blz_resolver.specs.Reading.{book_of, Reads, Keeps};

@@ -3,8 +3,7 @@ ghost use Rattle.std.specs.Prelude.{◌≡◌, ℕ, ◌<◌, true, [], map, leng
 ghost use Rattle.std.specs.Option.{unwrap_or};
 ghost use Rattle.blz_model.specs.Part.{Gives, Exactly, all_good};
 ghost use Rattle.blz_elf.specs.Infos.{info_view};
-ghost use Rattle.blz_index.specs.UnitNames.{AllKept};
-ghost use Rattle.blz_index.specs.UnitsWarm.{functions_kept};
+ghost use Rattle.blz_index.specs.UnitsWarm.{functions_kept, AllKept};
 ghost use Rattle.blz_functions.specs.declared.functions.Function.{Function};
 ghost use Rattle.blz_resolver.specs.AddressAnswers.{size_of};
 ghost use Rattle.blz_bundle.specs.BundleViews.{bundle_view};

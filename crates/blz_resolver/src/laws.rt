@@ -1,8 +1,8 @@
 //! What holds between the answers.
 ghost use Rattle.std.specs.Prelude.{◌≡◌, ℕ, List, false, Some};
-ghost use Rattle.blz_index.specs.BuiltUnits.{Files};
-ghost use Rattle.blz_index.specs.UnitAnswers.{function_at};
-ghost use Rattle.blz_index.specs.UnitTables.{UnitTable};
+ghost use Rattle.blz_units.specs.BuiltUnits.{Files};
+ghost use Rattle.blz_units.specs.UnitAnswers.{function_at};
+ghost use Rattle.blz_units.specs.UnitTables.{UnitTable};
 ghost use Rattle.blz_resolver.specs.AnswerLaws.{AllRead, IsCovered, IsNamedAt, IsSomeList};
 ghost use Rattle.blz_resolver.specs.Books.{Book};
 ghost use Rattle.blz_resolver.specs.FileTexts.{texts_of};

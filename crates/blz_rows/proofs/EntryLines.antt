@@ -16,10 +16,10 @@ use Rattle.blz_line.specs.UnitLines.{LineTable}
 use Rattle.blz_line.specs.declared.files.FilePlaces.{FilePlaces}
 use Rattle.blz_line.specs.declared.row.LineRow.{LineRow}
 use Rattle.blz_line.proofs.RisingRows.{bound}
-use Rattle.blz_index.specs.BuiltUnits.{Files}
-use Rattle.blz_index.specs.UnitAnswers.{main_unit, unit_lines}
-use Rattle.blz_index.specs.UnitSites.{first_line, line_in, line_of, location_at, site_or}
-use Rattle.blz_index.specs.UnitTables.{UnitTable, lines_in}
+use Rattle.blz_units.specs.BuiltUnits.{Files}
+use Rattle.blz_units.specs.UnitAnswers.{main_unit, unit_lines}
+use Rattle.blz_units.specs.UnitSites.{first_line, line_in, line_of, location_at, site_or}
+use Rattle.blz_units.specs.UnitTables.{UnitTable, lines_in}
 use Rattle.blz_resolver.specs.Books.{Book}
 use Rattle.blz_resolver.specs.FileTexts.{texts_of}
 use Rattle.blz_resolver.specs.UnitRowsRead.{Rows, rows_in, rows_with}

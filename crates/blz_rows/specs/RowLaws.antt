@@ -4,8 +4,8 @@ use Rattle.blz_model.specs.Answers.{Site}
 use Rattle.blz_model.specs.Part.{Part, Good}
 use Rattle.blz_line.specs.Lookups.{best_sequence}
 use Rattle.blz_line.specs.Sequences.{Sequence}
-use Rattle.blz_index.specs.UnitSites.{line_in}
-use Rattle.blz_index.specs.UnitTables.{announcing}
+use Rattle.blz_units.specs.UnitSites.{line_in}
+use Rattle.blz_units.specs.UnitTables.{announcing}
 use Rattle.blz_resolver.specs.Books.{Book}
 use Rattle.blz_resolver.specs.FileTexts.{texts_of}
 use Rattle.blz_resolver.specs.UnitRowsRead.{Rows, rows_in}

@@ -1,6 +1,6 @@
 //! What holds between the answers.
 ghost use Rattle.std.specs.Prelude.{◌≡◌, ◌≢◌, ℕ, List};
-ghost use Rattle.blz_index.specs.UnitSites.{location_at};
+ghost use Rattle.blz_units.specs.UnitSites.{location_at};
 ghost use Rattle.blz_line.specs.Sequences.{Sequence};
 ghost use Rattle.blz_model.specs.Part.{Good};
 ghost use Rattle.blz_resolver.specs.Books.{Book};

@@ -4,47 +4,21 @@ ghost use Rattle.std.specs.Option.{option_map};
 ghost use Rattle.blz_model.specs.Part.{Gives, Exactly};
 ghost use Rattle.blz_info.specs.Marks.{or_invalid};
 ghost use Rattle.blz_line.specs.UnitLines.{OrderedLines};
-ghost use Rattle.blz_index.specs.BuiltUnits.{Files, files_view, IsReadable};
-ghost use Rattle.blz_index.specs.Growing.{UnitsGrowTo};
-ghost use Rattle.blz_index.specs.KeptAnswers.{Repeats, kept_part};
-ghost use Rattle.blz_index.specs.KeptParts.{lists_view, calls_view, calls_at, AllFit};
-ghost use Rattle.blz_index.specs.Readers.{reader_files, reader_table};
-ghost use Rattle.blz_index.specs.UnitAnswers.{unit_functions, unit_lines, function_calls};
-ghost use Rattle.blz_index.specs.UnitsWarm.{units_table, lines_kept, units_prepared, functions_cache, lines_cache, calls_cache, calls_kept, calls_listed, calls_told, is_value, value_in, UnitsFit, UnitsGrow};
+ghost use Rattle.blz_units.specs.BuiltUnits.{Files, files_view, IsReadable};
+ghost use Rattle.blz_units.specs.KeptAnswers.{Repeats, kept_part, calls_listed, calls_told, value_in};
+ghost use Rattle.blz_units.specs.KeptParts.{lists_view, calls_view};
+ghost use Rattle.blz_units.specs.UnitAnswers.{unit_functions, unit_lines, function_calls};
+ghost use Rattle.blz_index.specs.UnitsWarm.{units_table, lines_kept, units_prepared, functions_cache, lines_cache, calls_cache, calls_kept, UnitsFit, UnitsGrow};
 
-use crate::dwarf::Dwarf;
-use crate::reader::Reader;
-use crate::units::caches::Caches;
-use crate::units::{Units, look};
+use crate::units::Units;
 use blz_bytes::Orders;
 use blz_error::Result;
 use blz_functions::{Functions, InlinedFunctions};
 use blz_line::Lines;
+use blz_reader::reader::Reader;
+use blz_units::dwarf::Dwarf;
+use blz_units::look;
 use std::alloc::{AllocError, Global};
-
-impl<'r, 's, 'b> Reader<'r, 's, 'b> {
-    /// Reads the calls of a function of a unit where they are not kept; refused where they have no value.
-    fn list_calls<O: Orders>(
-        &self,
-        orders: &mut O,
-        caches: &mut Caches,
-        number: usize,
-        function: usize,
-    ) -> Result<()>
-        requires readable { IsReadable self.now.dwarf.now }
-        requires fits { AllFit (reader_files self.now) (reader_table self.now) caches.old }
-        ensures value { Gives (λ _. calls_told (calls_at caches.new.units.items number function)) result (or_invalid (calls_listed (function_calls (reader_files self.now) (reader_table self.now) number function))) }
-        ensures there { IfOk result (λ _. is_value (calls_at caches.new.units.items number function) ≡ true) }
-        ensures fits { AllFit (reader_files self.now) (reader_table self.now) caches.new }
-        ensures grows { UnitsGrowTo O.pair_places caches.old.units.items caches.new.units.items }
-    {
-        self.fill_calls(orders, caches, number, function)?;
-        match look::calls_of(caches.units.as_slice(), number, function) {
-            Ok(_) => Ok(()),
-            Err(fault) => Err(fault),
-        }
-    }
-}
 
 impl Units {
     /// The functions of a unit, with their ranges; Some exactly where they are kept.

@@ -1,7 +1,7 @@
 //! Files of units, in the little-endian order.
 ghost use Rattle.std.specs.Prelude.{◌≡◌};
 ghost use Rattle.std.specs.FinMap as map;
-ghost use Rattle.blz_index.specs.BuiltUnits.{IsReadable};
+ghost use Rattle.blz_units.specs.BuiltUnits.{IsReadable};
 
 use blz_entry::{Section, Sections, Texts};
 use blz_error::{ErrorKind, Result};

@@ -1,4 +1,4 @@
-use Rattle.blz_index.specs.BuiltUnits.{files_view}
+use Rattle.blz_units.specs.BuiltUnits.{files_view}
 use Rattle.blz_index.specs.UnitsWarm.{UnitsFit}
 use Rattle.blz_bench.proofs.functions.count_functions.Given as goal
 

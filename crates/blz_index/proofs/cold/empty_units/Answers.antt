@@ -1,7 +1,7 @@
 use Rattle.std.proofs.Common.{◌∙◌, arith}
 use Rattle.std.proofs.lemmas.List.{length_push}
 use Rattle.blz_model.specs.declared.cache.Cache.TheVariants.{Empty}
-use Rattle.blz_index.proofs.ColdSteps.{push_empty}
+use Rattle.blz_units.proofs.PutItems.{push_empty}
 use Rattle.blz_index.proofs.cold.empty_units.Goals as goal
 
 pub loop-preserved : goal.loop-preserved

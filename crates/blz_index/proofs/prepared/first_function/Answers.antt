@@ -1,5 +1,5 @@
 use Rattle.std.proofs.Common.{sym, ◌∙◌, Some, None}
-use Rattle.blz_index.proofs.UnitSteps.{kept_over, kept_on, kept_fails}
+use Rattle.blz_reader.proofs.UnitSteps.{kept_over, kept_on, kept_fails}
 use Rattle.blz_index.proofs.prepared.first_function.Goals as goal
 
 pub returns-in-None-clause-value : goal.returns-in-None-clause-value

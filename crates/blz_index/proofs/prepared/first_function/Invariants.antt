@@ -1,5 +1,5 @@
 use Rattle.std.proofs.Common.{◌≡◌, length}
-use Rattle.blz_index.specs.KeptAnswers.{first_kept}
+use Rattle.blz_units.specs.KeptAnswers.{first_kept}
 use Rattle.blz_index.proofs.prepared.first_function.Given as goal
 
 abbrev pub invariant-loop-number : goal.invariant-loop-number

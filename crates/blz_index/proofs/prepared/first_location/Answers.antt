@@ -1,6 +1,6 @@
 use Rattle.std.proofs.Common.{sym, ◌∙◌, Some, None}
 use Rattle.blz_line.specs.Lookups.{location_view}
-use Rattle.blz_index.proofs.UnitSteps.{kept_line_over, kept_line_on, kept_line_fails}
+use Rattle.blz_reader.proofs.UnitSteps.{kept_line_over, kept_line_on, kept_line_fails}
 use Rattle.blz_index.proofs.prepared.first_location.Goals as goal
 
 pub returns-in-None : goal.returns-in-None

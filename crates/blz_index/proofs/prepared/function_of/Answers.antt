@@ -1,9 +1,9 @@
 use Rattle.std.proofs.Common.{sym, Some, None, subst, arith, ℕ, Option}
 use Rattle.blz_model.specs.Part.{Part}
-use Rattle.blz_index.specs.KeptAnswers.{Repeats}
+use Rattle.blz_units.specs.KeptAnswers.{Repeats}
 use Rattle.blz_ranges.proofs.OneCovers.{looks_few}
 use Rattle.blz_index.proofs.FewSteps.{few_after}
-use Rattle.blz_index.proofs.UnitSteps.{kept_over, kept_on, kept_fails}
+use Rattle.blz_reader.proofs.UnitSteps.{kept_over, kept_on, kept_fails}
 use Rattle.blz_index.proofs.prepared.function_of.Goals as goal
 
 pub returns-in-None-clause-value : goal.returns-in-None-clause-value

@@ -3,7 +3,7 @@ use Rattle.std.proofs.lemmas.List.{map_push, nil_from_length}
 use Rattle.blz_model.specs.Answers.{Site, Inlined}
 use Rattle.blz_elf.specs.CallViews as shown
 use Rattle.blz_line.specs.Lookups.{location_view}
-use Rattle.blz_index.specs.SiteViews.{inlined_view}
+use Rattle.blz_reader.specs.SiteViews.{inlined_view}
 use Rattle.blz_resolver.specs.CallFrames.{site_of_next, moved}
 use Rattle.blz_resolver.proofs.MovedCalls.{next_of_last, moved_on, last_call, map_reverse, moved_all}
 use Rattle.blz_resolver.proofs.call_places.moved.Goals as goal

@@ -1,7 +1,7 @@
 use Rattle.std.proofs.Common.{◌≡◌, ◌++◌, map, option_map, reverse, vec_len}
 use Rattle.blz_elf.specs.CallViews as shown
 use Rattle.blz_line.specs.Lookups.{location_view}
-use Rattle.blz_index.specs.SiteViews.{inlined_view}
+use Rattle.blz_reader.specs.SiteViews.{inlined_view}
 use Rattle.blz_resolver.specs.CallFrames.{site_of_next, moved}
 use Rattle.blz_resolver.proofs.call_places.moved.Given as goal
 

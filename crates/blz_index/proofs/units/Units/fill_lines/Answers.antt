@@ -1,8 +1,8 @@
 use Rattle.std.proofs.Common.{refl}
-use Rattle.blz_index.specs.BuiltUnits.{files_view}
+use Rattle.blz_units.specs.BuiltUnits.{files_view}
 use Rattle.blz_index.specs.UnitsWarm.{units_table}
 use Rattle.blz_index.proofs.LentLines.{lines_filled}
-use Rattle.blz_index.proofs.UnitsFits.{fit_on}
+use Rattle.blz_index.proofs.UnitsAgain.{fit_on}
 use Rattle.blz_index.proofs.units.Units.fill_lines.Goals as goal
 
 pub returns-clause-there : goal.returns-clause-there

@@ -1,7 +1,7 @@
-use Rattle.blz_index.specs.UnitAnswers.{function_at}
-use Rattle.blz_index.specs.UnitTables.{announcing}
+use Rattle.blz_units.specs.UnitAnswers.{function_at}
+use Rattle.blz_units.specs.UnitTables.{announcing}
 use Rattle.blz_index.specs.UnitsWarm.{units_table}
-use Rattle.blz_index.proofs.KeptTold.{first_is, repeats_exactly}
+use Rattle.blz_reader.proofs.KeptTold.{first_is, repeats_exactly}
 use Rattle.blz_index.proofs.units.Units.find_function_prepared.Goals as goal
 
 pub returns-clause-value : goal.returns-clause-value

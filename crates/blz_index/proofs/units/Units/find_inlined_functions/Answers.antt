@@ -1,6 +1,6 @@
 use Rattle.std.proofs.Common.{refl}
-use Rattle.blz_index.specs.BuiltUnits.{files_view}
-use Rattle.blz_index.proofs.UnitsFits.{fit_on}
+use Rattle.blz_units.specs.BuiltUnits.{files_view}
+use Rattle.blz_index.proofs.UnitsAgain.{fit_on}
 use Rattle.blz_index.proofs.units.Units.find_inlined_functions.Goals as goal
 
 pub returns-clause-fits : goal.returns-clause-fits

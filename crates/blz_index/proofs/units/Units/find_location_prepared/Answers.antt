@@ -1,7 +1,7 @@
-use Rattle.blz_index.specs.UnitSites.{location_at}
-use Rattle.blz_index.specs.UnitTables.{announcing}
+use Rattle.blz_units.specs.UnitSites.{location_at}
+use Rattle.blz_units.specs.UnitTables.{announcing}
 use Rattle.blz_index.specs.UnitsWarm.{units_table}
-use Rattle.blz_index.proofs.KeptTold.{first_line_is}
+use Rattle.blz_reader.proofs.KeptTold.{first_line_is}
 use Rattle.blz_index.proofs.NeverFull.{line_exactly}
 use Rattle.blz_index.proofs.units.Units.find_location_prepared.Goals as goal
 

@@ -1,4 +1,4 @@
-use Rattle.blz_index.proofs.LentParts.{calls_looked}
+use Rattle.blz_index.proofs.LentUnits.{calls_looked}
 use Rattle.blz_index.proofs.units.Units.inlined_functions.Goals as goal
 
 pub returns-clause-value : goal.returns-clause-value

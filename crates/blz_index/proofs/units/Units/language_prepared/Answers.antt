@@ -1,6 +1,6 @@
-use Rattle.blz_index.specs.UnitAnswers.{unit_language}
+use Rattle.blz_units.specs.UnitAnswers.{unit_language}
 use Rattle.blz_index.specs.UnitsWarm.{units_table}
-use Rattle.blz_index.proofs.KeptTold.{language_is, repeats_exactly}
+use Rattle.blz_reader.proofs.KeptTold.{language_is, repeats_exactly}
 use Rattle.blz_index.proofs.units.Units.language_prepared.Goals as goal
 
 pub returns : goal.returns

@@ -1,8 +1,8 @@
 use Rattle.std.proofs.Common.{refl}
 use Rattle.blz_info.proofs.Marked.{good_some}
-use Rattle.blz_index.specs.BuiltUnits.{files_view}
-use Rattle.blz_index.specs.TableViews.{table_view}
-use Rattle.blz_index.specs.UnitTables.{units_of}
+use Rattle.blz_units.specs.BuiltUnits.{files_view}
+use Rattle.blz_units.specs.TableViews.{table_view}
+use Rattle.blz_units.specs.UnitTables.{units_of}
 use Rattle.blz_index.proofs.ColdSteps.{cold_fits}
 use Rattle.blz_index.proofs.units.Units.parse.Goals as goal
 

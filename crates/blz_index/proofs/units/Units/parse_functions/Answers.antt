@@ -1,6 +1,6 @@
 use Rattle.std.proofs.Common.{sym}
 use Rattle.std.proofs.lemmas.Result.{err_from_is_err_and}
-use Rattle.blz_index.proofs.LentParts.{lists_refused, not_none}
+use Rattle.blz_reader.proofs.LentParts.{lists_refused, not_none}
 use Rattle.blz_index.proofs.units.Units.parse_functions.Goals as goal
 
 pub returns-in_err-fill_functions : goal.returns-in_err-fill_functions

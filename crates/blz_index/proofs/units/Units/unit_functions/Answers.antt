@@ -1,4 +1,4 @@
-use Rattle.blz_index.proofs.LentParts.{functions_looked}
+use Rattle.blz_index.proofs.LentUnits.{functions_looked}
 use Rattle.blz_index.proofs.units.Units.unit_functions.Goals as goal
 
 pub returns-clause-value : goal.returns-clause-value

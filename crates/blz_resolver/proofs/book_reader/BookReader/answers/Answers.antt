@@ -4,9 +4,9 @@ use Rattle.blz_model.specs.Answers.{Answer}
 use Rattle.blz_model.specs.Part.{Part, Gives}
 use Rattle.blz_model.proofs.PartLemmas.{all_on, all_start}
 use Rattle.blz_elf.specs.AnswerView.{answer_view}
-use Rattle.blz_index.specs.UnitTables.{UnitTable}
+use Rattle.blz_units.specs.UnitTables.{UnitTable}
 use Rattle.blz_bundle.specs.BundleViews.{bundle_view}
-use Rattle.blz_index.specs.BuiltUnits.{files_view}
+use Rattle.blz_units.specs.BuiltUnits.{files_view}
 use Rattle.blz_resolver.specs.AddressAnswers.{answer_in, answers_in}
 use Rattle.blz_resolver.specs.Books.{Book}
 use Rattle.blz_resolver.specs.Reading.{book_of}

@@ -1,6 +1,6 @@
 use Rattle.std.proofs.Common.{◌<◌, ◌≤◌, length, inl, inr, ap, arith}
 use Rattle.std.proofs.lemmas.Result.{err_from_is_err_and}
-use Rattle.blz_index.specs.UnitTables.{UnitTable}
+use Rattle.blz_units.specs.UnitTables.{UnitTable}
 use Rattle.blz_index.specs.UnitsWarm.{units_table}
 use Rattle.blz_resolver.specs.Reading.{book_of}
 use Rattle.blz_resolver.proofs.ReaderSteps.{keeps_same, keeps_on}

@@ -1,6 +1,6 @@
 use Rattle.std.proofs.lemmas.Result.{err_from_is_err_and}
-use Rattle.blz_index.specs.BuiltUnits.{files_view}
-use Rattle.blz_index.specs.UnitAnswers.{unit_functions}
+use Rattle.blz_units.specs.BuiltUnits.{files_view}
+use Rattle.blz_units.specs.UnitAnswers.{unit_functions}
 use Rattle.blz_index.specs.UnitsWarm.{units_table}
 use Rattle.blz_bundle.specs.BundleViews.{bundle_view}
 use Rattle.blz_resolver.proofs.ListedUnits.{unit_broken}

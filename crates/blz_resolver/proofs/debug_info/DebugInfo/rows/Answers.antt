@@ -2,7 +2,7 @@ use Rattle.std.proofs.Common.{ap, ◌∙◌, Option, option_map}
 use Rattle.std.proofs.lemmas.Result.{err_from_is_err_and}
 use Rattle.blz_model.specs.Part.{Part, Good, ◌>>=◌}
 use Rattle.blz_line.specs.UnitLines.{LineTable}
-use Rattle.blz_index.specs.BuiltUnits.{files_view}
+use Rattle.blz_units.specs.BuiltUnits.{files_view}
 use Rattle.blz_bundle.specs.BundleViews.{bundle_view}
 use Rattle.blz_resolver.specs.UnitRowsRead.{rows_with}
 use Rattle.blz_resolver.proofs.ReadBooks.{rows_read, rows_given, lines_fit}

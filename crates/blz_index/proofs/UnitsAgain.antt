@@ -1,0 +1,18 @@
+-- Units that a call has asked fit the same file.
+use Rattle.std.proofs.Common.{◌≡◌, Some, refl, sym, ap, ◌∙◌}
+use Rattle.blz_index.specs.declared.units.Units.{Units}
+use Rattle.blz_units.specs.BuiltUnits.{Files}
+use Rattle.blz_reader.specs.Growing.{Told, UnitsGrowTo}
+use Rattle.blz_units.specs.KeptParts.{AllFit}
+use Rattle.blz_index.specs.UnitsWarm.{units_table, UnitsFit}
+use Rattle.blz_reader.proofs.UnitsFits.{full_stays}
+
+-- The table stays, and what is kept grew and fits: so the units fit.
+pub fit_on : (f : Files) (told : Told) (old new : Units) → UnitsFit f old → new.table ≡ old.table → new.prepared ≡ old.prepared → AllFit f (units_table old) new.caches → UnitsGrowTo told old.caches.units.items new.caches.units.items → UnitsFit f new
+fit_on f told old new fits table prepared kept grows =
+    let same : units_table new ≡ units_table old = rw table refl in
+    record {
+      table = fits.table ∙ ap Some (sym same);
+      caches = rw same kept;
+      full = λ e k. full_stays told old.caches.units.items new.caches.units.items k (fits.caches.units.same ∙ sym kept.units.same) grows (fits.full (rw prepared at e) k);
+    }

@@ -1,6 +1,0 @@
-use Rattle.blz_index.specs.Readers.{reader_files, reader_table}
-use Rattle.blz_index.proofs.KeptTold.{root_mark}
-use Rattle.blz_index.proofs.reader.Reader.lines_part.Goals as goal
-
-pub returns-in-Err-clause-kept : goal.returns-in-Err-clause-kept
-returns-in-Err-clause-kept g c = rw c.kind.ensures (root_mark (reader_files c.args.self.now) (reader_table c.args.self.now) c.args.units.now c.args.number _ c.requires.fits c.requires.filled c.in-Err.ensures)

@@ -1,6 +1,0 @@
-use Rattle.std.proofs.Common.{◌∙◌}
-use Rattle.blz_index.proofs.ColdSteps.{push_empty}
-use Rattle.blz_index.proofs.units.caches.lengthen.Goals as goal
-
-pub loop-calls-preserved : goal.loop-calls-preserved
-loop-calls-preserved c = rw c.in_ok-push.ensures.items (λ n. push_empty c.loop-calls.calls.items n ∙ c.loop-calls.invariant n)

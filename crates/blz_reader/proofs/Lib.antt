@@ -1,0 +1,14 @@
+pub mod ShownSteps
+pub mod NameSteps
+pub mod CacheSteps
+pub mod CallNames
+pub mod CallPuts
+pub mod Followed
+pub mod KeptTold
+pub mod MainLines
+pub mod UnitSteps
+pub mod UnitsFits
+pub mod AmongUnits
+pub mod SiteSteps
+pub mod ListingSteps
+pub mod LentParts

@@ -1,0 +1,9 @@
+pub mod Linkage
+pub mod SiteViews
+pub mod Growing
+pub mod Readers
+pub mod Following
+pub mod Linking
+pub mod Putting
+pub mod ShownFunctions
+pub mod UnitNames

@@ -1,0 +1,306 @@
+//! The parts of units, kept when they are first asked for.
+ghost use Rattle.std.specs.Prelude.{◌≡◌, ◌<◌, true, false, IfOk};
+ghost use Rattle.std.specs.List.{slice_get};
+ghost use Rattle.blz_model.specs.Kept.{Kept, is_kept};
+ghost use Rattle.blz_model.specs.Part.{Gives};
+ghost use Rattle.blz_model.specs.declared.cache.Cache.TheVariants.{Empty};
+ghost use Rattle.blz_info.specs.Marks.{or_invalid};
+ghost use Rattle.blz_units.specs.BuiltUnits.{IsReadable};
+ghost use Rattle.blz_reader.specs.Growing.{Told, Made, AreOrdered, LinesOrdered, CallsOrdered, UnitsGrowTo};
+ghost use Rattle.blz_units.specs.KeptParts.{unit_root, lists_view, lines_view, calls_view, lacks_root, lacks_functions, lacks_lines, lacks_calls, BuiltFit, PartsFit, AllFit};
+ghost use Rattle.blz_reader.specs.Readers.{reader_files, reader_table};
+ghost use Rattle.blz_units.specs.UnitAnswers.{unit_functions, unit_lines, function_calls};
+
+use crate::puts::{put_calls, put_functions, put_lines, put_root};
+use crate::reader::Reader;
+use blz_bytes::Orders;
+use blz_entry::UnitRoot;
+use blz_error::ErrorKind;
+use blz_functions::{CallLists, Functions, InlinedFunctions};
+use blz_line::Lines;
+use blz_model::Cache;
+use blz_units::built_units::BuiltUnits;
+use blz_units::caches::{
+    Caches, UnitCaches, lacks_calls, lacks_functions, lacks_lines, lacks_root,
+};
+use blz_units::look::{function_place, root_of};
+use std::alloc::AllocError;
+
+impl<'r, 's, 'b> Reader<'r, 's, 'b> {
+    /// What is kept of the root of a unit itself.
+    fn root_part(
+        &self,
+        built: &mut BuiltUnits,
+        number: usize,
+    ) -> Result<Cache<UnitRoot>, AllocError>
+        requires readable { IsReadable self.now.dwarf.now }
+        requires fits { BuiltFit (reader_files self.now) (reader_table self.now) built.old }
+        ensures kept { IfOk result (λ c. Kept (λ _. Unit {0}) (λ r. r) c (or_invalid (unit_root (reader_files self.now) (reader_table self.now) number))) }
+        ensures full { IfOk result (λ c. is_kept c ≡ true) }
+        ensures fits { BuiltFit (reader_files self.now) (reader_table self.now) built.new }
+    {
+        match self.read_root(built, number) {
+            Ok(root) => Ok(Cache::Value(root)),
+            Err(e) if e.kind() == ErrorKind::OutOfMemory => Err(AllocError),
+            Err(e) => Ok(Cache::Mark(e.kind())),
+        }
+    }
+
+    /// Reads the root of a unit itself where it is not kept.
+    #[tactic(auto, using(crate::proofs::CacheSteps::units_same, crate::proofs::CacheSteps::units_again))]
+    pub fn fill_root(&self, caches: &mut Caches, number: usize) -> Result<(), AllocError>
+        requires readable { IsReadable self.now.dwarf.now }
+        requires fits { AllFit (reader_files self.now) (reader_table self.now) caches.old }
+        ensures filled { IfOk result (λ _. lacks_root (slice_get caches.new.units.items number) ≡ false) }
+        ensures fits { AllFit (reader_files self.now) (reader_table self.now) caches.new }
+        ensures grows { (told : Told) → UnitsGrowTo told caches.old.units.items caches.new.units.items }
+    {
+        if !lacks_root(caches.units.as_slice(), number) {
+            return Ok(());
+        }
+        self.put_root_of(caches, number)
+    }
+
+    /// Puts the root of a unit itself, which lacks it.
+    #[tactic(auto, using(crate::proofs::CacheSteps::units_same))]
+    fn put_root_of(&self, caches: &mut Caches, number: usize) -> Result<(), AllocError>
+        requires readable { IsReadable self.now.dwarf.now }
+        requires fits { AllFit (reader_files self.now) (reader_table self.now) caches.old }
+        requires lacks { lacks_root (slice_get caches.old.units.items number) ≡ true }
+        ensures filled { IfOk result (λ _. lacks_root (slice_get caches.new.units.items number) ≡ false) }
+        ensures fits { AllFit (reader_files self.now) (reader_table self.now) caches.new }
+        ensures grows { (told : Told) → UnitsGrowTo told caches.old.units.items caches.new.units.items }
+    {
+        let root = self.root_part(&mut caches.built, number)?;
+        put_root(&mut caches.units, number, root);
+        Ok(())
+    }
+
+    /// What is kept of the functions of a unit.
+    fn functions_part<O: Orders>(
+        &self,
+        orders: &mut O,
+        built: &mut BuiltUnits,
+        number: usize,
+    ) -> Result<Cache<Functions>, AllocError>
+        requires readable { IsReadable self.now.dwarf.now }
+        requires fits { BuiltFit (reader_files self.now) (reader_table self.now) built.old }
+        ensures kept { IfOk result (λ c. Kept (λ _. Unit {0}) lists_view c (or_invalid (unit_functions (reader_files self.now) (reader_table self.now) number))) }
+        ensures full { IfOk result (λ c. is_kept c ≡ true) }
+        ensures ordered { IfOk result (λ c. Made (AreOrdered O.pair_places) Empty c) }
+        ensures fits { BuiltFit (reader_files self.now) (reader_table self.now) built.new }
+    {
+        match self.read_functions(built, number) {
+            Ok(lists) => {
+                let functions = lists.indexed(self.alloc, orders)?;
+                Ok(Cache::Value(functions))
+            },
+            Err(e) if e.kind() == ErrorKind::OutOfMemory => Err(AllocError),
+            Err(e) => Ok(Cache::Mark(e.kind())),
+        }
+    }
+
+    /// Reads the functions of a unit where they are not kept.
+    #[tactic(auto, using(crate::proofs::CacheSteps::units_same, crate::proofs::CacheSteps::units_again))]
+    pub fn fill_functions<O: Orders>(
+        &self,
+        orders: &mut O,
+        caches: &mut Caches,
+        number: usize,
+    ) -> Result<(), AllocError>
+        requires readable { IsReadable self.now.dwarf.now }
+        requires fits { AllFit (reader_files self.now) (reader_table self.now) caches.old }
+        ensures filled { IfOk result (λ _. lacks_functions (slice_get caches.new.units.items number) ≡ false) }
+        ensures fits { AllFit (reader_files self.now) (reader_table self.now) caches.new }
+        ensures grows { UnitsGrowTo O.pair_places caches.old.units.items caches.new.units.items }
+    {
+        if !lacks_functions(caches.units.as_slice(), number) {
+            return Ok(());
+        }
+        self.put_functions_of(orders, caches, number)
+    }
+
+    /// Puts the functions of a unit that lacks them.
+    #[tactic(auto, using(crate::proofs::CacheSteps::units_same))]
+    fn put_functions_of<O: Orders>(
+        &self,
+        orders: &mut O,
+        caches: &mut Caches,
+        number: usize,
+    ) -> Result<(), AllocError>
+        requires readable { IsReadable self.now.dwarf.now }
+        requires fits { AllFit (reader_files self.now) (reader_table self.now) caches.old }
+        requires lacks { lacks_functions (slice_get caches.old.units.items number) ≡ true }
+        ensures filled { IfOk result (λ _. lacks_functions (slice_get caches.new.units.items number) ≡ false) }
+        ensures fits { AllFit (reader_files self.now) (reader_table self.now) caches.new }
+        ensures grows { UnitsGrowTo O.pair_places caches.old.units.items caches.new.units.items }
+    {
+        let functions = self.functions_part(orders, &mut caches.built, number)?;
+        put_functions(&mut caches.units, number, functions);
+        Ok(())
+    }
+
+    /// What is kept of the lines of a unit, whose root is kept.
+    fn lines_part<O: Orders>(
+        &self,
+        orders: &mut O,
+        units: &[UnitCaches],
+        number: usize,
+    ) -> Result<Cache<Option<Lines>>, AllocError>
+        requires fits { PartsFit (reader_files self.now) (reader_table self.now) units.now }
+        requires filled { lacks_root (slice_get units.now number) ≡ false }
+        ensures kept { IfOk result (λ c. Kept (λ _. Unit {0}) lines_view c (or_invalid (unit_lines (reader_files self.now) (reader_table self.now) number))) }
+        ensures full { IfOk result (λ c. is_kept c ≡ true) }
+        ensures ordered { IfOk result (λ c. Made (LinesOrdered O.pair_places) Empty c) }
+    {
+        let root = match root_of(units, number) {
+            Ok(root) => root,
+            Err(e) => return Ok(Cache::Mark(e.kind())),
+        };
+        match self.read_lines(orders, number, &root) {
+            Ok(lines) => Ok(Cache::Value(lines)),
+            Err(e) if e.kind() == ErrorKind::OutOfMemory => Err(AllocError),
+            Err(e) => Ok(Cache::Mark(e.kind())),
+        }
+    }
+
+    /// Reads the lines of a unit where they are not kept.
+    #[tactic(auto, using(crate::proofs::CacheSteps::units_same, crate::proofs::CacheSteps::units_again))]
+    pub fn fill_lines<O: Orders>(
+        &self,
+        orders: &mut O,
+        caches: &mut Caches,
+        number: usize,
+    ) -> Result<(), AllocError>
+        requires readable { IsReadable self.now.dwarf.now }
+        requires fits { AllFit (reader_files self.now) (reader_table self.now) caches.old }
+        ensures filled { IfOk result (λ _. lacks_lines (slice_get caches.new.units.items number) ≡ false) }
+        ensures fits { AllFit (reader_files self.now) (reader_table self.now) caches.new }
+        ensures grows { UnitsGrowTo O.pair_places caches.old.units.items caches.new.units.items }
+    {
+        self.fill_root(caches, number)?;
+        if !lacks_lines(caches.units.as_slice(), number) {
+            return Ok(());
+        }
+        self.put_lines_of(orders, &mut caches.units, number)
+    }
+
+    /// Puts the lines of a unit that lacks them, whose root is kept.
+    #[tactic(auto, using(crate::proofs::CacheSteps::units_same))]
+    fn put_lines_of<O: Orders>(
+        &self,
+        orders: &mut O,
+        units: &mut Vec<UnitCaches>,
+        number: usize,
+    ) -> Result<(), AllocError>
+        requires fits { PartsFit (reader_files self.now) (reader_table self.now) units.old.items }
+        requires root { lacks_root (slice_get units.old.items number) ≡ false }
+        requires lacks { lacks_lines (slice_get units.old.items number) ≡ true }
+        ensures filled { IfOk result (λ _. lacks_lines (slice_get units.new.items number) ≡ false) }
+        ensures fits { PartsFit (reader_files self.now) (reader_table self.now) units.new.items }
+        ensures grows { UnitsGrowTo O.pair_places units.old.items units.new.items }
+    {
+        let lines = self.lines_part(orders, units.as_slice(), number)?;
+        put_lines(units, number, lines);
+        Ok(())
+    }
+
+    /// The calls of a function of a unit, whose functions are kept.
+    fn calls_by_number(
+        &self,
+        built: &mut BuiltUnits,
+        units: &[UnitCaches],
+        number: usize,
+        function: usize,
+    ) -> blz_error::Result<CallLists>
+        requires readable { IsReadable self.now.dwarf.now }
+        requires built { BuiltFit (reader_files self.now) (reader_table self.now) built.old }
+        requires fits { PartsFit (reader_files self.now) (reader_table self.now) units.now }
+        requires filled { lacks_functions (slice_get units.now number) ≡ false }
+        ensures value { Gives (λ l. l) result (or_invalid (function_calls (reader_files self.now) (reader_table self.now) number function)) }
+        ensures built { BuiltFit (reader_files self.now) (reader_table self.now) built.new }
+    {
+        let place = match function_place(units, number, function) {
+            Ok(place) => place,
+            Err(e) => return Err(e),
+        };
+        self.read_calls(built, number, place)
+    }
+
+    /// What is kept of the calls of a function of a unit, whose functions are kept.
+    fn calls_part<O: Orders>(
+        &self,
+        orders: &mut O,
+        built: &mut BuiltUnits,
+        units: &[UnitCaches],
+        number: usize,
+        function: usize,
+    ) -> Result<Cache<InlinedFunctions>, AllocError>
+        requires readable { IsReadable self.now.dwarf.now }
+        requires built { BuiltFit (reader_files self.now) (reader_table self.now) built.old }
+        requires fits { PartsFit (reader_files self.now) (reader_table self.now) units.now }
+        requires filled { lacks_functions (slice_get units.now number) ≡ false }
+        ensures kept { IfOk result (λ c. Kept (λ _. Unit {0}) calls_view c (or_invalid (function_calls (reader_files self.now) (reader_table self.now) number function))) }
+        ensures full { IfOk result (λ c. is_kept c ≡ true) }
+        ensures ordered { IfOk result (λ c. Made (CallsOrdered O.pair_places) Empty c) }
+        ensures built { BuiltFit (reader_files self.now) (reader_table self.now) built.new }
+    {
+        match self.calls_by_number(built, units, number, function) {
+            Ok(lists) => {
+                let calls = lists.indexed(self.alloc, orders)?;
+                Ok(Cache::Value(calls))
+            },
+            Err(e) if e.kind() == ErrorKind::OutOfMemory => Err(AllocError),
+            Err(e) => Ok(Cache::Mark(e.kind())),
+        }
+    }
+
+    /// Puts the calls of a function of a unit that lacks them, whose functions are kept.
+    #[tactic(auto, using(crate::proofs::CacheSteps::units_same))]
+    fn put_calls_of<O: Orders>(
+        &self,
+        orders: &mut O,
+        caches: &mut Caches,
+        number: usize,
+        function: usize,
+    ) -> Result<(), AllocError>
+        requires readable { IsReadable self.now.dwarf.now }
+        requires fits { AllFit (reader_files self.now) (reader_table self.now) caches.old }
+        requires functions { lacks_functions (slice_get caches.old.units.items number) ≡ false }
+        requires lacks { lacks_calls (slice_get caches.old.units.items number) function ≡ true }
+        ensures filled { IfOk result (λ _. lacks_calls (slice_get caches.new.units.items number) function ≡ false) }
+        ensures fits { AllFit (reader_files self.now) (reader_table self.now) caches.new }
+        ensures grows { UnitsGrowTo O.pair_places caches.old.units.items caches.new.units.items }
+    {
+        let calls = self.calls_part(
+            orders,
+            &mut caches.built,
+            caches.units.as_slice(),
+            number,
+            function,
+        )?;
+        put_calls(&mut caches.units, number, function, calls)
+    }
+
+    /// Reads the calls of a function of a unit where they are not kept.
+    #[tactic(auto, using(crate::proofs::CacheSteps::units_same, crate::proofs::CacheSteps::units_again))]
+    pub fn fill_calls<O: Orders>(
+        &self,
+        orders: &mut O,
+        caches: &mut Caches,
+        number: usize,
+        function: usize,
+    ) -> Result<(), AllocError>
+        requires readable { IsReadable self.now.dwarf.now }
+        requires fits { AllFit (reader_files self.now) (reader_table self.now) caches.old }
+        ensures filled { IfOk result (λ _. lacks_calls (slice_get caches.new.units.items number) function ≡ false) }
+        ensures fits { AllFit (reader_files self.now) (reader_table self.now) caches.new }
+        ensures grows { UnitsGrowTo O.pair_places caches.old.units.items caches.new.units.items }
+    {
+        self.fill_functions(orders, caches, number)?;
+        if !lacks_calls(caches.units.as_slice(), number, function) {
+            return Ok(());
+        }
+        self.put_calls_of(orders, caches, number, function)
+    }
+}

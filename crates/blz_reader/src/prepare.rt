@@ -1,0 +1,83 @@
+//! All parts of all units, read ahead of the questions.
+ghost use Rattle.std.specs.Prelude.{◌≡◌, ℕ, ◌<◌, false, IfOk};
+ghost use Rattle.std.specs.List.{slice_get};
+ghost use Rattle.blz_units.specs.BuiltUnits.{IsReadable};
+ghost use Rattle.blz_reader.specs.Growing.{UnitsGrowTo};
+ghost use Rattle.blz_units.specs.KeptParts.{functions_at, functions_count, lacks_functions, lacks_calls, AllFit, AreFull, AllFull};
+ghost use Rattle.blz_reader.specs.Readers.{reader_files, reader_table};
+
+use crate::reader::Reader;
+use blz_bytes::Orders;
+use blz_model::Cache;
+use blz_units::caches::{Caches, UnitCaches};
+use std::alloc::AllocError;
+
+/// How many functions of a unit are kept.
+fn functions_count(units: &[UnitCaches], number: usize) -> usize
+    ensures { result ≡ functions_count (functions_at units.now number) }
+{
+    let Some(unit) = units.get(number) else {
+        return 0;
+    };
+    match &unit.functions {
+        Cache::Value(functions) => functions.functions().len(),
+        Cache::Mark(_) | Cache::Empty => 0,
+    }
+}
+
+impl<'r, 's, 'b> Reader<'r, 's, 'b> {
+    /// Reads the calls of the first functions of a unit where they are not kept.
+    fn fill_first_calls<O: Orders>(
+        &self,
+        orders: &mut O,
+        caches: &mut Caches,
+        number: usize,
+        count: usize,
+    ) -> Result<(), AllocError>
+        requires readable { IsReadable self.now.dwarf.now }
+        requires fits { AllFit (reader_files self.now) (reader_table self.now) caches.old }
+        ensures filled { IfOk result (λ _. (n : ℕ) → n < count → lacks_calls (slice_get caches.new.units.items number) n ≡ false) }
+        ensures fits { AllFit (reader_files self.now) (reader_table self.now) caches.new }
+        ensures grows { UnitsGrowTo O.pair_places caches.old.units.items caches.new.units.items }
+    {
+        for function in 0..count {
+            self.fill_calls(orders, caches, number, function)?;
+        }
+        Ok(())
+    }
+
+    /// Reads all parts of a unit that are not kept.
+    fn fill_parts<O: Orders>(
+        &self,
+        orders: &mut O,
+        caches: &mut Caches,
+        number: usize,
+    ) -> Result<(), AllocError>
+        requires readable { IsReadable self.now.dwarf.now }
+        requires fits { AllFit (reader_files self.now) (reader_table self.now) caches.old }
+        ensures filled { IfOk result (λ _. AreFull (slice_get caches.new.units.items number)) }
+        ensures fits { AllFit (reader_files self.now) (reader_table self.now) caches.new }
+        ensures grows { UnitsGrowTo O.pair_places caches.old.units.items caches.new.units.items }
+    {
+        self.fill_root(caches, number)?;
+        self.fill_lines(orders, caches, number)?;
+        self.fill_functions(orders, caches, number)?;
+        let count = functions_count(caches.units.as_slice(), number);
+        self.fill_first_calls(orders, caches, number, count)?;
+        Ok(())
+    }
+
+    /// Reads all parts of all units that are not kept.
+    pub fn fill_all<O: Orders>(&self, orders: &mut O, caches: &mut Caches) -> Result<(), AllocError>
+        requires readable { IsReadable self.now.dwarf.now }
+        requires fits { AllFit (reader_files self.now) (reader_table self.now) caches.old }
+        ensures filled { IfOk result (λ _. AllFull caches.new.units.items) }
+        ensures fits { AllFit (reader_files self.now) (reader_table self.now) caches.new }
+        ensures grows { UnitsGrowTo O.pair_places caches.old.units.items caches.new.units.items }
+    {
+        for number in 0..self.table.kept.len() {
+            self.fill_parts(orders, caches, number)?;
+        }
+        Ok(())
+    }
+}

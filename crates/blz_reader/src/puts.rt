@@ -1,0 +1,82 @@
+//! What is read of units is put where it is kept.
+ghost use Rattle.std.specs.Prelude.{◌≡◌, ℕ, ◌<◌, length, Some, IfOk, MatchResult};
+ghost use Rattle.std.specs.List.{slice_get, slice_set};
+ghost use Rattle.blz_units.specs.declared.caches.UnitCaches.{UnitCaches};
+ghost use Rattle.blz_units.specs.KeptParts.{or_empty, call_cache};
+ghost use Rattle.blz_reader.specs.Putting.{HasCalls, PutsCalls};
+
+use blz_entry::UnitRoot;
+use blz_functions::{Functions, InlinedFunctions};
+use blz_line::Lines;
+use blz_model::Cache;
+use blz_units::caches::UnitCaches;
+use std::alloc::AllocError;
+
+/// Keeps the root of a unit.
+pub fn put_root(units: &mut Vec<UnitCaches>, number: usize, root: Cache<UnitRoot>)
+    ensures { (c : UnitCaches) → slice_get units.old.items number ≡ Some c → units.new.items ≡ slice_set units.old.items number (record c { root = root }) }
+{
+    if number < units.len() {
+        let unit = &mut units[number];
+        unit.root = root;
+    }
+}
+
+/// Keeps the functions of a unit.
+pub fn put_functions(units: &mut Vec<UnitCaches>, number: usize, functions: Cache<Functions>)
+    ensures { (c : UnitCaches) → slice_get units.old.items number ≡ Some c → units.new.items ≡ slice_set units.old.items number (record c { functions = functions }) }
+{
+    if number < units.len() {
+        let unit = &mut units[number];
+        unit.functions = functions;
+    }
+}
+
+/// Keeps the lines of a unit.
+pub fn put_lines(units: &mut Vec<UnitCaches>, number: usize, lines: Cache<Option<Lines>>)
+    ensures { (c : UnitCaches) → slice_get units.old.items number ≡ Some c → units.new.items ≡ slice_set units.old.items number (record c { lines = lines }) }
+{
+    if number < units.len() {
+        let unit = &mut units[number];
+        unit.lines = lines;
+    }
+}
+
+/// A list that is long enough for a number, with empty caches behind the others.
+fn lengthen(calls: &mut Vec<Cache<InlinedFunctions>>, number: usize) -> Result<(), AllocError>
+    ensures long { IfOk result (λ _. number < length calls.new.items) }
+    ensures same { (n : ℕ) → or_empty (slice_get calls.new.items n) ≡ or_empty (slice_get calls.old.items n) }
+{
+    while calls.len() <= number {
+        calls.push(Cache::Empty)?;
+    }
+    Ok(())
+}
+
+/// Puts the calls of a function of a unit that is there.
+fn put_in(
+    unit: &mut UnitCaches,
+    function: usize,
+    calls: Cache<InlinedFunctions>,
+) -> Result<(), AllocError>
+    ensures { MatchResult result (λ _. HasCalls unit.old unit.new function calls) (λ _. HasCalls unit.old unit.new function (call_cache unit.old function)) }
+{
+    lengthen(&mut unit.calls, function)?;
+    unit.calls[function] = calls;
+    Ok(())
+}
+
+/// Puts the calls of a function of a unit. For want of memory no calls are changed.
+pub fn put_calls(
+    units: &mut Vec<UnitCaches>,
+    number: usize,
+    function: usize,
+    calls: Cache<InlinedFunctions>,
+) -> Result<(), AllocError>
+    ensures { (c : UnitCaches) → slice_get units.old.items number ≡ Some c → MatchResult result (λ _. PutsCalls c units.old.items units.new.items number function calls) (λ _. PutsCalls c units.old.items units.new.items number function (call_cache c function)) }
+{
+    if number >= units.len() {
+        return Ok(());
+    }
+    put_in(&mut units[number], function, calls)
+}

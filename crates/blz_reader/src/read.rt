@@ -1,0 +1,196 @@
+//! The parts of a unit, as they are read.
+ghost use Rattle.std.specs.Prelude.{◌≡◌, ◌≤◌, true, List, Option, map, IfOk};
+ghost use Rattle.std.specs.List.{slice_get};
+ghost use Rattle.blz_model.specs.Part.{Gives};
+ghost use Rattle.blz_model.specs.Kept.{Kept, is_kept};
+ghost use Rattle.blz_model.specs.declared.cache.Cache.TheVariants.{Empty};
+ghost use Rattle.blz_info.specs.Marks.{or_invalid};
+ghost use Rattle.blz_units.specs.BuiltUnits.{built, built_view, has_id, root_in, BuiltFits, IsReadable};
+ghost use Rattle.blz_reader.specs.Growing.{LinesOrdered};
+ghost use Rattle.blz_units.specs.KeptParts.{lines_view, unit_root, BuiltFit, IsBuilt, IsFilled};
+ghost use Rattle.blz_reader.specs.Readers.{reader_files, reader_table};
+ghost use Rattle.blz_units.specs.Sharing.{AreShared};
+ghost use Rattle.blz_units.specs.UnitAnswers.{read_unit, lists_in, calls_in, place_calls, unit_functions, unit_lines};
+
+use crate::lent::lent;
+use crate::reader::Reader;
+use crate::references::{References, open_in};
+use blz_bytes::Orders;
+use blz_entry::{UnitHeader, UnitRoot, invalid};
+use blz_error::{Error, Result, Str};
+use blz_functions::{CallLists, FunctionLists};
+use blz_line::Lines;
+use blz_model::Cache;
+use blz_units::built_unit::{BuiltUnit, may_be_split};
+use blz_units::built_units::{BuiltUnits, Side, SideUnits, look, put, take};
+use blz_units::dwarf::Origin;
+use blz_units::shared_parts::SharedParts;
+use std::mem;
+
+impl<'r, 's, 'b> Reader<'r, 's, 'b> {
+    /// Takes a unit out of those that are built.
+    fn take_unit(&self, built: &mut BuiltUnits, number: usize) -> Cache<BuiltUnit>
+        requires fits { BuiltFit (reader_files self.now) (reader_table self.now) built.old }
+        requires filled { IsFilled (slice_get built.old.kept.units.items number) }
+        ensures fits { BuiltFit (reader_files self.now) (reader_table self.now) built.new }
+        ensures taken { IsBuilt (reader_files self.now) result (read_unit (reader_files self.now) (reader_table self.now) number) }
+    {
+        take(&mut built.kept.units, number)
+    }
+
+    /// Puts a unit, or its mark, back among those that are built.
+    fn put_unit(&self, built: &mut BuiltUnits, number: usize, unit: Cache<BuiltUnit>)
+        requires fits { BuiltFit (reader_files self.now) (reader_table self.now) built.old }
+        requires unit { IsBuilt (reader_files self.now) unit (read_unit (reader_files self.now) (reader_table self.now) number) }
+        ensures { BuiltFit (reader_files self.now) (reader_table self.now) built.new }
+    {
+        put(&mut built.kept.units, number, unit);
+    }
+
+    /// No units; takes no memory.
+    fn no_units(&self) -> BuiltUnits {
+        BuiltUnits {
+            kept: SideUnits::new(self.alloc),
+            sups: SideUnits::new(self.alloc),
+        }
+    }
+
+    /// The functions of a unit that is built, which is none of those that are kept meanwhile.
+    fn functions_of(&self, built: &mut BuiltUnits, unit: &BuiltUnit) -> Result<FunctionLists>
+        requires readable { IsReadable self.now.dwarf.now }
+        requires fits { BuiltFit (reader_files self.now) (reader_table self.now) built.old }
+        requires unit { BuiltFits (reader_files self.now) unit.now }
+        ensures value { Gives (λ l. l) result (or_invalid (lists_in (reader_files self.now) (reader_table self.now) (built_view (reader_files self.now) unit.now))) }
+        ensures fits { BuiltFit (reader_files self.now) (reader_table self.now) built.new }
+    {
+        let dwarf = lent(&*self.dwarf);
+        let open = open_in(&*unit, &dwarf);
+        let others = mem::replace(built, self.no_units());
+        let mut links = References::new(self.alloc, dwarf, &*self.table, open, others);
+        let lists = FunctionLists::read(self.alloc, &open, &mut links);
+        *built = links.into_built();
+        lists
+    }
+
+    /// The calls of the function at a place of such a unit.
+    fn calls_of(&self, built: &mut BuiltUnits, unit: &BuiltUnit, place: usize) -> Result<CallLists>
+        requires readable { IsReadable self.now.dwarf.now }
+        requires fits { BuiltFit (reader_files self.now) (reader_table self.now) built.old }
+        requires unit { BuiltFits (reader_files self.now) unit.now }
+        ensures value { Gives (λ l. l) result (or_invalid (calls_in (reader_files self.now) (reader_table self.now) place (built_view (reader_files self.now) unit.now))) }
+        ensures fits { BuiltFit (reader_files self.now) (reader_table self.now) built.new }
+    {
+        let dwarf = lent(&*self.dwarf);
+        let open = open_in(&*unit, &dwarf);
+        let others = mem::replace(built, self.no_units());
+        let mut links = References::new(self.alloc, dwarf, &*self.table, open, others);
+        let lists = CallLists::read(self.alloc, &open, &mut links, place);
+        *built = links.into_built();
+        lists
+    }
+
+    /// The functions of a kept unit.
+    #[tactic(auto, unfolding(blz_units::specs::UnitAnswers::unit_functions))]
+    pub fn read_functions(&self, built: &mut BuiltUnits, number: usize) -> Result<FunctionLists>
+        requires readable { IsReadable self.now.dwarf.now }
+        requires fits { BuiltFit (reader_files self.now) (reader_table self.now) built.old }
+        ensures value { Gives (λ l. l) result (or_invalid (unit_functions (reader_files self.now) (reader_table self.now) number)) }
+        ensures fits { BuiltFit (reader_files self.now) (reader_table self.now) built.new }
+    {
+        self.fill_unit(Side::File, built, number)?;
+        match self.take_unit(built, number) {
+            Cache::Value(unit) => {
+                let lists = self.functions_of(built, &unit);
+                self.put_unit(built, number, Cache::Value(unit));
+                lists
+            },
+            Cache::Mark(kind) => {
+                self.put_unit(built, number, Cache::Mark(kind));
+                Err(Error::new(kind, Str::fixed("unit")))
+            },
+            Cache::Empty => Err(invalid("a unit has no such number")),
+        }
+    }
+
+    /// The calls of the function at a place of a kept unit.
+    #[tactic(auto, unfolding(blz_units::specs::UnitAnswers::place_calls))]
+    pub fn read_calls(
+        &self,
+        built: &mut BuiltUnits,
+        number: usize,
+        place: usize,
+    ) -> Result<CallLists>
+        requires readable { IsReadable self.now.dwarf.now }
+        requires fits { BuiltFit (reader_files self.now) (reader_table self.now) built.old }
+        ensures value { Gives (λ l. l) result (or_invalid (place_calls (reader_files self.now) (reader_table self.now) number place)) }
+        ensures fits { BuiltFit (reader_files self.now) (reader_table self.now) built.new }
+    {
+        self.fill_unit(Side::File, built, number)?;
+        match self.take_unit(built, number) {
+            Cache::Value(unit) => {
+                let lists = self.calls_of(built, &unit, place);
+                self.put_unit(built, number, Cache::Value(unit));
+                lists
+            },
+            Cache::Mark(kind) => {
+                self.put_unit(built, number, Cache::Mark(kind));
+                Err(Error::new(kind, Str::fixed("unit")))
+            },
+            Cache::Empty => Err(invalid("a unit has no such number")),
+        }
+    }
+
+    /// The root of a unit itself, which is not the one that its functions are read from.
+    fn own_root(&self, shared: &mut SharedParts, header: &UnitHeader) -> Result<UnitRoot>
+        requires readable { IsReadable self.now.dwarf.now }
+        requires ordered { header.now.entries ≤ header.now.end }
+        requires shared { AreShared (reader_files self.now).main shared.old }
+        ensures value { Gives (λ r. r) result (or_invalid (root_in (reader_files self.now) header.now)) }
+        ensures shared { AreShared (reader_files self.now).main shared.new }
+    {
+        let unit = BuiltUnit::of_file(self.alloc, self.dwarf, shared, Origin::Main, header)?;
+        Ok(unit.root)
+    }
+
+    /// The root of a kept unit itself.
+    #[tactic(auto, using(blz_units::proofs::BuiltSteps::shared_again), unfolding(blz_units::specs::UnitAnswers::main_unit))]
+    pub fn read_root(&self, built: &mut BuiltUnits, number: usize) -> Result<UnitRoot>
+        requires readable { IsReadable self.now.dwarf.now }
+        requires fits { BuiltFit (reader_files self.now) (reader_table self.now) built.old }
+        ensures value { Gives (λ r. r) result (or_invalid (unit_root (reader_files self.now) (reader_table self.now) number)) }
+        ensures fits { BuiltFit (reader_files self.now) (reader_table self.now) built.new }
+    {
+        let Some(header) = self.table.kept.get(number) else {
+            return Err(invalid("a unit has no such number"));
+        };
+        if may_be_split(self.dwarf, &header) {
+            return self.own_root(&mut built.kept.shared, &header);
+        }
+        self.fill_unit(Side::File, built, number)?;
+        let unit = look(
+            self.dwarf,
+            Side::File,
+            &self.table.kept,
+            &built.kept.units,
+            number,
+        )?;
+        Ok(unit.root)
+    }
+
+    /// The lines of a kept unit, whose root is this.
+    pub fn read_lines<O: Orders>(
+        &self,
+        orders: &mut O,
+        number: usize,
+        root: &UnitRoot,
+    ) -> Result<Option<Lines>>
+        requires { unit_root (reader_files self.now) (reader_table self.now) number ≡ Some root.now }
+        ensures value { Gives lines_view result (or_invalid (unit_lines (reader_files self.now) (reader_table self.now) number)) }
+        ensures ordered { IfOk result (LinesOrdered O.pair_places) }
+    {
+        match self.table.kept.get(number) {
+            Some(header) => Lines::parse(self.alloc, orders, &self.dwarf.main, &header, root),
+            None => Err(invalid("a unit has no such number")),
+        }
+    }
+}

@@ -1,0 +1,14 @@
+pub mod Rooted
+pub mod SetLists
+pub mod Named
+pub mod HeaderSteps
+pub mod UnitsInPlace
+pub mod LinesLying
+pub mod Appended
+pub mod KeepSteps
+pub mod TurnSteps
+pub mod BuiltSteps
+pub mod Choosing
+pub mod PutItems
+pub mod Shared
+pub mod SharedLines

@@ -1,0 +1,11 @@
+pub mod BuiltUnits
+pub mod Sharing
+pub mod Sets
+pub mod UnitTables
+pub mod UnitLists
+pub mod TableViews
+pub mod Announced
+pub mod UnitAnswers
+pub mod UnitSites
+pub mod KeptParts
+pub mod KeptAnswers

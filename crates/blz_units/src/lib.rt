@@ -1,0 +1,16 @@
+//! The table of the units of a file: which are kept, what they announce, what is built of them, and what is told of them by what is kept.
+#![tactic(auto)]
+
+mod address_sets;
+mod announcing;
+pub mod built_unit;
+pub mod built_units;
+pub mod caches;
+pub mod dwarf;
+mod kept_units;
+pub mod look;
+mod shared_lines;
+pub mod shared_parts;
+pub mod unit_list;
+pub mod unit_table;
+pub mod units_at;
