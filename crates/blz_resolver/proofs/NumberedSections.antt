@@ -1,5 +1,5 @@
 -- The data of a section by its name is that of its number.
-use Rattle.std.proofs.Common.{◌≡◌, ◌⊎◌, ◌<◌, ◌≤◌, ◌+◌, ◌-◌, ◌∷◌, ◌∙◌, ℕ, Bool, true, false, List, [], Option, Some, None, length, drop, map, get_or, inl, inr, refl, sym, ap, subst, arith}
+use Rattle.std.proofs.Common.{◌≡◌, ◌⊎◌, ◌<◌, ◌≤◌, ◌+◌, ◌-◌, ◌∷◌, ◌∙◌, ℕ, suc, Bool, true, false, List, [], Option, Some, None, length, drop, map, get_or, inl, inr, refl, sym, ap, subst, arith}
 use Rattle.std.specs.Prelude.{slice_get, cond}
 use Rattle.std.specs.List.{position_from}
 use Rattle.std.specs.Str.{bytes_eq}
@@ -47,21 +47,21 @@ good_length [] xs e = ap length (sym (good_is [] xs e))
 good_length (p ∷ ps) xs e =
     let first = bind_good p (λ y. all_good ps >>= λ ys. Good (y ∷ ys)) xs e in
     let rest = bind_good (all_good ps) (λ ys. Good (first.0 ∷ ys)) xs first.2 in
-    ap length (sym (good_is (first.0 ∷ rest.0) xs rest.2)) ∙ ap (λ (n : ℕ). n + 1) (good_length ps rest.0 rest.1)
+    ap length (sym (good_is (first.0 ∷ rest.0) xs rest.2)) ∙ ap (λ (n : ℕ). suc n) (good_length ps rest.0 rest.1)
 
 found_at : (test : List ℕ → Bool) (i : ℕ) (names : List (List ℕ)) (n : ℕ) → position_from test i names ≡ Some n → (i ≤ n) × (n < i + length names)
 found_at test i [] n e = absurd cc
-found_at test i (name ∷ names) n e = by_test (test name) e
+found_at test i (name ∷ names) n e = by_test (test name) e (found_at test (i + 1) names n)
   where
-    by_test : (b : Bool) → cond b (Some i) (position_from test (i + 1) names) ≡ Some n → (i ≤ n) × (n < i + length (name ∷ names))
-    by_test true e = let is : i ≡ n = cc in (omega (arith, is), omega (arith, is))
-    by_test false e = let rest = found_at test (i + 1) names n e in (omega (arith, rest.0), omega (arith, rest.1))
+    by_test : (b : Bool) → cond b (Some i) (position_from test (i + 1) names) ≡ Some n → (position_from test (i + 1) names ≡ Some n → (i + 1 ≤ n) × (n < i + 1 + length names)) → (i ≤ n) × (n < i + length (name ∷ names))
+    by_test true e later = let is : i ≡ n = cc in (omega (arith, is), omega (arith, is))
+    by_test false e later = let rest = later e in (omega (arith, rest.0), omega (arith, rest.1))
 
 there : (xs : List Section) (n : ℕ) → n < length xs → (s : Section) × (slice_get xs n ≡ Some s)
 there xs n lt = by_cases (slice_get_cases xs n).1
   where
     by_cases : ((s : Section) × (n < length xs) × (slice_get xs n ≡ Some s) × (get_or xs n s ≡ s)) ⊎ ((length xs ≤ n) × (slice_get xs n ≡ None)) → (s : Section) × (slice_get xs n ≡ Some s)
-    by_cases (inl found) = (found.0, found.2.0)
+    by_cases (inl found) = (found.0, found.2)
     by_cases (inr past) = absurd (omega (arith, past.0, lt))
 
 named_there : (image name : List ℕ) (elf : Elf) (n : ℕ) → Parts image elf → section_named elf name ≡ Some n → (s : Section) × (slice_get elf.sections n ≡ Some s)
@@ -80,15 +80,18 @@ named_data image name elf parts (Some n) e =
     let found = named_there image name elf n parts e in
     rw (e, found.1, parts.header, parts.sections, found.1, parts.same) refl
 
+abbrev located_as : Option ℕ → List ℕ → Part Located
+located_as number bytes = Good (record { bytes = bytes; number = number })
+
 located_by : (image : List ℕ) (section : DebugSection) (p : Part Elf) → elf_of image ≡ p
-    → located image section ≡ (image_section image (name_of section) >>= λ number. data_numbered image number >>= λ bytes. Good (record { bytes = bytes; number = number }))
+    → located image section ≡ (image_section image (name_of section) >>= λ number. data_numbered image number >>= located_as number)
 unfolding located image_section image_data_named
 located_by image section (Good elf) e =
-    let P : Part (List ℕ) → Type 0 = λ p. (p >>= λ bytes. Good (record { bytes = bytes; number = section_named elf (name_of section) })) ≡ (data_numbered image (section_named elf (name_of section)) >>= λ bytes. Good (record { bytes = bytes; number = section_named elf (name_of section) })) in
-    rw e (subst P (sym (named_data image (name_of section) elf (parts_of image elf e) _ refl)) refl)
+    let number : Option ℕ = section_named elf (name_of section) in
+    rw e (ap (λ (p : Part (List ℕ)). p >>= located_as number) (named_data image (name_of section) elf (parts_of image elf e) number refl))
 located_by image section (Broken k) e = rw e refl
 
 -- a section is found by its number, and its data taken by that
 pub located_numbered : (image : List ℕ) (section : DebugSection)
-    → located image section ≡ (image_section image (name_of section) >>= λ number. data_numbered image number >>= λ bytes. Good (record { bytes = bytes; number = number }))
+    → located image section ≡ (image_section image (name_of section) >>= λ number. data_numbered image number >>= located_as number)
 located_numbered image section = located_by image section (elf_of image) refl

@@ -1,5 +1,5 @@
 -- The sections of debug information of an image (DWARF 5 appendix B, and .debug_ranges of DWARF 4).
-use Rattle.std.specs.Prelude.{ℕ, List, Option, Some, None, codes, false}
+use Rattle.std.specs.Prelude.{ℕ, List, [], Option, Some, None, codes, false}
 use Rattle.std.specs.FinMap as map
 use Rattle.blz_model.specs.declared.byte_order.ByteOrder.{ByteOrder}
 use Rattle.blz_model.specs.Part.{Part, Good, ◌>>=◌}
