@@ -3,5 +3,6 @@ mod demos;
 mod failures;
 mod images;
 mod modes;
+mod orders;
 mod runs;
 mod usages;

@@ -31,6 +31,18 @@ fn a_sink_without_room_has_a_front_of_the_text(rt: HostRuntime) -> Result<(), Fa
 }
 
 #[test]
+fn a_third_write_that_fails_leaves_what_two_took(rt: HostRuntime) -> Result<(), Fail> {
+    let alloc = rt.alloc();
+    let mut out = MemorySink::with_room(alloc, 100, 4)?;
+    out.fail_at(3);
+    let ended = run_on(alloc, &mut nested(alloc)?, &WORDS, &mut out)?;
+    assert_eq!(rt; ended.status, 3);
+    assert_eq!(rt; out.bytes(), b"00000000".as_slice());
+    assert_eq!(rt; ended.line.bytes(), b"blz_tool: write failed\n".as_slice());
+    Ok(())
+}
+
+#[test]
 fn files_that_fail_are_told(rt: HostRuntime) -> Result<(), Fail> {
     let alloc = rt.alloc();
     let mut out = MemorySink::with_room(alloc, 100, 100)?;

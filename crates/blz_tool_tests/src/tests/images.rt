@@ -3,9 +3,9 @@ use crate::tests::runs::{holding, written};
 use blz_images::{ByteOrder, Image, realistic_walk, with_nested_functions};
 use std::test::Fail;
 
-const WORDS: [&str; 5] = ["prog", "1150", "1200", "1100", "1300"];
+pub const WORDS: [&str; 5] = ["prog", "1150", "1200", "1100", "1300"];
 
-const TEXT: &str = "0000000000001150 main at /home/u/p/main.c:7:9
+pub const TEXT: &str = "0000000000001150 main at /home/u/p/main.c:7:9
     square at /home/u/p/sq.h:3:12
 0000000000001200 _ZN3lib3run17h0123456789abcdefE at /home/u/p/src/lib.rs:10:1
 0000000000001100 _start

@@ -1,5 +1,5 @@
 //! Runs, and what they write.
-use blz_bytes::ByStdSort;
+use blz_bytes::{ByStdSort, Orders};
 use blz_images::nested_functions;
 use blz_resolver::files::MemoryFiles;
 use blz_resolver::outside::MemorySink;
@@ -28,9 +28,20 @@ pub fn run_on(
     words: &[&str],
     out: &mut MemorySink,
 ) -> Result<Ended, AllocError> {
+    run_by(alloc, files, &mut ByStdSort, words, out)
+}
+
+/// Runs on these words with these orders.
+pub fn run_by<O: Orders>(
+    alloc: Global,
+    files: &mut MemoryFiles,
+    orders: &mut O,
+    words: &[&str],
+    out: &mut MemorySink,
+) -> Result<Ended, AllocError> {
     let mut line = MemorySink::with_room(alloc, 100, 7)?;
     let words = texts(alloc, words)?;
-    let status = run(alloc, &words, files, &mut ByStdSort, out, &mut line);
+    let status = run(alloc, &words, files, orders, out, &mut line);
     Ok(Ended { status, line })
 }
 
