@@ -76,9 +76,10 @@ named_there image name elf n parts e =
 named_data : (image name : List ℕ) (elf : Elf) → Parts image elf → (o : Option ℕ) → section_named elf name ≡ o → data_named elf name ≡ data_numbered image o
 unfolding data_named section_called image_section_data
 named_data image name elf parts None e = rw e refl
-named_data image name elf parts (Some n) e =
-    let found = named_there image name elf n parts e in
-    rw (e, found.1, parts.header, parts.sections, found.1, parts.same) refl
+named_data image name elf parts (Some n) e = at_number (named_there image name elf n parts e).0 (named_there image name elf n parts e).1
+  where
+    at_number : (s : Section) → slice_get elf.sections n ≡ Some s → data_named elf name ≡ data_numbered image (Some n)
+    at_number s at = rw (e, at, parts.header, parts.sections, at, parts.same) refl
 
 abbrev located_as : Option ℕ → List ℕ → Part Located
 located_as number bytes = Good (record { bytes = bytes; number = number })

@@ -48,7 +48,6 @@ fn data_of<'b>(parser: &mut ElfParser<'b>, number: Option<usize>) -> Result<&'b 
 }
 
 // The name is sought once, and the data taken by the number that it has.
-#[tactic(auto, using(crate::proofs::NumberedSections::located_numbered))]
 fn section_of<'b>(parser: &mut ElfParser<'b>, section: DebugSection) -> Result<SectionData<'b>>
     ensures value { Exactly located_view result (located parser.old.image section) }
     ensures same { parser.new ≡ parser.old }
