@@ -34,7 +34,7 @@ static int report = -1, outputs[2];
 static int is_copy;        /* here a request was refused, and no further one is asked for */
 static int is_lasting;     /* here all later requests for memory are refused too */
 static long room = -1;     /* here so many bytes can still be written, where it is not below zero */
-static int has_ended;      /* here the file that is read has come to its end early */
+static int ended = -1;     /* here the file that has come to its end early */
 
 extern void *__libc_malloc(size_t), *__libc_calloc(size_t, size_t), *__libc_realloc(void *, size_t), *__libc_memalign(size_t, size_t);
 
@@ -163,9 +163,12 @@ ssize_t read(int file, void *to, size_t count) {
     snprintf(name, sizeof name, "/proc/self/fd/%d", file);
     ssize_t length = readlink(name, path, sizeof path - 1);
     path[length < 0 ? 0 : length] = 0;
-    int error = has_ended ? ENDS : refused(READ, file, path);
-    has_ended = error == ENDS;
-    if (error) return has_ended ? 0 : refusal(error);
+    int error = file == ended ? ENDS : refused(READ, file, path);
+    if (error == ENDS) {
+        ended = file;
+        return 0;
+    }
+    if (error) return refusal(error);
     ssize_t got = plain_read(file, to, at_most(count));
     return got ? got : grown(file, to, count, path);
 }
@@ -204,7 +207,9 @@ ssize_t write(int file, const void *from, size_t count) {
         int mode = va_arg(more, int); \
         va_end(more); \
         int error = refused(OPEN, 0, path); \
-        return error ? refusal(error) : ((int (*)(const char *, int, int))next(#name))(path, flags, mode); \
+        int file = error ? refusal(error) : ((int (*)(const char *, int, int))next(#name))(path, flags, mode); \
+        if (file == ended) ended = -1; \
+        return file; \
     }
 OPENED(open)
 OPENED(open64)

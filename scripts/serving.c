@@ -1,6 +1,6 @@
 /* A library that is loaded before a program, and takes questions on standard input in place of the words of a command line. A copy
-   of the program calls its main function for each question, with the words of it, no input, and bounds on its time and memory; where
-   a run ends the copy, another one goes on. What a run wrote and what it took is told on standard output. With SERVE_FRESH=1 each run
+   of the program calls its main function for each question, in the folder and with the words of it, no input, and bounds on its time
+   and memory; where a run ends the copy, another one goes on. What a run wrote and what it took is told on standard output. With SERVE_FRESH=1 each run
    has a copy of its own. */
 #define _GNU_SOURCE
 #include <dlfcn.h>
@@ -19,7 +19,7 @@
 enum { MOST_WORDS = 200000 };
 
 struct question {
-    uint32_t length, seconds; /* of the words, each with a zero byte behind it; of the processor's time */
+    uint32_t length, seconds; /* of the folder and the words, each with a zero byte behind it; of the processor's time */
     uint64_t memory, stack;   /* bytes beyond what the program has before; 0 leaves what there is */
 };
 
@@ -105,14 +105,15 @@ static void run(const struct question *asked, char *text) {
     struct rusage used;
     for (int k = 0; k < 2; k++)
         if (ftruncate(outputs[k], 0) || lseek(outputs[k], 0, SEEK_SET)) _exit(1);
-    int count = words_in(text, asked->length);
+    int count = words_in(text, asked->length) - 1;
+    if (count < 1 || chdir(words[0])) _exit(1);
     bound(RLIMIT_STACK, asked->stack);
     bound(RLIMIT_AS, asked->memory ? asked->memory + before : 0);
     uint64_t begin = microseconds();
     *is_running = 1;
     arm(asked->seconds);
-    for (size_t k = 0; k < constructor_count; k++) constructors[k](count, words, environ);
-    told.status = held(count, words, environ) & 255;
+    for (size_t k = 0; k < constructor_count; k++) constructors[k](count, words + 1, environ);
+    told.status = held(count, words + 1, environ) & 255;
     arm(0);
     if (is_fresh) _exit(told.status);
     *is_running = 0;

@@ -15,9 +15,6 @@ class Ended(typing.NamedTuple):
     output: bytes
     error: bytes
 
-    def same_but_path(self, path):
-        return self._replace(error=self.error.replace(path.encode(), b"PATH"))
-
 
 class Used(typing.NamedTuple):
     microseconds: int
@@ -41,14 +38,28 @@ class Server:
         self.process = subprocess.Popen([program], cwd=folder, env=os.environ | {"LD_PRELOAD": preloaded}, bufsize=1 << 16,
                                         stdin=subprocess.PIPE, stdout=subprocess.PIPE)
 
-    def ask(self, words, seconds=0, memory=0, stack=0):
-        """How a run with these words ends, and what it took; 0 leaves a bound as it stands."""
-        text = b"".join(os.fsencode(word) + b"\0" for word in [self.program, *words])
+    def put(self, words, seconds=0, memory=0, stack=0, folder="."):
+        """Puts a question; 0 leaves a bound as it stands. Some thousands of bytes of questions can wait for their answers."""
+        text = b"".join(os.fsencode(word) + b"\0" for word in [folder, self.program, *words])
         self.process.stdin.write(QUESTION.pack(len(text), seconds, memory, stack) + text)
-        self.process.stdin.flush()
+
+    def take(self):
+        """How the run of the first question that is left ended, and what it took."""
         status, microseconds, kilobytes, *lengths = ANSWER.unpack(self.process.stdout.read(ANSWER.size))
         output, error = [self.process.stdout.read(length) for length in lengths]
         return Ended(status, output, error), Used(microseconds, kilobytes)
+
+    def ask(self, *question, **more):
+        self.put(*question, **more)
+        self.process.stdin.flush()
+        return self.take()
+
+    def ask_all(self, asked):
+        """How the runs end, and what they took, of questions that each are a list of what `put` takes."""
+        for question in asked:
+            self.put(*question)
+        self.process.stdin.flush()
+        return [self.take() for _ in asked]
 
     def close(self):
         self.process.stdin.close()
