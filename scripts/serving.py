@@ -1,5 +1,7 @@
 """Asks a program again and again: it is started once, and a copy of it answers each time, within bounds on its time and memory."""
+import atexit
 import os
+import shutil
 import struct
 import subprocess
 import tempfile
@@ -24,6 +26,7 @@ class Used(typing.NamedTuple):
 def library(name):
     """Builds a library of this folder that is loaded before a program, and gives its path."""
     folder = tempfile.mkdtemp(prefix="library-")
+    atexit.register(shutil.rmtree, folder, ignore_errors=True)
     path = os.path.join(folder, f"{name}.so")
     source = os.path.join(HERE, f"{name}.c")
     subprocess.run(["gcc", "-shared", "-fPIC", "-O1", "-o", path, source, "-ldl"], check=True)
