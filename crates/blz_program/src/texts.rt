@@ -1,5 +1,5 @@
 //! Numbers and paths as they are printed.
-ghost use Rattle.std.specs.Prelude.{◌≡◌, ◌++◌, OnOk, OnErr, decimal};
+ghost use Rattle.std.specs.Prelude.{◌≡◌, ◌++◌, OnOk, OnErr, decimal, length, take};
 ghost use Rattle.blz_bytes.specs.Joined.{joined, separator_of};
 ghost use Rattle.blz_program.specs.PrintedText.{hex_digits};
 
@@ -39,7 +39,23 @@ pub fn push_decimal(out: &mut Vec<u8>, number: u64) -> Result<(), AllocError>
 /// Appends the path of a file in a directory: the file alone where it begins with `/`, else the directory, a `/` where it
 /// needs one, and the file.
 pub fn push_path(out: &mut Vec<u8>, dir: &DirPath<'_>, file: &[u8]) -> Result<(), AllocError>
-    ensures { OnOk result (out.new.items ≡ out.old.items ++ joined dir.now file.now) }
+    ensures ok { OnOk result (out.new.items ≡ out.old.items ++ joined dir.now file.now) }
+    ensures err { OnErr result (out.new.items ≡ out.old.items) }
+{
+    let len = out.len();
+    match push_joined(out, dir, file) {
+        Ok(()) => Ok(()),
+        Err(error) => {
+            out.truncate(len);
+            Err(error)
+        }
+    }
+}
+
+// The same, but for what stands behind the old bytes after an error.
+fn push_joined(out: &mut Vec<u8>, dir: &DirPath<'_>, file: &[u8]) -> Result<(), AllocError>
+    ensures ok { OnOk result (out.new.items ≡ out.old.items ++ joined dir.now file.now) }
+    ensures err { OnErr result (take (length out.old.items) out.new.items ≡ out.old.items) }
 {
     match file.first() {
         Some(b'/') => {}
@@ -50,7 +66,8 @@ pub fn push_path(out: &mut Vec<u8>, dir: &DirPath<'_>, file: &[u8]) -> Result<()
 
 // A directory, and the `/` that it needs before a file.
 fn push_dir(out: &mut Vec<u8>, dir: &DirPath<'_>) -> Result<(), AllocError>
-    ensures { OnOk result (out.new.items ≡ out.old.items ++ dir.now ++ separator_of dir.now) }
+    ensures ok { OnOk result (out.new.items ≡ out.old.items ++ dir.now ++ separator_of dir.now) }
+    ensures err { OnErr result (take (length out.old.items) out.new.items ≡ out.old.items) }
 {
     dir.write_to(out)?;
     let len = dir.len();
