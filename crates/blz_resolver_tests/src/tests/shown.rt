@@ -1,6 +1,5 @@
 //! Bundles and outcomes in the form in which tests ask and compare them.
 use blz_elf::{FindAddrOpts, SymInfos, SymType};
-use blz_error::{ErrorKind, Result};
 use blz_resolver::Bundle;
 
 /// Symbols of any type, with their places in the file.
@@ -17,14 +16,6 @@ pub fn lone(image: &[u8]) -> Bundle<'_> {
         linkee: None,
         supplementary: None,
         package: None,
-    }
-}
-
-/// Why something was refused, where it was.
-pub fn refusal<T: Drop>(outcome: Result<T>) -> Option<ErrorKind> {
-    match outcome {
-        Ok(_) => None,
-        Err(error) => Some(error.kind()),
     }
 }
 

@@ -1,6 +1,0 @@
-//! Bundles that are refused, lists of calls, and files and sinks, over images whose answers are known by hand. No crate
-//! stands on it.
-#![tactic(auto)]
-
-#[cfg(test)]
-mod tests;
