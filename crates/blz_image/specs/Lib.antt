@@ -6,6 +6,8 @@ pub mod SymbolTables
 pub mod Segments
 pub mod SegmentViews
 pub mod RelocationTables
+pub mod TargetTables
+pub mod ReadPlaces
 pub mod EntryPlaces
 pub mod EntryViews
 pub mod Names

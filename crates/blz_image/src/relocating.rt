@@ -1,37 +1,30 @@
 //! Reads the relocations of an image.
 ghost use Rattle.std.specs.Prelude.{◌≡◌, OnOk, IfOk};
+ghost use Rattle.std.specs.FinMap as finite;
 ghost use Rattle.std.specs.List.{fold};
-ghost use Rattle.blz_model.specs.Part.{Gives, Exactly};
-ghost use Rattle.blz_image.specs.Sections.{records_of};
+ghost use Rattle.blz_model.specs.Part.{Gives, Exactly, Good, ◌>>=◌};
 ghost use Rattle.blz_image.specs.Formats.{section_size};
 ghost use Rattle.blz_image.specs.Places.{RowsFit, sections_in};
-ghost use Rattle.blz_image.specs.RelocationTables.{value_at, entry_at, entry_size, put_entry, with_entries, with_section, with_sections, relocations_of};
-ghost use Rattle.blz_image.specs.EntryPlaces.{entries_in};
+ghost use Rattle.blz_image.specs.RelocationTables.{put_entry, with_entries, with_section, with_sections, relocations_of};
+ghost use Rattle.blz_image.specs.TargetTables.{section_mark, section_marks};
 ghost use Rattle.blz_image.specs.EntryViews.{entry_view};
 ghost use Rattle.blz_image.specs.Views.{header_view};
+ghost use Rattle.blz_moves.specs.Relocations.{maps_of};
 
-use crate::entries::{Entry, EntryKind, RelocationEntries, entry_kind, entry_size};
+use crate::effect::effect_of;
+use crate::entries::{Entry, EntryKind, RelocationEntries, entry_kind};
 use crate::format::Format;
 use crate::header::Header;
 use crate::record::Records;
-use crate::section::{Section, SectionTable, records};
+use crate::section::{Section, SectionTable};
 use crate::span::Rows;
-use crate::symbols::{Symbols, symbols_of};
+use crate::symbols::Symbols;
+use crate::table::table_of;
+use crate::target;
 use blz_constants::elf::ET_REL;
-use blz_error::{Error, ErrorKind, Result, Str};
+use blz_error::Result;
 use blz_moves::SectionRelocations;
 use std::alloc::{AllocError, Global};
-
-/// The value of a symbol, 0 where the index lies outside.
-fn value_at(symbols: &Symbols<'_>, index: u64) -> u64
-    ensures { result ≡ value_at symbols.now index }
-{
-    if (index as usize) < symbols.len() {
-        symbols.at(index as usize).value
-    } else {
-        0
-    }
-}
 
 /// Puts one entry of the section `target`.
 fn put_entry(
@@ -43,18 +36,8 @@ fn put_entry(
 ) -> std::result::Result<(), AllocError>
     ensures { OnOk result (map.new ≡ put_entry symbols.now target map.old (entry_view entry.now)) }
 {
-    let target = target as usize;
-    let value = value_at(symbols, entry.symbol);
-    match entry.addend {
-        Some(addend) => map.insert(
-            alloc,
-            target,
-            entry.offset,
-            value.wrapping_add(addend),
-            false,
-        ),
-        None => map.insert(alloc, target, entry.offset, value, true),
-    }
+    let (number, implicit) = effect_of(symbols, entry);
+    map.insert(alloc, target as usize, entry.offset, number, implicit)
 }
 
 /// Puts the entries of the section `target`, in their order.
@@ -73,15 +56,6 @@ fn put_entries(
     Ok(())
 }
 
-/// The place of the entries of a section.
-#[tactic(auto, unfolding(crate::specs::Sections::records_of))]
-fn entries_of(image: &[u8], section: &Section, kind: EntryKind, format: Format) -> Result<Rows>
-    ensures value { Exactly (entries_in kind image.now) result (records_of (entry_at kind format) (entry_size kind format.class) image.now section.now) }
-    ensures fits { IfOk result (RowsFit (entry_size kind) image.now) }
-{
-    records(image, section, entry_size(kind, format.class), format)
-}
-
 /// Puts the entries that a section holds.
 #[tactic(auto, unfolding(crate::specs::RelocationTables::with_entries))]
 fn relocate_by(
@@ -95,17 +69,9 @@ fn relocate_by(
 ) -> Result<()>
     ensures { Gives (λ _. map.new) result (with_entries format image.now sections.now section.now kind map.old) }
 {
-    let link = section.link as usize;
-    if link >= sections.len() {
-        return Err(Error::new(
-            ErrorKind::InvalidInput,
-            Str::fixed("symbols of relocations"),
-        ));
-    }
-    let symbols = symbols_of(image, Some(sections.at(link)), format)?;
-    let entries = entries_of(image, section, kind, format)?;
-    let symbols = Records::open(image, symbols);
-    let entries = RelocationEntries::open(image, entries, kind);
+    let table = table_of(image, format, sections, section, kind)?;
+    let symbols = Records::open(image, table.symbols);
+    let entries = RelocationEntries::open(image, table.entries, kind);
     put_entries(alloc, map, &symbols, section.info, &entries)?;
     Ok(())
 }
@@ -142,6 +108,92 @@ fn relocate_all(
         relocate_section(alloc, map, image, format, sections, &sections.at(i))?;
     }
     Ok(())
+}
+
+/// Looks for the mark of a section, where it holds relocations; takes no memory.
+#[tactic(auto, unfolding(crate::specs::TargetTables::section_mark))]
+fn check_section(
+    image: &[u8],
+    format: Format,
+    sections: &SectionTable<'_>,
+    section: &Section,
+) -> Result<()>
+    ensures { Exactly (λ _. tt) result (section_mark format image.now sections.now section.now) }
+{
+    if let Some(kind) = entry_kind(section) {
+        table_of(image, format, sections, section, kind)?;
+    }
+    Ok(())
+}
+
+/// Looks for the first mark of the relocations, which headers alone decide; takes no memory.
+fn check_sections(image: &[u8], format: Format, sections: &SectionTable<'_>) -> Result<()>
+    ensures { Exactly (λ _. tt) result (section_marks format image.now sections.now sections.now) }
+{
+    for i in 0..sections.len() {
+        check_section(image, format, sections, &sections.at(i))?;
+    }
+    Ok(())
+}
+
+/// The relocations of the targets that are there, where all can be read.
+fn maps_of(
+    alloc: Global,
+    image: &[u8],
+    format: Format,
+    sections: &SectionTable<'_>,
+    targets: &[Option<usize>],
+) -> std::result::Result<SectionRelocations, AllocError>
+    requires { section_marks format image.now sections.now sections.now ≡ Good tt }
+    ensures { IfOk result (λ r. (with_sections format image.now sections.now sections.now finite.empty >>= λ all. Good (maps_of targets.now all)) ≡ Good r) }
+{
+    let mut maps = SectionRelocations::empty(alloc);
+    for i in 0..targets.len() {
+        if let Some(target) = targets[i] {
+            maps.put(target, target::relocations_of(alloc, image, format, sections, target)?)?;
+        }
+    }
+    Ok(maps)
+}
+
+/// The sections that can hold relocations: all where the file is relocatable, else none.
+#[tactic(auto, unfolding(crate::specs::RelocationTables::relocations_of, crate::specs::RelocationTables::with_sections))]
+fn relocating(image: &[u8], header: &Header, rows: Rows) -> Rows
+    requires { RowsFit section_size image.now rows }
+    ensures fits { RowsFit section_size image.now result }
+    ensures value { relocations_of image.now (header_view header.now) (sections_in image.now rows) ≡ with_sections header.now.format image.now (sections_in image.now result) (sections_in image.now result) finite.empty }
+{
+    if header.file_type == ET_REL {
+        rows
+    } else {
+        Rows { count: 0, ..rows }
+    }
+}
+
+/// Looks for the first mark of the relocations of an image whose header and section table were read; takes no memory.
+pub fn check_relocations(image: &[u8], header: Header, rows: Rows) -> Result<()>
+    requires fits { RowsFit section_size image.now rows }
+    ensures { Exactly (λ _. tt) result (relocations_of image.now (header_view header) (sections_in image.now rows) >>= λ _. Good tt) }
+{
+    let sections = Records::open(image, relocating(image, &header, rows));
+    check_sections(image, header.format, &sections)
+}
+
+/// Of the relocations of such an image those of the targets that are there. Each target reads a place of the image once,
+/// whatever its tables share.
+pub fn relocations_for(
+    alloc: Global,
+    image: &[u8],
+    header: Header,
+    rows: Rows,
+    targets: &[Option<usize>],
+) -> Result<SectionRelocations>
+    requires fits { RowsFit section_size image.now rows }
+    ensures { Gives (λ m. m) result (relocations_of image.now (header_view header) (sections_in image.now rows) >>= λ all. Good (maps_of targets.now all)) }
+{
+    let sections = Records::open(image, relocating(image, &header, rows));
+    check_sections(image, header.format, &sections)?;
+    Ok(maps_of(alloc, image, header.format, &sections, targets)?)
 }
 
 /// The relocations of an image whose header and section table were read.

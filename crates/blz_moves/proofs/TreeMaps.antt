@@ -1,13 +1,13 @@
 -- A tree of keys that are numbers, seen as a finite map.
-use Rattle.std.proofs.Common.{◌≡◌, ℕ, List, [], ◌∷◌, Option, Some, None, Bor, cond, refl, sym, ap, ◌∙◌}
-use Rattle.std.specs.Option.{unwrap_or, option_copied}
+use Rattle.std.proofs.Common.{◌≡◌, ℕ, Bool, true, false, List, [], ◌∷◌, Option, Some, None, Bor, cond, refl, sym, ap, ◌∙◌}
+use Rattle.std.specs.Option.{unwrap_or, option_copied, is_some}
 use Rattle.std.specs.declared.cmp.Ordering.{Ordering}
 use Rattle.std.specs.declared.cmp.Ordering.TheVariants.{Less, Equal, Greater}
 use Rattle.std.specs.Ordering.{nat_cmp, eq_by_cmp, is_eq}
 use Rattle.std.specs.Cmp.{nat_cmp_total, eq_by_cmp_equiv}
 use Rattle.std.specs.Map.{lookup}
 use Rattle.std.specs.BTreeMap.{is_at}
-use Rattle.std.specs.FinMap.{find, from_entries, get, insert, get-from_entries, get-insert, same_map, nat_cmp-IsAntisymmetric}
+use Rattle.std.specs.FinMap.{find, from_entries, contains_key, get, insert, get-from_entries, get-insert, same_map, nat_cmp-IsAntisymmetric}
 
 find-lookup : {X : Type 0} (q : ℕ) (es : List (ℕ × X)) → find nat_cmp q es ≡ lookup (is_at (nat_cmp q)) es
 find-lookup q [] = refl
@@ -40,3 +40,23 @@ kept-tree {X = X} es fs k v was updates = same_map nat_cmp_total nat_cmp-IsAntis
     same_value q Less e = refl
     same_value q Greater e = refl
     same_value q Equal e = was ∙ ap (λ (n : ℕ). lookup (is_at (nat_cmp n)) es) (nat_cmp-IsAntisymmetric k q e)
+
+-- a key that is put where there is none
+pub absent-tree : {X : Type 0} (es fs : List (ℕ × X)) (k : ℕ) (v : X) → None ≡ lookup (is_at (nat_cmp k)) es → ((q : ℕ) → lookup (is_at (nat_cmp q)) fs ≡ cond (is_at (nat_cmp k) q) (Some v) (lookup (is_at (nat_cmp q)) es))
+    → from_entries {R = nat_cmp} fs ≡ cond (contains_key (from_entries {R = nat_cmp} es) k) (from_entries es) (insert (from_entries es) k v)
+absent-tree {X = X} es fs k v was updates =
+    insert-tree es fs k v updates
+    ∙ ap (λ (o : Option X). cond (is_some o) (from_entries {R = nat_cmp} es) (insert (from_entries es) k v)) (was ∙ sym (get-tree es k))
+
+same_choice : {X : Type 0} (b : Bool) (x y z : X) → cond b x (cond b y z) ≡ cond b x z
+same_choice true x y z = refl
+same_choice false x y z = refl
+
+-- a key that is put where there is one, and what was there put back
+pub put_back-tree : {X : Type 0} (es fs gs : List (ℕ × X)) (k : ℕ) (v was : X) → Some was ≡ lookup (is_at (nat_cmp k)) es
+    → ((q : ℕ) → lookup (is_at (nat_cmp q)) fs ≡ cond (is_at (nat_cmp k) q) (Some v) (lookup (is_at (nat_cmp q)) es))
+    → ((q : ℕ) → lookup (is_at (nat_cmp q)) gs ≡ cond (is_at (nat_cmp k) q) (Some was) (lookup (is_at (nat_cmp q)) fs))
+    → from_entries {R = nat_cmp} gs ≡ cond (contains_key (from_entries {R = nat_cmp} es) k) (from_entries es) (insert (from_entries es) k v)
+put_back-tree {X = X} es fs gs k v was here first second =
+    kept-tree es gs k was here (λ q. second q ∙ ap (cond (is_at (nat_cmp k) q) (Some was)) (first q) ∙ same_choice (is_at (nat_cmp k) q) (Some was) (Some v) (lookup (is_at (nat_cmp q)) es))
+    ∙ ap (λ (o : Option X). cond (is_some o) (from_entries {R = nat_cmp} es) (insert (from_entries es) k v)) (here ∙ sym (get-tree es k))

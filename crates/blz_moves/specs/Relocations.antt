@@ -1,9 +1,10 @@
 -- What the relocations of a file in which sections have no addresses yet (ET_REL) do to the numbers that are read
 -- (ELF gABI, Relocation).
-use Rattle.std.specs.Prelude.{◌≡◌, ℕ, ◌+◌, ◌%◌, ◌^◌, Bool, true, false, Option, Some, None, refl}
+use Rattle.std.specs.Prelude.{◌≡◌, ℕ, ◌+◌, ◌%◌, ◌^◌, Bool, true, false, cond, List, Option, Some, None, refl}
 use Rattle.std.specs.Ordering.{nat_cmp}
 use Rattle.std.specs.Coded.{Coded, code_by, coded×, coded_ℕ, coded_bool}
 use Rattle.std.specs.FinMap as map
+use Rattle.std.specs.List.{fold}
 use Rattle.std.specs.Option.{unwrap_or}
 use Rattle.blz_moves.specs.declared.relocation.Relocation.{Relocation}
 use Rattle.blz_moves.specs.declared.relocation.Relocation.TheVariants.{Replaces, Adds}
@@ -46,3 +47,16 @@ section_map sections target = unwrap_or (map.get sections target) map.empty
 -- one more
 abbrev pub with_relocation : SectionMap → ℕ → ℕ → Relocation → SectionMap
 with_relocation sections target offset relocation = map.insert sections target (map.insert (section_map sections target) offset relocation)
+
+-- one more of a section, where the offset has none
+abbrev pub with_absent : OffsetMap → ℕ → Relocation → OffsetMap
+with_absent m offset relocation = cond (map.contains_key m offset) m (map.insert m offset relocation)
+
+-- the relocations of one section more, where it is there
+abbrev pub with_map : SectionMap → SectionMap → Option ℕ → SectionMap
+with_map all m None = m
+with_map all m (Some target) = map.insert m target (section_map all target)
+
+-- of all relocations those of some sections
+abbrev pub maps_of : List (Option ℕ) → SectionMap → SectionMap
+maps_of targets all = fold (with_map all) map.empty targets

@@ -1,7 +1,7 @@
 //! The relocations of a file whose sections have no addresses yet (ELF gABI, Relocation).
 ghost use Rattle.std.specs.Prelude.{◌≡◌, OnOk, OnErr};
 ghost use Rattle.std.specs.FinMap as map;
-ghost use Rattle.blz_moves.specs.Relocations.{relocated, relocation_of, section_map, with_relocation};
+ghost use Rattle.blz_moves.specs.Relocations.{relocated, relocation_of, section_map, with_absent, with_relocation};
 
 use std::alloc::{AllocError, Global};
 use std::collections::BTreeMap;
@@ -14,6 +14,17 @@ pub(crate) enum Relocation {
     Replaces(u64),
     /// This number is added, modulo two to the 64 (SHT_REL).
     Adds(u64),
+}
+
+/// A number that is added where the addend is implicit, else put in place of what is read.
+fn make_relocation(addend: u64, implicit: bool) -> Relocation
+    ensures { result ≡ relocation_of addend implicit }
+{
+    if implicit {
+        Relocation::Adds(addend)
+    } else {
+        Relocation::Replaces(addend)
+    }
 }
 
 /// The relocations of one section, by the offset of the field. The last one at an offset decides.
@@ -49,13 +60,28 @@ impl RelocationMap {
         ensures ok { OnOk result (self.new ≡ map.insert self.old offset (relocation_of addend implicit)) }
         ensures err { OnErr result (self.new ≡ self.old) }
     {
-        let relocation = if implicit {
-            Relocation::Adds(addend)
-        } else {
-            Relocation::Replaces(addend)
-        };
-        self.entries.insert(offset, relocation)?;
+        self.entries.insert(offset, make_relocation(addend, implicit))?;
         Ok(())
+    }
+
+    /// Puts a relocation where the offset has none yet.
+    pub fn insert_absent(
+        &mut self,
+        offset: u64,
+        addend: u64,
+        implicit: bool,
+    ) -> Result<(), AllocError>
+        ensures ok { OnOk result (self.new ≡ with_absent self.old offset (relocation_of addend implicit)) }
+        ensures err { OnErr result (self.new ≡ self.old) }
+    {
+        // one that is there is rare: it is put back
+        match self.entries.insert(offset, make_relocation(addend, implicit))? {
+            None => Ok(()),
+            Some(was) => {
+                self.entries.insert(offset, was)?;
+                Ok(())
+            }
+        }
     }
 
     /// The number at an offset after its relocation.
@@ -115,6 +141,15 @@ impl SectionRelocations {
         ensures { result.now ≡ section_map self.now target_idx }
     {
         self.maps.get(&target_idx).unwrap_or(&self.none)
+    }
+
+    /// Puts the relocations of a section in place of those that it has.
+    pub fn put(&mut self, target_idx: usize, moves: RelocationMap) -> Result<(), AllocError>
+        ensures ok { OnOk result (self.new ≡ map.insert self.old target_idx moves) }
+        ensures err { OnErr result (self.new ≡ self.old) }
+    {
+        self.maps.insert(target_idx, moves)?;
+        Ok(())
     }
 
     /// Puts a relocation of a section, as in the map of that section.
