@@ -3,4 +3,8 @@ pub mod Tables
 mod Naming
 pub mod Folds
 mod SectionSteps
+mod MapLooks
+mod BeneathMaps
+mod ReadRuns
+mod TargetMaps
 mod FirstGiven

@@ -18,7 +18,7 @@ use Rattle.blz_image.specs.Sections.{sections_of, records_of}
 use Rattle.blz_image.specs.declared.section.Section.{Section}
 use Rattle.blz_image.specs.SymbolTables.{symbol_at}
 use Rattle.blz_image.specs.declared.symbols.Symbol.{Symbol}
-use Rattle.blz_moves.specs.Relocations.{SectionMap, with_relocation}
+use Rattle.blz_moves.specs.Relocations.{SectionMap, maps_of, with_relocation}
 
 -- an entry: the place of the field, the index of the symbol, and the addend where the entry has one
 pub record Entry : Type 0 where
@@ -103,3 +103,11 @@ image_relocations image = do
   header ← header_of image
   sections ← sections_of image header
   relocations_of image header sections
+
+-- of some relocations those of some sections
+abbrev pub maps_in : List (Option ℕ) → Part SectionMap → Part SectionMap
+maps_in targets moves = moves >>= λ all. Good (maps_of targets all)
+
+-- the mark that they have
+abbrev pub mark_in : Part SectionMap → Part (Unit {0})
+mark_in moves = moves >>= λ all. Good tt

@@ -2,14 +2,13 @@
 ghost use Rattle.std.specs.Prelude.{◌≡◌, OnOk, IfOk};
 ghost use Rattle.std.specs.FinMap as finite;
 ghost use Rattle.std.specs.List.{fold};
-ghost use Rattle.blz_model.specs.Part.{Gives, Exactly, Good, ◌>>=◌};
+ghost use Rattle.blz_model.specs.Part.{Gives, Exactly, Good};
 ghost use Rattle.blz_image.specs.Formats.{section_size};
 ghost use Rattle.blz_image.specs.Places.{RowsFit, sections_in};
-ghost use Rattle.blz_image.specs.RelocationTables.{put_entry, with_entries, with_section, with_sections, relocations_of};
+ghost use Rattle.blz_image.specs.RelocationTables.{mark_in, maps_in, put_entry, with_entries, with_section, with_sections, relocations_of};
 ghost use Rattle.blz_image.specs.TargetTables.{section_mark, section_marks};
 ghost use Rattle.blz_image.specs.EntryViews.{entry_view};
 ghost use Rattle.blz_image.specs.Views.{header_view};
-ghost use Rattle.blz_moves.specs.Relocations.{maps_of};
 
 use crate::effect::effect_of;
 use crate::entries::{Entry, EntryKind, RelocationEntries, entry_kind};
@@ -57,7 +56,6 @@ fn put_entries(
 }
 
 /// Puts the entries that a section holds.
-#[tactic(auto, unfolding(crate::specs::RelocationTables::with_entries))]
 fn relocate_by(
     alloc: Global,
     map: &mut SectionRelocations,
@@ -71,7 +69,7 @@ fn relocate_by(
 {
     let table = table_of(image, format, sections, section, kind)?;
     let symbols = Records::open(image, table.symbols);
-    let entries = RelocationEntries::open(image, table.entries, kind);
+    let entries = RelocationEntries::open(image, table.entries, table.kind);
     put_entries(alloc, map, &symbols, section.info, &entries)?;
     Ok(())
 }
@@ -145,12 +143,18 @@ fn maps_of(
     targets: &[Option<usize>],
 ) -> std::result::Result<SectionRelocations, AllocError>
     requires { section_marks format image.now sections.now sections.now ≡ Good tt }
-    ensures { IfOk result (λ r. (with_sections format image.now sections.now sections.now finite.empty >>= λ all. Good (maps_of targets.now all)) ≡ Good r) }
+    ensures { IfOk result (λ r. maps_in targets.now (with_sections format image.now sections.now sections.now finite.empty) ≡ Good r) }
 {
     let mut maps = SectionRelocations::empty(alloc);
     for i in 0..targets.len() {
-        if let Some(target) = targets[i] {
-            maps.put(target, target::relocations_of(alloc, image, format, sections, target)?)?;
+        match targets[i] {
+            None => {}
+            Some(target) => {
+                maps.put(
+                    target,
+                    target::relocations_of(alloc, image, format, sections, target)?,
+                )?;
+            }
         }
     }
     Ok(maps)
@@ -173,7 +177,7 @@ fn relocating(image: &[u8], header: &Header, rows: Rows) -> Rows
 /// Looks for the first mark of the relocations of an image whose header and section table were read; takes no memory.
 pub fn check_relocations(image: &[u8], header: Header, rows: Rows) -> Result<()>
     requires fits { RowsFit section_size image.now rows }
-    ensures { Exactly (λ _. tt) result (relocations_of image.now (header_view header) (sections_in image.now rows) >>= λ _. Good tt) }
+    ensures { Exactly (λ _. tt) result (mark_in (relocations_of image.now (header_view header) (sections_in image.now rows))) }
 {
     let sections = Records::open(image, relocating(image, &header, rows));
     check_sections(image, header.format, &sections)
@@ -189,7 +193,7 @@ pub fn relocations_for(
     targets: &[Option<usize>],
 ) -> Result<SectionRelocations>
     requires fits { RowsFit section_size image.now rows }
-    ensures { Gives (λ m. m) result (relocations_of image.now (header_view header) (sections_in image.now rows) >>= λ all. Good (maps_of targets.now all)) }
+    ensures { Gives (λ m. m) result (maps_in targets.now (relocations_of image.now (header_view header) (sections_in image.now rows))) }
 {
     let sections = Records::open(image, relocating(image, &header, rows));
     check_sections(image, header.format, &sections)?;

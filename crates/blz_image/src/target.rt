@@ -147,7 +147,16 @@ pub fn relocations_of(
     while i > 0 {
         i -= 1;
         let section = sections.at(i);
-        put_section(&mut map, &mut read, image, format, sections, &section, target, i == first)?;
+        put_section(
+            &mut map,
+            &mut read,
+            image,
+            format,
+            sections,
+            &section,
+            target,
+            i == first,
+        )?;
     }
     Ok(map)
 }

@@ -60,7 +60,8 @@ impl RelocationMap {
         ensures ok { OnOk result (self.new ≡ map.insert self.old offset (relocation_of addend implicit)) }
         ensures err { OnErr result (self.new ≡ self.old) }
     {
-        self.entries.insert(offset, make_relocation(addend, implicit))?;
+        self.entries
+            .insert(offset, make_relocation(addend, implicit))?;
         Ok(())
     }
 
@@ -75,7 +76,10 @@ impl RelocationMap {
         ensures err { OnErr result (self.new ≡ self.old) }
     {
         // one that is there is rare: it is put back
-        match self.entries.insert(offset, make_relocation(addend, implicit))? {
+        match self
+            .entries
+            .insert(offset, make_relocation(addend, implicit))?
+        {
             None => Ok(()),
             Some(was) => {
                 self.entries.insert(offset, was)?;

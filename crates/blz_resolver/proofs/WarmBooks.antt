@@ -6,7 +6,7 @@ use Rattle.blz_elf.specs.Warm as elf
 use Rattle.blz_model.specs.Part.{Good, ◌>>=◌}
 use Rattle.blz_model.proofs.PartLemmas.{bind_good}
 use Rattle.blz_image.specs.Images.{elf_of}
-use Rattle.blz_moves.specs.Relocations.{SectionMap}
+use Rattle.blz_moves.specs.Relocations.{SectionMap, maps_of}
 use Rattle.blz_image.specs.RelocationTables.{image_relocations}
 use Rattle.blz_info.specs.Marks.{or_invalid}
 use Rattle.blz_split.specs.PackageParts.{PackageParts, package_of, package_view}
@@ -14,7 +14,7 @@ use Rattle.blz_units.specs.UnitTables.{sups_checked}
 use Rattle.blz_index.specs.UnitsWarm.{units_prepared, UnitsFit}
 use Rattle.blz_index.specs.declared.units.Units.{Units}
 use Rattle.blz_resolver.specs.Books.{DebugImages, as_sup, debug_images, files_in, if_there, sup_image}
-use Rattle.blz_resolver.specs.DebugSections.{DebugImage, DebugParts, debug_image, debug_parts}
+use Rattle.blz_resolver.specs.DebugSections.{DebugImage, DebugParts, debug_image, debug_parts, section_numbers}
 use Rattle.blz_resolver.specs.DebugViews.{debug_view, parts_view}
 use Rattle.blz_resolver.specs.FileViews.{images_view}
 use Rattle.blz_bundle.specs.Images.{NamedImage, ImageSet, debug_file}
@@ -30,10 +30,10 @@ use Rattle.blz_resolver.proofs.SameTexts.{good_is}
 pub parts_there : (bytes : List ℕ) (d : DebugImage) → debug_image bytes ≡ Good d → debug_parts bytes ≡ Good d.parts
 unfolding debug_image
 parts_there bytes d is =
-    let a = bind_good (elf_of bytes) (λ elf. image_relocations bytes >>= λ moves. debug_parts bytes >>= λ parts. Good (record { parts = parts; moves = moves })) d is in
-    let b = bind_good (image_relocations bytes) (λ moves. debug_parts bytes >>= λ parts. Good (record { parts = parts; moves = moves })) d a.2 in
-    let c = bind_good (debug_parts bytes) (λ parts. Good (record { parts = parts; moves = b.0 })) d b.2 in
-    let e : record { parts = c.0; moves = b.0 } ≡ d = good_is _ _ (Good d) (sym c.2) refl in
+    let a = bind_good (elf_of bytes) (λ elf. image_relocations bytes >>= λ moves. debug_parts bytes >>= λ parts. Good (record { parts = parts; moves = maps_of (section_numbers parts) moves })) d is in
+    let b = bind_good (image_relocations bytes) (λ moves. debug_parts bytes >>= λ parts. Good (record { parts = parts; moves = maps_of (section_numbers parts) moves })) d a.2 in
+    let c = bind_good (debug_parts bytes) (λ parts. Good (record { parts = parts; moves = maps_of (section_numbers parts) b.0 })) d b.2 in
+    let e : record { parts = c.0; moves = maps_of (section_numbers c.0) b.0 } ≡ d = good_is _ _ (Good d) (sym c.2) refl in
     c.1 ∙ ap (λ (x : DebugImage). Good x.parts) e
 
 sup_debug : (bytes : List ℕ) (d : DebugImage) → sup_image bytes ≡ Good d → debug_image bytes ≡ Good d

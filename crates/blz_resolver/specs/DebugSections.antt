@@ -1,10 +1,10 @@
 -- The sections of debug information of an image (DWARF 5 appendix B, and .debug_ranges of DWARF 4).
-use Rattle.std.specs.Prelude.{ℕ, List, [], Option, Some, None, codes, false}
+use Rattle.std.specs.Prelude.{ℕ, List, [], ◌∷◌, Option, Some, None, codes, false}
 use Rattle.std.specs.FinMap as map
 use Rattle.blz_model.specs.declared.byte_order.ByteOrder.{ByteOrder}
 use Rattle.blz_model.specs.Part.{Part, Good, ◌>>=◌}
 use Rattle.blz_image.specs.Images.{elf_of, image_order, image_section, image_section_data, image_data_named}
-use Rattle.blz_moves.specs.Relocations.{OffsetMap, SectionMap, section_map}
+use Rattle.blz_moves.specs.Relocations.{OffsetMap, SectionMap, maps_of, section_map}
 use Rattle.blz_image.specs.RelocationTables.{image_relocations}
 use Rattle.blz_info.specs.Contents.{Contents}
 use Rattle.blz_info.specs.FileSections.{FileSections}
@@ -98,7 +98,12 @@ sections_in p moves = record {
   sup = false;
 }
 
--- the debug information of an image: its header, section table and section names come first, then its relocations
+-- the numbers of the sections, of those that are there
+abbrev pub section_numbers : DebugParts → List (Option ℕ)
+section_numbers p = p.«abbrev».number ∷ p.addr.number ∷ p.aranges.number ∷ p.info.number ∷ p.line.number ∷ p.line_str.number ∷ p.ranges.number ∷ p.rnglists.number ∷ p.strings.number ∷ p.str_offsets.number ∷ []
+
+-- The debug information of an image: its header, section table and section names come first, then its relocations. Of these
+-- it has those of its sections.
 pub record DebugImage : Type 0 where
   pub parts : DebugParts
   pub moves : SectionMap
@@ -108,7 +113,7 @@ debug_image image = do
   elf ← elf_of image
   moves ← image_relocations image
   parts ← debug_parts image
-  Good (record { parts = parts; moves = moves })
+  Good (record { parts = parts; moves = maps_of (section_numbers parts) moves })
 
 -- the sections that entries are read from
 abbrev pub sections_of : DebugImage → FileSections

@@ -4,7 +4,7 @@ ghost use Rattle.std.specs.FinMap as map;
 ghost use Rattle.blz_model.specs.Part.{Exactly};
 ghost use Rattle.blz_info.specs.Contents.{section_view};
 ghost use Rattle.blz_info.specs.FileSections.{sections_view};
-ghost use Rattle.blz_resolver.specs.DebugSections.{data_numbered, located, debug_parts, moves_of, contents_with, sections_in};
+ghost use Rattle.blz_resolver.specs.DebugSections.{data_numbered, located, debug_parts, moves_of, contents_with, section_numbers, sections_in};
 ghost use Rattle.blz_resolver.specs.DebugViews.{located_view, parts_view, IsWholeFile};
 
 use crate::debug_section::DebugSection;
@@ -131,6 +131,24 @@ impl<'b> DebugData<'b> {
             str_offsets,
             order,
         })
+    }
+
+    /// The numbers of the sections, of those that are there.
+    pub fn numbers(&self) -> [Option<usize>; 10]
+        ensures { result ≡ section_numbers (parts_view self.now) }
+    {
+        [
+            self.abbrev.number,
+            self.addr.number,
+            self.aranges.number,
+            self.info.number,
+            self.line.number,
+            self.line_str.number,
+            self.ranges.number,
+            self.rnglists.number,
+            self.strings.number,
+            self.str_offsets.number,
+        ]
     }
 
     /// The sections with the relocations of their image; `none` relocates nothing.

@@ -12,7 +12,7 @@ use blz_entry::Sections;
 use blz_error::Result;
 use std::alloc::Global;
 
-/// The sections of debug information of an image, and its relocations.
+/// The sections of debug information of an image, and their relocations.
 #[derive(Drop)]
 pub(crate) struct DebugImage<'b> {
     pub data: DebugData<'b>,
@@ -20,7 +20,7 @@ pub(crate) struct DebugImage<'b> {
 }
 
 impl<'b> DebugImage<'b> {
-    /// Reads the relocations and the sections of an image. Refused by the first mark of header, section table and section
+    /// Reads the sections of an image and their relocations. Refused by the first mark of header, section table and section
     /// names, then of the relocations, then of the sections in the order of their names.
     #[tactic(auto, unfolding(crate::specs::DebugSections::debug_image, blz_image::specs::Images::image_is_relocatable))]
     pub fn read(alloc: Global, parser: &mut ElfParser<'b>) -> Result<DebugImage<'b>>
@@ -28,8 +28,9 @@ impl<'b> DebugImage<'b> {
         ensures same { parser.new ≡ parser.old }
     {
         parser.is_relocatable()?;
-        let moves = parser.read_relocations(alloc)?;
+        parser.check_relocations()?;
         let data = DebugData::read(parser)?;
+        let moves = parser.read_relocations_for(alloc, &data.numbers())?;
         Ok(DebugImage { data, moves })
     }
 

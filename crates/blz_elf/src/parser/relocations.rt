@@ -1,12 +1,12 @@
 //! The relocations of an image.
 ghost use Rattle.std.specs.Prelude.{◌≡◌, true, OnOk, OnErr};
 ghost use Rattle.blz_model.specs.Part.{Exactly, Gives};
-ghost use Rattle.blz_image.specs.RelocationTables.{image_relocations};
+ghost use Rattle.blz_image.specs.RelocationTables.{image_relocations, mark_in, maps_in};
 
 use crate::fill::fill_relocations;
 use crate::parser::ElfParser;
 use blz_error::{Error, Result, Str};
-use blz_image::relocating::relocations;
+use blz_image::relocating::{check_relocations, relocations, relocations_for};
 use blz_model::Cache;
 use blz_moves::SectionRelocations;
 use std::alloc::{AllocError, Global};
@@ -56,5 +56,32 @@ impl ElfParser<'_> {
         let header = self.header()?;
         let rows = self.rows()?;
         relocations(alloc, self.image, header, rows)
+    }
+
+    /// Looks for the mark that `section_relocations` is refused by; takes no memory.
+    #[tactic(auto, unfolding(blz_image::specs::RelocationTables::image_relocations, blz_image::specs::Images::image_sections))]
+    pub fn check_relocations(&mut self) -> Result<()>
+        ensures value { Exactly (λ _. tt) result (mark_in (image_relocations self.old.image)) }
+        ensures same { self.new ≡ self.old }
+    {
+        let header = self.header()?;
+        let rows = self.rows()?;
+        check_relocations(self.image, header, rows)
+    }
+
+    /// Of the relocations those of the sections of these numbers, read anew and given to the caller. Each section reads a
+    /// place of the image once, whatever its tables share.
+    #[tactic(auto, unfolding(blz_image::specs::RelocationTables::image_relocations, blz_image::specs::Images::image_sections))]
+    pub fn read_relocations_for(
+        &mut self,
+        alloc: Global,
+        targets: &[Option<usize>],
+    ) -> Result<SectionRelocations>
+        ensures value { Gives (λ m. m) result (maps_in targets.now (image_relocations self.old.image)) }
+        ensures same { self.new ≡ self.old }
+    {
+        let header = self.header()?;
+        let rows = self.rows()?;
+        relocations_for(alloc, self.image, header, rows, targets)
     }
 }

@@ -1,11 +1,13 @@
-use Rattle.std.proofs.Common.{◌≡◌, Some, refl, ap, ◌∙◌, arith}
-use Rattle.std.specs.List.{slice_get}
-use Rattle.std.proofs.lemmas.Option.{slice_get-get_or}
-use Rattle.blz_image.specs.RelocationTables.{with_entries}
+use Rattle.std.proofs.Common.{refl}
+use Rattle.std.proofs.lemmas.Result.{err_from_is_err_and}
+use Rattle.blz_image.proofs.TargetMaps.{with_entries-table}
 use Rattle.blz_image.proofs.relocating.relocate_by.Goals as goal
 
+pub returns-in_err-table : goal.returns-in_err-table
+returns-in_err-table c =
+    let p = err_from_is_err_and c.from_residual.result c.from_residual.ensures.1 in
+    rw (p.1, p.2, with_entries-table c.args.format c.args.image.now c.args.sections.now c.args.section.now c.args.kind c.args.map.now, c.in_err-table.ensures.value.0) (λ ne. refl)
+
 pub returns : goal.returns
-unfolding with_entries
 returns c =
-    let table : slice_get c.args.sections.now c.args.section.now.link ≡ Some c.at.result = slice_get-get_or c.args.sections.now c.args.section.now.link c.at.result (omega (arith, c.len.ensures)) ∙ ap Some (c.at.ensures c.at.result) in
-    rw (table, c.in_ok-symbols.ensures.value, c.in_ok-entries.ensures.value, c.in_ok-put_entries.ensures, c.open-symbols.ensures, c.open-entries.ensures) refl
+    rw (with_entries-table c.args.format c.args.image.now c.args.sections.now c.args.section.now c.args.kind c.args.map.now, c.in_ok-table.ensures.value, c.in_ok-put_entries.ensures, c.open-symbols.ensures, c.open-entries.ensures) refl
