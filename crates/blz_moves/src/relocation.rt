@@ -60,8 +60,8 @@ impl RelocationMap {
         ensures ok { OnOk result (self.new ≡ map.insert self.old offset (relocation_of addend implicit)) }
         ensures err { OnErr result (self.new ≡ self.old) }
     {
-        self.entries
-            .insert(offset, make_relocation(addend, implicit))?;
+        let relocation = make_relocation(addend, implicit);
+        self.entries.insert(offset, relocation)?;
         Ok(())
     }
 
@@ -75,11 +75,9 @@ impl RelocationMap {
         ensures ok { OnOk result (self.new ≡ with_absent self.old offset (relocation_of addend implicit)) }
         ensures err { OnErr result (self.new ≡ self.old) }
     {
+        let relocation = make_relocation(addend, implicit);
         // one that is there is rare: it is put back
-        match self
-            .entries
-            .insert(offset, make_relocation(addend, implicit))?
-        {
+        match self.entries.insert(offset, relocation)? {
             None => Ok(()),
             Some(was) => {
                 self.entries.insert(offset, was)?;

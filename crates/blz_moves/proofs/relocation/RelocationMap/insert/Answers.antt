@@ -3,4 +3,4 @@ use Rattle.blz_moves.proofs.relocation.RelocationMap.insert.Goals as goal
 
 pub returns-clause-ok : goal.returns-clause-ok
 returns-clause-ok c =
-    rw (← c.self.view_is, ← c.make_relocation.ensures) (insert-tree _ _ _ _ c.in_ok-insert.ensures.updates.0)
+    rw (← c.self.view_is, ← c.make_relocation-relocation.ensures) (insert-tree _ _ _ _ c.in_ok-insert.ensures.updates.0)
