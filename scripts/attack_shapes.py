@@ -422,15 +422,18 @@ def relocated(n):
         ".rel", entries, SHT_REL, link=3, info=2, entry_size=16)]
 
 
-def with_shared_tables(n, target_of):
-    """An object file with n more tables, which all stand at the place of the first, each for the section that is told."""
+def with_shared_tables(n, target_of, skipped=lambda k: 0):
+    """An object file with n more tables, which all stand at the place of the first, each for the section that is told and
+    without so many of the entries."""
     sections = relocated(n)
     body = image([*sections, *[Section(".text", b"") for _ in range(n)]], ET_REL)
     table = len(body) - 64 * (len(sections) + n + 2)
     rel = body[table + 64 * len(sections):table + 64 * (len(sections) + 1)]
+    at, size = struct.unpack("<QQ", rel[24:40])
     copies = b""
     for k in range(n):
-        copies += rel[:44] + struct.pack("<I", target_of(k)) + rel[48:]
+        place = struct.pack("<QQ", at + 16 * skipped(k), size - 16 * skipped(k))
+        copies += rel[:24] + place + rel[40:44] + struct.pack("<I", target_of(k)) + rel[48:]
     first = table + 64 * (len(sections) + 1)
     return body[:first] + copies + body[first + 64 * n:]
 
@@ -444,6 +447,11 @@ def relocations_for_many_sections(n):
 @shape
 def relocations_for_one_section(n):
     return Attack(with_shared_tables(n, lambda _: 2), [0])
+
+
+@shape
+def relocations_each_an_entry_later(n):
+    return Attack(with_shared_tables(n, lambda _: 2, lambda k: k), [0])
 
 
 @shape
