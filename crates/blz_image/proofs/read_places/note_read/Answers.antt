@@ -1,4 +1,4 @@
-use Rattle.std.proofs.Common.{◌≡◌, ◌-◌, arith}
+use Rattle.std.proofs.Common.{◌-◌, arith}
 use Rattle.blz_image.proofs.ReadRuns.{run_noted}
 use Rattle.blz_image.proofs.read_places.note_read.Goals as goal
 use Rattle.blz_image.proofs.read_places.note_read.Goals.{then-before-last+in_ok-insert, else-before-last}
