@@ -1,6 +1,5 @@
 //! The relocations of one section, each place of the image read once.
-ghost use Rattle.std.specs.Prelude.{◌≡◌, ◌≤◌, ◌<◌, ℕ, length, OnOk, IfOk};
-ghost use Rattle.std.specs.FinMap as map;
+ghost use Rattle.std.specs.Prelude.{◌≡◌, OnOk, IfOk};
 ghost use Rattle.blz_model.specs.Part.{Good};
 ghost use Rattle.blz_image.specs.EntryPlaces.{entries_in};
 ghost use Rattle.blz_image.specs.EntryViews.{entry_view};
