@@ -12,22 +12,6 @@ pub struct Elf32_Chdr {
     pub ch_addralign: u32,
 }
 
-impl Elf32_Chdr {
-    ghost use Rattle.blz_records.specs.CompressionHeaders.{chdr32};
-
-    // the header of a compressed section that these bytes spell
-    fn of(bytes: &[u8], order: ByteOrder) -> Elf32_Chdr
-        requires { 12 ≤ length bytes.now }
-        ensures { result ≡ chdr32 order bytes.now }
-    {
-        Elf32_Chdr {
-            ch_type: u32_in(bytes, 0, order),
-            ch_size: u32_in(bytes, 4, order),
-            ch_addralign: u32_in(bytes, 8, order),
-        }
-    }
-}
-
 impl Pod for Elf32_Chdr {
     ghost use Rattle.blz_records.specs.CompressionHeaders.{chdr32};
 
@@ -37,12 +21,13 @@ impl Pod for Elf32_Chdr {
 
     ghost value = { chdr32 };
 
-    fn read_le(bytes: &[u8]) -> Elf32_Chdr {
-        Elf32_Chdr::of(&bytes[..12], ByteOrder::Little)
-    }
-
-    fn read_be(bytes: &[u8]) -> Elf32_Chdr {
-        Elf32_Chdr::of(&bytes[..12], ByteOrder::Big)
+    fn read(bytes: &[u8], order: ByteOrder) -> Elf32_Chdr {
+        let bytes = &bytes[..12];
+        Elf32_Chdr {
+            ch_type: u32_in(bytes, 0, order),
+            ch_size: u32_in(bytes, 4, order),
+            ch_addralign: u32_in(bytes, 8, order),
+        }
     }
 }
 
@@ -55,23 +40,6 @@ pub struct Elf64_Chdr {
     pub ch_addralign: u64,
 }
 
-impl Elf64_Chdr {
-    ghost use Rattle.blz_records.specs.CompressionHeaders.{chdr64};
-
-    // the header of a compressed section that these bytes spell
-    fn of(bytes: &[u8], order: ByteOrder) -> Elf64_Chdr
-        requires { 24 ≤ length bytes.now }
-        ensures { result ≡ chdr64 order bytes.now }
-    {
-        Elf64_Chdr {
-            ch_type: u32_in(bytes, 0, order),
-            ch_reserved: u32_in(bytes, 4, order),
-            ch_size: u64_in(bytes, 8, order),
-            ch_addralign: u64_in(bytes, 16, order),
-        }
-    }
-}
-
 impl Pod for Elf64_Chdr {
     ghost use Rattle.blz_records.specs.CompressionHeaders.{chdr64};
 
@@ -81,12 +49,14 @@ impl Pod for Elf64_Chdr {
 
     ghost value = { chdr64 };
 
-    fn read_le(bytes: &[u8]) -> Elf64_Chdr {
-        Elf64_Chdr::of(&bytes[..24], ByteOrder::Little)
-    }
-
-    fn read_be(bytes: &[u8]) -> Elf64_Chdr {
-        Elf64_Chdr::of(&bytes[..24], ByteOrder::Big)
+    fn read(bytes: &[u8], order: ByteOrder) -> Elf64_Chdr {
+        let bytes = &bytes[..24];
+        Elf64_Chdr {
+            ch_type: u32_in(bytes, 0, order),
+            ch_reserved: u32_in(bytes, 4, order),
+            ch_size: u64_in(bytes, 8, order),
+            ch_addralign: u64_in(bytes, 16, order),
+        }
     }
 }
 

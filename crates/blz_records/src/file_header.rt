@@ -24,14 +24,17 @@ pub struct Elf32_Ehdr {
     pub e_shstrndx: u16,
 }
 
-impl Elf32_Ehdr {
+impl Pod for Elf32_Ehdr {
     ghost use Rattle.blz_records.specs.FileHeaders.{ehdr32};
 
-    // the file header that these bytes spell
-    fn of(bytes: &[u8], order: ByteOrder) -> Elf32_Ehdr
-        requires { 52 ≤ length bytes.now }
-        ensures { result ≡ ehdr32 order bytes.now }
-    {
+    const SIZE: usize = 52;
+
+    ghost SIZE = { 52 };
+
+    ghost value = { ehdr32 };
+
+    fn read(bytes: &[u8], order: ByteOrder) -> Elf32_Ehdr {
+        let bytes = &bytes[..52];
         Elf32_Ehdr {
             e_ident: ident_of(bytes),
             e_type: u16_in(bytes, 16, order),
@@ -48,24 +51,6 @@ impl Elf32_Ehdr {
             e_shnum: u16_in(bytes, 48, order),
             e_shstrndx: u16_in(bytes, 50, order),
         }
-    }
-}
-
-impl Pod for Elf32_Ehdr {
-    ghost use Rattle.blz_records.specs.FileHeaders.{ehdr32};
-
-    const SIZE: usize = 52;
-
-    ghost SIZE = { 52 };
-
-    ghost value = { ehdr32 };
-
-    fn read_le(bytes: &[u8]) -> Elf32_Ehdr {
-        Elf32_Ehdr::of(&bytes[..52], ByteOrder::Little)
-    }
-
-    fn read_be(bytes: &[u8]) -> Elf32_Ehdr {
-        Elf32_Ehdr::of(&bytes[..52], ByteOrder::Big)
     }
 }
 
@@ -88,14 +73,17 @@ pub struct Elf64_Ehdr {
     pub e_shstrndx: u16,
 }
 
-impl Elf64_Ehdr {
+impl Pod for Elf64_Ehdr {
     ghost use Rattle.blz_records.specs.FileHeaders.{ehdr64};
 
-    // the file header that these bytes spell
-    fn of(bytes: &[u8], order: ByteOrder) -> Elf64_Ehdr
-        requires { 64 ≤ length bytes.now }
-        ensures { result ≡ ehdr64 order bytes.now }
-    {
+    const SIZE: usize = 64;
+
+    ghost SIZE = { 64 };
+
+    ghost value = { ehdr64 };
+
+    fn read(bytes: &[u8], order: ByteOrder) -> Elf64_Ehdr {
+        let bytes = &bytes[..64];
         Elf64_Ehdr {
             e_ident: ident_of(bytes),
             e_type: u16_in(bytes, 16, order),
@@ -112,24 +100,6 @@ impl Elf64_Ehdr {
             e_shnum: u16_in(bytes, 60, order),
             e_shstrndx: u16_in(bytes, 62, order),
         }
-    }
-}
-
-impl Pod for Elf64_Ehdr {
-    ghost use Rattle.blz_records.specs.FileHeaders.{ehdr64};
-
-    const SIZE: usize = 64;
-
-    ghost SIZE = { 64 };
-
-    ghost value = { ehdr64 };
-
-    fn read_le(bytes: &[u8]) -> Elf64_Ehdr {
-        Elf64_Ehdr::of(&bytes[..64], ByteOrder::Little)
-    }
-
-    fn read_be(bytes: &[u8]) -> Elf64_Ehdr {
-        Elf64_Ehdr::of(&bytes[..64], ByteOrder::Big)
     }
 }
 

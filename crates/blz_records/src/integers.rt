@@ -12,11 +12,7 @@ impl Pod for u8 {
 
     ghost value = { λ order bytes. field order bytes 0 1 };
 
-    fn read_le(bytes: &[u8]) -> u8 {
-        bytes[0]
-    }
-
-    fn read_be(bytes: &[u8]) -> u8 {
+    fn read(bytes: &[u8], _order: ByteOrder) -> u8 {
         bytes[0]
     }
 }
@@ -28,12 +24,8 @@ impl Pod for i8 {
 
     ghost value = { λ order bytes. cast_signed w8 (field order bytes 0 1) };
 
-    fn read_le(bytes: &[u8]) -> i8 {
-        u8::read_le(bytes).cast_signed()
-    }
-
-    fn read_be(bytes: &[u8]) -> i8 {
-        u8::read_be(bytes).cast_signed()
+    fn read(bytes: &[u8], order: ByteOrder) -> i8 {
+        u8::read(bytes, order).cast_signed()
     }
 }
 
@@ -44,12 +36,8 @@ impl Pod for u16 {
 
     ghost value = { λ order bytes. field order bytes 0 2 };
 
-    fn read_le(bytes: &[u8]) -> u16 {
-        u16_in(&bytes[..2], 0, ByteOrder::Little)
-    }
-
-    fn read_be(bytes: &[u8]) -> u16 {
-        u16_in(&bytes[..2], 0, ByteOrder::Big)
+    fn read(bytes: &[u8], order: ByteOrder) -> u16 {
+        u16_in(&bytes[..2], 0, order)
     }
 }
 
@@ -60,12 +48,8 @@ impl Pod for i16 {
 
     ghost value = { λ order bytes. cast_signed w16 (field order bytes 0 2) };
 
-    fn read_le(bytes: &[u8]) -> i16 {
-        u16::read_le(bytes).cast_signed()
-    }
-
-    fn read_be(bytes: &[u8]) -> i16 {
-        u16::read_be(bytes).cast_signed()
+    fn read(bytes: &[u8], order: ByteOrder) -> i16 {
+        u16::read(bytes, order).cast_signed()
     }
 }
 
@@ -76,12 +60,8 @@ impl Pod for u32 {
 
     ghost value = { λ order bytes. field order bytes 0 4 };
 
-    fn read_le(bytes: &[u8]) -> u32 {
-        u32_in(&bytes[..4], 0, ByteOrder::Little)
-    }
-
-    fn read_be(bytes: &[u8]) -> u32 {
-        u32_in(&bytes[..4], 0, ByteOrder::Big)
+    fn read(bytes: &[u8], order: ByteOrder) -> u32 {
+        u32_in(&bytes[..4], 0, order)
     }
 }
 
@@ -92,12 +72,8 @@ impl Pod for i32 {
 
     ghost value = { λ order bytes. cast_signed w32 (field order bytes 0 4) };
 
-    fn read_le(bytes: &[u8]) -> i32 {
-        u32::read_le(bytes).cast_signed()
-    }
-
-    fn read_be(bytes: &[u8]) -> i32 {
-        u32::read_be(bytes).cast_signed()
+    fn read(bytes: &[u8], order: ByteOrder) -> i32 {
+        u32::read(bytes, order).cast_signed()
     }
 }
 
@@ -108,12 +84,8 @@ impl Pod for u64 {
 
     ghost value = { λ order bytes. field order bytes 0 8 };
 
-    fn read_le(bytes: &[u8]) -> u64 {
-        u64_in(&bytes[..8], 0, ByteOrder::Little)
-    }
-
-    fn read_be(bytes: &[u8]) -> u64 {
-        u64_in(&bytes[..8], 0, ByteOrder::Big)
+    fn read(bytes: &[u8], order: ByteOrder) -> u64 {
+        u64_in(&bytes[..8], 0, order)
     }
 }
 
@@ -124,12 +96,8 @@ impl Pod for i64 {
 
     ghost value = { λ order bytes. cast_signed w64 (field order bytes 0 8) };
 
-    fn read_le(bytes: &[u8]) -> i64 {
-        u64::read_le(bytes).cast_signed()
-    }
-
-    fn read_be(bytes: &[u8]) -> i64 {
-        u64::read_be(bytes).cast_signed()
+    fn read(bytes: &[u8], order: ByteOrder) -> i64 {
+        u64::read(bytes, order).cast_signed()
     }
 }
 
@@ -140,12 +108,8 @@ impl Pod for u128 {
 
     ghost value = { λ order bytes. field order bytes 0 16 };
 
-    fn read_le(bytes: &[u8]) -> u128 {
-        u128_in(&bytes[..16], 0, ByteOrder::Little)
-    }
-
-    fn read_be(bytes: &[u8]) -> u128 {
-        u128_in(&bytes[..16], 0, ByteOrder::Big)
+    fn read(bytes: &[u8], order: ByteOrder) -> u128 {
+        u128_in(&bytes[..16], 0, order)
     }
 }
 
@@ -156,11 +120,7 @@ impl Pod for i128 {
 
     ghost value = { λ order bytes. cast_signed w128 (field order bytes 0 16) };
 
-    fn read_le(bytes: &[u8]) -> i128 {
-        u128::read_le(bytes).cast_signed()
-    }
-
-    fn read_be(bytes: &[u8]) -> i128 {
-        u128::read_be(bytes).cast_signed()
+    fn read(bytes: &[u8], order: ByteOrder) -> i128 {
+        u128::read(bytes, order).cast_signed()
     }
 }

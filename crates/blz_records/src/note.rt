@@ -12,22 +12,6 @@ pub struct Elf32_Nhdr {
     pub n_type: u32,
 }
 
-impl Elf32_Nhdr {
-    ghost use Rattle.blz_records.specs.NoteHeaders.{nhdr32};
-
-    // the header of a note that these bytes spell
-    fn of(bytes: &[u8], order: ByteOrder) -> Elf32_Nhdr
-        requires { 12 ≤ length bytes.now }
-        ensures { result ≡ nhdr32 order bytes.now }
-    {
-        Elf32_Nhdr {
-            n_namesz: u32_in(bytes, 0, order),
-            n_descsz: u32_in(bytes, 4, order),
-            n_type: u32_in(bytes, 8, order),
-        }
-    }
-}
-
 impl Pod for Elf32_Nhdr {
     ghost use Rattle.blz_records.specs.NoteHeaders.{nhdr32};
 
@@ -37,12 +21,13 @@ impl Pod for Elf32_Nhdr {
 
     ghost value = { nhdr32 };
 
-    fn read_le(bytes: &[u8]) -> Elf32_Nhdr {
-        Elf32_Nhdr::of(&bytes[..12], ByteOrder::Little)
-    }
-
-    fn read_be(bytes: &[u8]) -> Elf32_Nhdr {
-        Elf32_Nhdr::of(&bytes[..12], ByteOrder::Big)
+    fn read(bytes: &[u8], order: ByteOrder) -> Elf32_Nhdr {
+        let bytes = &bytes[..12];
+        Elf32_Nhdr {
+            n_namesz: u32_in(bytes, 0, order),
+            n_descsz: u32_in(bytes, 4, order),
+            n_type: u32_in(bytes, 8, order),
+        }
     }
 }
 
@@ -54,22 +39,6 @@ pub struct Elf64_Nhdr {
     pub n_type: u32,
 }
 
-impl Elf64_Nhdr {
-    ghost use Rattle.blz_records.specs.NoteHeaders.{nhdr64};
-
-    // the header of a note that these bytes spell
-    fn of(bytes: &[u8], order: ByteOrder) -> Elf64_Nhdr
-        requires { 12 ≤ length bytes.now }
-        ensures { result ≡ nhdr64 order bytes.now }
-    {
-        Elf64_Nhdr {
-            n_namesz: u32_in(bytes, 0, order),
-            n_descsz: u32_in(bytes, 4, order),
-            n_type: u32_in(bytes, 8, order),
-        }
-    }
-}
-
 impl Pod for Elf64_Nhdr {
     ghost use Rattle.blz_records.specs.NoteHeaders.{nhdr64};
 
@@ -79,12 +48,13 @@ impl Pod for Elf64_Nhdr {
 
     ghost value = { nhdr64 };
 
-    fn read_le(bytes: &[u8]) -> Elf64_Nhdr {
-        Elf64_Nhdr::of(&bytes[..12], ByteOrder::Little)
-    }
-
-    fn read_be(bytes: &[u8]) -> Elf64_Nhdr {
-        Elf64_Nhdr::of(&bytes[..12], ByteOrder::Big)
+    fn read(bytes: &[u8], order: ByteOrder) -> Elf64_Nhdr {
+        let bytes = &bytes[..12];
+        Elf64_Nhdr {
+            n_namesz: u32_in(bytes, 0, order),
+            n_descsz: u32_in(bytes, 4, order),
+            n_type: u32_in(bytes, 8, order),
+        }
     }
 }
 

@@ -15,24 +15,24 @@ pub trait Pod: Copy {
     /// The value that these bytes spell.
     ghost value: { ByteOrder → List ℕ → Self };
 
-    /// The value of the first `SIZE` bytes, each number with its least byte first.
-    fn read_le(bytes: &[u8]) -> Self
+    /// The value of the first `SIZE` bytes.
+    fn read(bytes: &[u8], order: ByteOrder) -> Self
         requires { SIZE ≤ length bytes.now }
-        ensures { result ≡ value Little (take SIZE bytes.now) };
+        ensures { result ≡ value order (take SIZE bytes.now) };
+
+    /// The value of the first `SIZE` bytes, each number with its least byte first.
+    final fn read_le(bytes: &[u8]) -> Self
+        requires { SIZE ≤ length bytes.now }
+        ensures { result ≡ value Little (take SIZE bytes.now) }
+    {
+        Self::read(bytes, ByteOrder::Little)
+    }
 
     /// The value of the first `SIZE` bytes, each number with its greatest byte first.
-    fn read_be(bytes: &[u8]) -> Self
+    final fn read_be(bytes: &[u8]) -> Self
         requires { SIZE ≤ length bytes.now }
-        ensures { result ≡ value Big (take SIZE bytes.now) };
-
-    /// The value of the first `SIZE` bytes.
-    final fn read(bytes: &[u8], order: ByteOrder) -> Self
-        requires { SIZE ≤ length bytes.now }
-        ensures { result ≡ value order (take SIZE bytes.now) }
+        ensures { result ≡ value Big (take SIZE bytes.now) }
     {
-        match order {
-            ByteOrder::Little => Self::read_le(bytes),
-            ByteOrder::Big => Self::read_be(bytes),
-        }
+        Self::read(bytes, ByteOrder::Big)
     }
 }

@@ -18,14 +18,17 @@ pub struct Elf32_Phdr {
     pub p_align: u32,
 }
 
-impl Elf32_Phdr {
+impl Pod for Elf32_Phdr {
     ghost use Rattle.blz_records.specs.ProgramHeaders.{phdr32};
 
-    // the program header that these bytes spell
-    fn of(bytes: &[u8], order: ByteOrder) -> Elf32_Phdr
-        requires { 32 ≤ length bytes.now }
-        ensures { result ≡ phdr32 order bytes.now }
-    {
+    const SIZE: usize = 32;
+
+    ghost SIZE = { 32 };
+
+    ghost value = { phdr32 };
+
+    fn read(bytes: &[u8], order: ByteOrder) -> Elf32_Phdr {
+        let bytes = &bytes[..32];
         Elf32_Phdr {
             p_type: u32_in(bytes, 0, order),
             p_offset: u32_in(bytes, 4, order),
@@ -36,24 +39,6 @@ impl Elf32_Phdr {
             p_flags: u32_in(bytes, 24, order),
             p_align: u32_in(bytes, 28, order),
         }
-    }
-}
-
-impl Pod for Elf32_Phdr {
-    ghost use Rattle.blz_records.specs.ProgramHeaders.{phdr32};
-
-    const SIZE: usize = 32;
-
-    ghost SIZE = { 32 };
-
-    ghost value = { phdr32 };
-
-    fn read_le(bytes: &[u8]) -> Elf32_Phdr {
-        Elf32_Phdr::of(&bytes[..32], ByteOrder::Little)
-    }
-
-    fn read_be(bytes: &[u8]) -> Elf32_Phdr {
-        Elf32_Phdr::of(&bytes[..32], ByteOrder::Big)
     }
 }
 
@@ -70,14 +55,17 @@ pub struct Elf64_Phdr {
     pub p_align: u64,
 }
 
-impl Elf64_Phdr {
+impl Pod for Elf64_Phdr {
     ghost use Rattle.blz_records.specs.ProgramHeaders.{phdr64};
 
-    // the program header that these bytes spell
-    fn of(bytes: &[u8], order: ByteOrder) -> Elf64_Phdr
-        requires { 56 ≤ length bytes.now }
-        ensures { result ≡ phdr64 order bytes.now }
-    {
+    const SIZE: usize = 56;
+
+    ghost SIZE = { 56 };
+
+    ghost value = { phdr64 };
+
+    fn read(bytes: &[u8], order: ByteOrder) -> Elf64_Phdr {
+        let bytes = &bytes[..56];
         Elf64_Phdr {
             p_type: u32_in(bytes, 0, order),
             p_flags: u32_in(bytes, 4, order),
@@ -88,24 +76,6 @@ impl Elf64_Phdr {
             p_memsz: u64_in(bytes, 40, order),
             p_align: u64_in(bytes, 48, order),
         }
-    }
-}
-
-impl Pod for Elf64_Phdr {
-    ghost use Rattle.blz_records.specs.ProgramHeaders.{phdr64};
-
-    const SIZE: usize = 56;
-
-    ghost SIZE = { 56 };
-
-    ghost value = { phdr64 };
-
-    fn read_le(bytes: &[u8]) -> Elf64_Phdr {
-        Elf64_Phdr::of(&bytes[..56], ByteOrder::Little)
-    }
-
-    fn read_be(bytes: &[u8]) -> Elf64_Phdr {
-        Elf64_Phdr::of(&bytes[..56], ByteOrder::Big)
     }
 }
 

@@ -12,22 +12,6 @@ pub struct Elf32_Rela {
     pub r_addend: i32,
 }
 
-impl Elf32_Rela {
-    ghost use Rattle.blz_records.specs.RelocationRecords.{rela32};
-
-    // the relocation with an addend that these bytes spell
-    fn of(bytes: &[u8], order: ByteOrder) -> Elf32_Rela
-        requires { 12 ≤ length bytes.now }
-        ensures { result ≡ rela32 order bytes.now }
-    {
-        Elf32_Rela {
-            r_offset: u32_in(bytes, 0, order),
-            r_info: u32_in(bytes, 4, order),
-            r_addend: u32_in(bytes, 8, order).cast_signed(),
-        }
-    }
-}
-
 impl Pod for Elf32_Rela {
     ghost use Rattle.blz_records.specs.RelocationRecords.{rela32};
 
@@ -37,12 +21,13 @@ impl Pod for Elf32_Rela {
 
     ghost value = { rela32 };
 
-    fn read_le(bytes: &[u8]) -> Elf32_Rela {
-        Elf32_Rela::of(&bytes[..12], ByteOrder::Little)
-    }
-
-    fn read_be(bytes: &[u8]) -> Elf32_Rela {
-        Elf32_Rela::of(&bytes[..12], ByteOrder::Big)
+    fn read(bytes: &[u8], order: ByteOrder) -> Elf32_Rela {
+        let bytes = &bytes[..12];
+        Elf32_Rela {
+            r_offset: u32_in(bytes, 0, order),
+            r_info: u32_in(bytes, 4, order),
+            r_addend: u32_in(bytes, 8, order).cast_signed(),
+        }
     }
 }
 
@@ -54,22 +39,6 @@ pub struct Elf64_Rela {
     pub r_addend: i64,
 }
 
-impl Elf64_Rela {
-    ghost use Rattle.blz_records.specs.RelocationRecords.{rela64};
-
-    // the relocation with an addend that these bytes spell
-    fn of(bytes: &[u8], order: ByteOrder) -> Elf64_Rela
-        requires { 24 ≤ length bytes.now }
-        ensures { result ≡ rela64 order bytes.now }
-    {
-        Elf64_Rela {
-            r_offset: u64_in(bytes, 0, order),
-            r_info: u64_in(bytes, 8, order),
-            r_addend: u64_in(bytes, 16, order).cast_signed(),
-        }
-    }
-}
-
 impl Pod for Elf64_Rela {
     ghost use Rattle.blz_records.specs.RelocationRecords.{rela64};
 
@@ -79,12 +48,13 @@ impl Pod for Elf64_Rela {
 
     ghost value = { rela64 };
 
-    fn read_le(bytes: &[u8]) -> Elf64_Rela {
-        Elf64_Rela::of(&bytes[..24], ByteOrder::Little)
-    }
-
-    fn read_be(bytes: &[u8]) -> Elf64_Rela {
-        Elf64_Rela::of(&bytes[..24], ByteOrder::Big)
+    fn read(bytes: &[u8], order: ByteOrder) -> Elf64_Rela {
+        let bytes = &bytes[..24];
+        Elf64_Rela {
+            r_offset: u64_in(bytes, 0, order),
+            r_info: u64_in(bytes, 8, order),
+            r_addend: u64_in(bytes, 16, order).cast_signed(),
+        }
     }
 }
 
@@ -114,21 +84,6 @@ pub struct Elf32_Rel {
     pub r_info: u32,
 }
 
-impl Elf32_Rel {
-    ghost use Rattle.blz_records.specs.RelocationRecords.{rel32};
-
-    // the relocation that these bytes spell
-    fn of(bytes: &[u8], order: ByteOrder) -> Elf32_Rel
-        requires { 8 ≤ length bytes.now }
-        ensures { result ≡ rel32 order bytes.now }
-    {
-        Elf32_Rel {
-            r_offset: u32_in(bytes, 0, order),
-            r_info: u32_in(bytes, 4, order),
-        }
-    }
-}
-
 impl Pod for Elf32_Rel {
     ghost use Rattle.blz_records.specs.RelocationRecords.{rel32};
 
@@ -138,12 +93,12 @@ impl Pod for Elf32_Rel {
 
     ghost value = { rel32 };
 
-    fn read_le(bytes: &[u8]) -> Elf32_Rel {
-        Elf32_Rel::of(&bytes[..8], ByteOrder::Little)
-    }
-
-    fn read_be(bytes: &[u8]) -> Elf32_Rel {
-        Elf32_Rel::of(&bytes[..8], ByteOrder::Big)
+    fn read(bytes: &[u8], order: ByteOrder) -> Elf32_Rel {
+        let bytes = &bytes[..8];
+        Elf32_Rel {
+            r_offset: u32_in(bytes, 0, order),
+            r_info: u32_in(bytes, 4, order),
+        }
     }
 }
 
@@ -152,21 +107,6 @@ impl Pod for Elf32_Rel {
 pub struct Elf64_Rel {
     pub r_offset: u64,
     pub r_info: u64,
-}
-
-impl Elf64_Rel {
-    ghost use Rattle.blz_records.specs.RelocationRecords.{rel64};
-
-    // the relocation that these bytes spell
-    fn of(bytes: &[u8], order: ByteOrder) -> Elf64_Rel
-        requires { 16 ≤ length bytes.now }
-        ensures { result ≡ rel64 order bytes.now }
-    {
-        Elf64_Rel {
-            r_offset: u64_in(bytes, 0, order),
-            r_info: u64_in(bytes, 8, order),
-        }
-    }
 }
 
 impl Pod for Elf64_Rel {
@@ -178,12 +118,12 @@ impl Pod for Elf64_Rel {
 
     ghost value = { rel64 };
 
-    fn read_le(bytes: &[u8]) -> Elf64_Rel {
-        Elf64_Rel::of(&bytes[..16], ByteOrder::Little)
-    }
-
-    fn read_be(bytes: &[u8]) -> Elf64_Rel {
-        Elf64_Rel::of(&bytes[..16], ByteOrder::Big)
+    fn read(bytes: &[u8], order: ByteOrder) -> Elf64_Rel {
+        let bytes = &bytes[..16];
+        Elf64_Rel {
+            r_offset: u64_in(bytes, 0, order),
+            r_info: u64_in(bytes, 8, order),
+        }
     }
 }
 

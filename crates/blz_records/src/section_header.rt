@@ -20,14 +20,17 @@ pub struct Elf32_Shdr {
     pub sh_entsize: u32,
 }
 
-impl Elf32_Shdr {
+impl Pod for Elf32_Shdr {
     ghost use Rattle.blz_records.specs.SectionHeaders.{shdr32};
 
-    // the section header that these bytes spell
-    fn of(bytes: &[u8], order: ByteOrder) -> Elf32_Shdr
-        requires { 40 ≤ length bytes.now }
-        ensures { result ≡ shdr32 order bytes.now }
-    {
+    const SIZE: usize = 40;
+
+    ghost SIZE = { 40 };
+
+    ghost value = { shdr32 };
+
+    fn read(bytes: &[u8], order: ByteOrder) -> Elf32_Shdr {
+        let bytes = &bytes[..40];
         Elf32_Shdr {
             sh_name: u32_in(bytes, 0, order),
             sh_type: u32_in(bytes, 4, order),
@@ -40,24 +43,6 @@ impl Elf32_Shdr {
             sh_addralign: u32_in(bytes, 32, order),
             sh_entsize: u32_in(bytes, 36, order),
         }
-    }
-}
-
-impl Pod for Elf32_Shdr {
-    ghost use Rattle.blz_records.specs.SectionHeaders.{shdr32};
-
-    const SIZE: usize = 40;
-
-    ghost SIZE = { 40 };
-
-    ghost value = { shdr32 };
-
-    fn read_le(bytes: &[u8]) -> Elf32_Shdr {
-        Elf32_Shdr::of(&bytes[..40], ByteOrder::Little)
-    }
-
-    fn read_be(bytes: &[u8]) -> Elf32_Shdr {
-        Elf32_Shdr::of(&bytes[..40], ByteOrder::Big)
     }
 }
 
@@ -76,14 +61,17 @@ pub struct Elf64_Shdr {
     pub sh_entsize: u64,
 }
 
-impl Elf64_Shdr {
+impl Pod for Elf64_Shdr {
     ghost use Rattle.blz_records.specs.SectionHeaders.{shdr64};
 
-    // the section header that these bytes spell
-    fn of(bytes: &[u8], order: ByteOrder) -> Elf64_Shdr
-        requires { 64 ≤ length bytes.now }
-        ensures { result ≡ shdr64 order bytes.now }
-    {
+    const SIZE: usize = 64;
+
+    ghost SIZE = { 64 };
+
+    ghost value = { shdr64 };
+
+    fn read(bytes: &[u8], order: ByteOrder) -> Elf64_Shdr {
+        let bytes = &bytes[..64];
         Elf64_Shdr {
             sh_name: u32_in(bytes, 0, order),
             sh_type: u32_in(bytes, 4, order),
@@ -96,24 +84,6 @@ impl Elf64_Shdr {
             sh_addralign: u64_in(bytes, 48, order),
             sh_entsize: u64_in(bytes, 56, order),
         }
-    }
-}
-
-impl Pod for Elf64_Shdr {
-    ghost use Rattle.blz_records.specs.SectionHeaders.{shdr64};
-
-    const SIZE: usize = 64;
-
-    ghost SIZE = { 64 };
-
-    ghost value = { shdr64 };
-
-    fn read_le(bytes: &[u8]) -> Elf64_Shdr {
-        Elf64_Shdr::of(&bytes[..64], ByteOrder::Little)
-    }
-
-    fn read_be(bytes: &[u8]) -> Elf64_Shdr {
-        Elf64_Shdr::of(&bytes[..64], ByteOrder::Big)
     }
 }
 

@@ -17,25 +17,6 @@ pub struct Elf32_Sym {
     pub st_shndx: u16,
 }
 
-impl Elf32_Sym {
-    ghost use Rattle.blz_records.specs.SymbolRecords.{sym32};
-
-    // the symbol that these bytes spell
-    fn of(bytes: &[u8], order: ByteOrder) -> Elf32_Sym
-        requires { 16 ≤ length bytes.now }
-        ensures { result ≡ sym32 order bytes.now }
-    {
-        Elf32_Sym {
-            st_name: u32_in(bytes, 0, order),
-            st_value: u32_in(bytes, 4, order),
-            st_size: u32_in(bytes, 8, order),
-            st_info: bytes[12],
-            st_other: bytes[13],
-            st_shndx: u16_in(bytes, 14, order),
-        }
-    }
-}
-
 impl Pod for Elf32_Sym {
     ghost use Rattle.blz_records.specs.SymbolRecords.{sym32};
 
@@ -45,12 +26,16 @@ impl Pod for Elf32_Sym {
 
     ghost value = { sym32 };
 
-    fn read_le(bytes: &[u8]) -> Elf32_Sym {
-        Elf32_Sym::of(&bytes[..16], ByteOrder::Little)
-    }
-
-    fn read_be(bytes: &[u8]) -> Elf32_Sym {
-        Elf32_Sym::of(&bytes[..16], ByteOrder::Big)
+    fn read(bytes: &[u8], order: ByteOrder) -> Elf32_Sym {
+        let bytes = &bytes[..16];
+        Elf32_Sym {
+            st_name: u32_in(bytes, 0, order),
+            st_value: u32_in(bytes, 4, order),
+            st_size: u32_in(bytes, 8, order),
+            st_info: bytes[12],
+            st_other: bytes[13],
+            st_shndx: u16_in(bytes, 14, order),
+        }
     }
 }
 
@@ -65,25 +50,6 @@ pub struct Elf64_Sym {
     pub st_size: u64,
 }
 
-impl Elf64_Sym {
-    ghost use Rattle.blz_records.specs.SymbolRecords.{sym64};
-
-    // the symbol that these bytes spell
-    fn of(bytes: &[u8], order: ByteOrder) -> Elf64_Sym
-        requires { 24 ≤ length bytes.now }
-        ensures { result ≡ sym64 order bytes.now }
-    {
-        Elf64_Sym {
-            st_name: u32_in(bytes, 0, order),
-            st_info: bytes[4],
-            st_other: bytes[5],
-            st_shndx: u16_in(bytes, 6, order),
-            st_value: u64_in(bytes, 8, order),
-            st_size: u64_in(bytes, 16, order),
-        }
-    }
-}
-
 impl Pod for Elf64_Sym {
     ghost use Rattle.blz_records.specs.SymbolRecords.{sym64};
 
@@ -93,12 +59,16 @@ impl Pod for Elf64_Sym {
 
     ghost value = { sym64 };
 
-    fn read_le(bytes: &[u8]) -> Elf64_Sym {
-        Elf64_Sym::of(&bytes[..24], ByteOrder::Little)
-    }
-
-    fn read_be(bytes: &[u8]) -> Elf64_Sym {
-        Elf64_Sym::of(&bytes[..24], ByteOrder::Big)
+    fn read(bytes: &[u8], order: ByteOrder) -> Elf64_Sym {
+        let bytes = &bytes[..24];
+        Elf64_Sym {
+            st_name: u32_in(bytes, 0, order),
+            st_info: bytes[4],
+            st_other: bytes[5],
+            st_shndx: u16_in(bytes, 6, order),
+            st_value: u64_in(bytes, 8, order),
+            st_size: u64_in(bytes, 16, order),
+        }
     }
 }
 
