@@ -5,6 +5,8 @@ use blz_entry::{
 };
 use blz_model::ByteOrder;
 use blz_moves::RelocationMap;
+use std::alloc::Global;
+use std::process::Abort;
 use std::test::Fail;
 
 const NUMBERS: &[u8] = b"\x83\x01\0\0\0\0\0\0\0\0\0\0\0\0\0\0";
@@ -19,11 +21,18 @@ fn read(bytes: &Section<'_, '_>, form: u64) -> Option<(AttrValue, usize)> {
     form_value(bytes, StrPart::Line, 5, false, 8, form, 0)
 }
 
+// each form has its value at the start of some bytes, and its next place
+fn assert_reads(rt: &impl Abort, alloc: Global, bytes: &[u8], forms: &[(u64, AttrValue, usize)]) {
+    let moves = RelocationMap::new(alloc);
+    let bytes = section(bytes, &moves);
+    for (form, value, next) in forms {
+        assert_eq!(rt; read(&bytes, *form), Some((*value, *next)), "form {form}");
+    }
+}
+
 #[test]
 fn each_form_of_a_number_has_its_value_and_next_place(rt: HostRuntime) {
-    let moves = RelocationMap::new(rt.alloc());
-    let bytes = section(NUMBERS, &moves);
-    for (form, value, next) in [
+    let forms = [
         (0x01, AttrValue::Addr(0x183), 8),
         (0x05, AttrValue::Const(0x183), 2),
         (0x06, AttrValue::Const(0x183), 4),
@@ -36,16 +45,13 @@ fn each_form_of_a_number_has_its_value_and_next_place(rt: HostRuntime) {
         (0x1e, AttrValue::Other, 16),
         (0x20, AttrValue::Other, 8),
         (0x22, AttrValue::Other, 2),
-    ] {
-        assert_eq!(rt; read(&bytes, form), Some((value, next)), "form {form}");
-    }
+    ];
+    assert_reads(&rt, rt.alloc(), NUMBERS, &forms);
 }
 
 #[test]
 fn each_form_of_a_place_has_its_value_and_next_place(rt: HostRuntime) {
-    let moves = RelocationMap::new(rt.alloc());
-    let bytes = section(NUMBERS, &moves);
-    for (form, value, next) in [
+    let forms = [
         (0x0e, AttrValue::StrRef(0x183), 4),
         (0x10, AttrValue::InfoRef(0x183), 4),
         (0x11, AttrValue::UnitRef(0x83), 1),
@@ -60,16 +66,13 @@ fn each_form_of_a_place_has_its_value_and_next_place(rt: HostRuntime) {
         (0x24, AttrValue::SupRef(0x183), 8),
         (0x1f20, AttrValue::SupRef(0x183), 4),
         (0x1f21, AttrValue::SupStr(0x183), 4),
-    ] {
-        assert_eq!(rt; read(&bytes, form), Some((value, next)), "form {form}");
-    }
+    ];
+    assert_reads(&rt, rt.alloc(), NUMBERS, &forms);
 }
 
 #[test]
 fn each_form_of_an_index_has_its_value_and_next_place(rt: HostRuntime) {
-    let moves = RelocationMap::new(rt.alloc());
-    let bytes = section(NUMBERS, &moves);
-    for (form, value, next) in [
+    let forms = [
         (0x1a, AttrValue::StrIndex(131), 2),
         (0x1b, AttrValue::AddrIndex(131), 2),
         (0x23, AttrValue::RangeIndex(131), 2),
@@ -81,30 +84,26 @@ fn each_form_of_an_index_has_its_value_and_next_place(rt: HostRuntime) {
         (0x2a, AttrValue::AddrIndex(0x183), 2),
         (0x2b, AttrValue::AddrIndex(0x183), 3),
         (0x2c, AttrValue::AddrIndex(0x183), 4),
-    ] {
-        assert_eq!(rt; read(&bytes, form), Some((value, next)), "form {form}");
-    }
+    ];
+    assert_reads(&rt, rt.alloc(), NUMBERS, &forms);
 }
 
 #[test]
 fn each_form_of_a_block_or_a_text_has_its_next_place(rt: HostRuntime) {
-    let moves = RelocationMap::new(rt.alloc());
-    let bytes = section(BLOCKS, &moves);
     let text = StrPlace {
         part: StrPart::Line,
         start: 0,
         len: 1,
     };
-    for (form, value, next) in [
+    let forms = [
         (0x03, AttrValue::Other, 5),
         (0x04, AttrValue::Other, 7),
         (0x08, AttrValue::Text(text), 2),
         (0x09, AttrValue::Other, 4),
         (0x0a, AttrValue::Other, 4),
         (0x18, AttrValue::Other, 4),
-    ] {
-        assert_eq!(rt; read(&bytes, form), Some((value, next)), "form {form}");
-    }
+    ];
+    assert_reads(&rt, rt.alloc(), BLOCKS, &forms);
 }
 
 #[test]
