@@ -1,7 +1,7 @@
 use Rattle.std.proofs.Common.{◌-◌, length, take, drop, arith, ap, sym, ◌∙◌}
 use Rattle.std.proofs.lemmas.List.{take_rest}
 use Rattle.blz_model.specs.Texts.{c_string}
-use Rattle.blz_image.proofs.TextLemmas.{c_string_none, c_string_found}
+use Rattle.blz_bytes.proofs.ZeroEnded.{c_string_none, c_string_found}
 use Rattle.blz_image.proofs.text.bytes_at.Goals as goal
 
 pub returns-in_err-len : goal.returns-in_err-len
