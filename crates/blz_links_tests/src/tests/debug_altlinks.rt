@@ -23,38 +23,20 @@ fn a_link_has_a_path_and_a_build_id(rt: HostRuntime) -> Result<(), Fail> {
 }
 
 #[test]
-fn a_path_without_its_zero_is_refused(rt: HostRuntime) -> Result<(), Fail> {
-    let text = answer(rt.alloc(), b"/usr")?;
-    assert_eq!(rt;
-        text.as_str(),
-        "invalid data: failed to read debug altlink path"
-    );
-    Ok(())
-}
-
-#[test]
-fn an_empty_path_is_refused(rt: HostRuntime) -> Result<(), Fail> {
-    let text = answer(rt.alloc(), b"\0\x01")?;
-    assert_eq!(rt;
-        text.as_str(),
-        "invalid data: debug altlink target is empty"
-    );
-    Ok(())
-}
-
-#[test]
-fn a_path_that_is_not_text_is_refused(rt: HostRuntime) -> Result<(), Fail> {
-    let text = answer(rt.alloc(), b"\xc3\0\x01")?;
-    assert_eq!(rt; text.as_str(), "invalid data: link target is not text");
-    Ok(())
-}
-
-#[test]
-fn an_empty_build_id_is_refused(rt: HostRuntime) -> Result<(), Fail> {
-    let text = answer(rt.alloc(), b"a\0")?;
-    assert_eq!(rt;
-        text.as_str(),
-        "invalid data: failed to read debug altlink build ID"
-    );
+fn the_first_check_that_fails_is_told(rt: HostRuntime) -> Result<(), Fail> {
+    let answers: [(&[u8], &str); 4] = [
+        // a path without its zero, an empty one, and one that is not text
+        (b"/usr", "invalid data: failed to read debug altlink path"),
+        (b"\0\x01", "invalid data: debug altlink target is empty"),
+        (b"\xc3\0\x01", "invalid data: link target is not text"),
+        // an empty build id
+        (
+            b"a\0",
+            "invalid data: failed to read debug altlink build ID",
+        ),
+    ];
+    for (bytes, text) in answers {
+        assert_eq!(rt; answer(rt.alloc(), bytes)?.as_str(), text);
+    }
     Ok(())
 }

@@ -37,37 +37,30 @@ fn the_checksum_is_read_in_the_order_of_the_image(rt: HostRuntime) -> Result<(),
 }
 
 #[test]
-fn an_empty_name_is_refused(rt: HostRuntime) -> Result<(), Fail> {
-    let text = answer(rt.alloc(), b"\0\0\0\x69\xc4\xd4\xa6")?;
-    assert_eq!(rt; text.as_str(), "invalid data: debug link target is empty");
-    Ok(())
-}
-
-#[test]
-fn a_name_without_its_zero_is_refused(rt: HostRuntime) -> Result<(), Fail> {
+fn the_first_check_that_fails_is_told(rt: HostRuntime) -> Result<(), Fail> {
     let unended = "invalid data: failed to read debug link file name";
-    assert_eq!(rt; answer(rt.alloc(), b"program")?.as_str(), unended);
-    assert_eq!(rt; answer(rt.alloc(), b"")?.as_str(), unended);
-    assert_eq!(rt; answer(rt.alloc(), b"\xff")?.as_str(), unended);
-    Ok(())
-}
-
-#[test]
-fn a_name_that_is_not_text_is_refused(rt: HostRuntime) -> Result<(), Fail> {
-    let text = answer(rt.alloc(), b"\xff\0\0\0\0\0\0\0")?;
-    assert_eq!(rt; text.as_str(), "invalid data: link target is not text");
-    Ok(())
-}
-
-#[test]
-fn a_checksum_that_is_cut_off_is_refused(rt: HostRuntime) -> Result<(), Fail> {
     let padding = "invalid data: debug link section contains insufficient data: checksum not found";
     let checksum = "invalid data: failed to read debug link checksum";
-    assert_eq!(rt; answer(rt.alloc(), b"a\0\0")?.as_str(), padding);
-    assert_eq!(rt; answer(rt.alloc(), b"a\0\0\0")?.as_str(), checksum);
-    assert_eq!(rt;
-        answer(rt.alloc(), b"a\0\0\0\x01\x02\x03")?.as_str(),
-        checksum
-    );
+    let answers: [(&[u8], &str); 8] = [
+        // an empty name, one without its zero, and one that is not text
+        (
+            b"\0\0\0\x69\xc4\xd4\xa6",
+            "invalid data: debug link target is empty",
+        ),
+        (b"program", unended),
+        (b"", unended),
+        (b"\xff", unended),
+        (
+            b"\xff\0\0\0\0\0\0\0",
+            "invalid data: link target is not text",
+        ),
+        // a checksum that is cut off
+        (b"a\0\0", padding),
+        (b"a\0\0\0", checksum),
+        (b"a\0\0\0\x01\x02\x03", checksum),
+    ];
+    for (bytes, text) in answers {
+        assert_eq!(rt; answer(rt.alloc(), bytes)?.as_str(), text);
+    }
     Ok(())
 }

@@ -18,62 +18,60 @@ fn answer(alloc: Global, bytes: &[u8]) -> Result<String, AllocError> {
 }
 
 #[test]
-fn a_file_names_its_supplementary_file(rt: HostRuntime) -> Result<(), Fail> {
-    let text = answer(rt.alloc(), b"\x05\0\0sup.debug\0\x02\xab\xcd")?;
-    assert_eq!(rt; text.as_str(), "5 sup.debug 2");
-    Ok(())
-}
-
-#[test]
-fn a_supplementary_file_has_no_path(rt: HostRuntime) -> Result<(), Fail> {
-    let text = answer(rt.alloc(), b"\x05\0\x01\0\x02\xab\xcd")?;
-    assert_eq!(rt; text.as_str(), "5 no path 2");
-    Ok(())
-}
-
-#[test]
-fn another_flag_is_refused(rt: HostRuntime) -> Result<(), Fail> {
-    let text = answer(rt.alloc(), b"\x05\0\x02")?;
-    assert_eq!(rt;
-        text.as_str(),
-        "invalid data: invalid is_supplementary field value"
-    );
-    Ok(())
-}
-
-#[test]
-fn a_checksum_longer_than_the_section_is_refused(rt: HostRuntime) -> Result<(), Fail> {
-    let text = answer(rt.alloc(), b"\x05\0\0x\0\x2001234567890123456789")?;
-    assert_eq!(rt;
-        text.as_str(),
-        "invalid data: failed to read .debug_sup checksum"
-    );
+fn the_supplementary_file_has_a_path_only_where_it_is_another_one(
+    rt: HostRuntime,
+) -> Result<(), Fail> {
+    let answers: [(&[u8], &str); 2] = [
+        (b"\x05\0\0sup.debug\0\x02\xab\xcd", "5 sup.debug 2"),
+        (b"\x05\0\x01\0\x02\xab\xcd", "5 no path 2"),
+    ];
+    for (bytes, text) in answers {
+        assert_eq!(rt; answer(rt.alloc(), bytes)?.as_str(), text);
+    }
     Ok(())
 }
 
 #[test]
 fn each_cut_says_what_is_missing(rt: HostRuntime) -> Result<(), Fail> {
-    let alloc = rt.alloc();
-    let version = "invalid data: failed to read .debug_sup version";
-    let flag = "invalid data: failed to read .debug_sup is_supplementary";
-    let file = "invalid data: failed to read .debug_sup file field";
     let size = "invalid data: failed to read .debug_sup sup_checksum_len";
-    assert_eq!(rt; answer(alloc, b"\x05")?.as_str(), version);
-    assert_eq!(rt; answer(alloc, b"\x05\0")?.as_str(), flag);
-    assert_eq!(rt; answer(alloc, b"\x05\0\0x")?.as_str(), file);
-    assert_eq!(rt; answer(alloc, b"\x05\0\0x\0")?.as_str(), size);
-    assert_eq!(rt; answer(alloc, b"\x05\0\0x\0\x80")?.as_str(), size);
+    let sum = "invalid data: failed to read .debug_sup checksum";
+    let answers: [(&[u8], &str); 6] = [
+        (b"\x05", "invalid data: failed to read .debug_sup version"),
+        (
+            b"\x05\0",
+            "invalid data: failed to read .debug_sup is_supplementary",
+        ),
+        (
+            b"\x05\0\0x",
+            "invalid data: failed to read .debug_sup file field",
+        ),
+        (b"\x05\0\0x\0", size),
+        (b"\x05\0\0x\0\x80", size),
+        (b"\x05\0\0x\0\x2001234567890123456789", sum),
+    ];
+    for (bytes, text) in answers {
+        assert_eq!(rt; answer(rt.alloc(), bytes)?.as_str(), text);
+    }
     Ok(())
 }
 
 #[test]
 fn a_path_has_to_go_with_the_flag(rt: HostRuntime) -> Result<(), Fail> {
-    let alloc = rt.alloc();
-    let empty = "invalid data: debug sup target is empty";
     let named = "invalid data: debug sup target is not empty in a supplementary file";
-    let no_text = "invalid data: link target is not text";
-    assert_eq!(rt; answer(alloc, b"\x05\0\0\0\0")?.as_str(), empty);
-    assert_eq!(rt; answer(alloc, b"\x05\0\x01x\0\0")?.as_str(), named);
-    assert_eq!(rt; answer(alloc, b"\x05\0\x01\xff\0\0")?.as_str(), no_text);
+    let answers: [(&[u8], &str); 4] = [
+        (
+            b"\x05\0\x02",
+            "invalid data: invalid is_supplementary field value",
+        ),
+        (b"\x05\0\0\0\0", "invalid data: debug sup target is empty"),
+        (b"\x05\0\x01x\0\0", named),
+        (
+            b"\x05\0\x01\xff\0\0",
+            "invalid data: link target is not text",
+        ),
+    ];
+    for (bytes, text) in answers {
+        assert_eq!(rt; answer(rt.alloc(), bytes)?.as_str(), text);
+    }
     Ok(())
 }

@@ -1,7 +1,9 @@
 //! The links of whole images.
 use blz_elf::ElfParser;
 use blz_error::ErrorKind;
-use blz_images::{ByteOrder, Image, Section, debug_altlink, debug_link, debug_sup};
+use blz_images::{
+    ByteOrder, Image, debug_altlink, debug_link, debug_sup, with_compressed_section, with_section,
+};
 use blz_links::{read_debug_altlink, read_debug_link, read_debug_sup};
 use std::test::Fail;
 
@@ -28,9 +30,7 @@ fn the_link_of_an_image_is_read_in_its_order(rt: HostRuntime) -> Result<(), Fail
 fn an_altlink_is_read(rt: HostRuntime) -> Result<(), Fail> {
     let alloc = rt.alloc();
     let link = debug_altlink(alloc, "/sup.debug", b"build id")?;
-    let image = Image::elf64(alloc)
-        .section(".gnu_debugaltlink", 1, link.as_slice())?
-        .bytes()?;
+    let image = with_section(alloc, ".gnu_debugaltlink", &link)?;
     let mut parser = ElfParser::from_mem(alloc, image.as_slice(), None);
     match read_debug_altlink(&mut parser) {
         Ok(Some(link)) => {
@@ -46,9 +46,7 @@ fn an_altlink_is_read(rt: HostRuntime) -> Result<(), Fail> {
 fn a_supplementary_file_says_that_it_is_one(rt: HostRuntime) -> Result<(), Fail> {
     let alloc = rt.alloc();
     let sup = debug_sup(alloc, ByteOrder::Little, "", b"sum")?;
-    let image = Image::elf64(alloc)
-        .section(".debug_sup", 1, sup.as_slice())?
-        .bytes()?;
+    let image = with_section(alloc, ".debug_sup", &sup)?;
     let mut parser = ElfParser::from_mem(alloc, image.as_slice(), None);
     match read_debug_sup(&mut parser) {
         Ok(Some(sup)) => {
@@ -75,8 +73,7 @@ fn an_image_that_is_broken_or_has_no_section_has_no_link(rt: HostRuntime) -> Res
 #[test]
 fn a_compressed_link_is_unsupported(rt: HostRuntime) -> Result<(), Fail> {
     let alloc = rt.alloc();
-    let section = Section::new(".gnu_debuglink", 1, &[0; 24]).with_flags(0x800);
-    let image = Image::elf64(alloc).add_section(section)?.bytes()?;
+    let image = with_compressed_section(alloc, ".gnu_debuglink")?;
     let mut parser = ElfParser::from_mem(alloc, image.as_slice(), None);
     match read_debug_link(&mut parser) {
         Err(e) => assert!(rt; e.kind() == ErrorKind::Unsupported),
