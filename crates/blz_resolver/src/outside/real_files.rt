@@ -122,8 +122,8 @@ impl<'r, R: rt::Files> Files for RealFiles<'r, R> {
         match fs::exists(self.rt, path) {
             Ok(found) => Ok(found),
             Err(error) => match error.kind() {
-                // below a file nothing can stand
-                io::ErrorKind::NotADirectory => Ok(false),
+                // below a file nothing can stand, nor where no file can have the name
+                io::ErrorKind::NotADirectory | io::ErrorKind::InvalidFilename => Ok(false),
                 kind => self.failure(kind),
             },
         }
