@@ -1,5 +1,5 @@
 -- The names of a table of symbols as they are kept, and an accepted order of them.
-use Rattle.std.specs.Prelude.{◌≡◌, ℕ, ◌<◌, ◌≤◌, ⊤, true, false, List, [], length, map, get_or, Some}
+use Rattle.std.specs.Prelude.{◌≡◌, ℕ, ◌<◌, ◌≤◌, ⊤, Bool, true, false, List, [], length, map, get_or, Some}
 use Rattle.std.specs.Ordering.{is_gt}
 use Rattle.blz_bytes.specs.declared.orders.NameSpan.{NameSpan}
 use Rattle.blz_bytes.specs.NameOrder.{text_in, name_cmp, TextBefore}
@@ -54,6 +54,12 @@ pub record SplitsNames (names : List Named) (places : List ℕ) (n : ℕ) (name 
   pub high : (k : ℕ) → n ≤ k → k < length places → is_gt (name_cmp name (named_at names places k).name) ≡ false
 
 -- ---- what a cache of names holds
+
+-- an order was asked for: the one that was handed in is kept, or was refused
+abbrev pub is_asked : NameOrder → Bool
+is_asked Unasked = false
+is_asked Refused = true
+is_asked (Accepted places) = true
 
 -- where an order is kept, it is an accepted one
 abbrev pub OrderFits : List Named → NameOrder → Type 0

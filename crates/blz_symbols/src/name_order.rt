@@ -1,10 +1,10 @@
 //! The names of a table of symbols, and an order of them.
-ghost use Rattle.std.specs.Prelude.{◌≡◌, ◌<◌, length, map, filter, IfOk, IfSome};
+ghost use Rattle.std.specs.Prelude.{◌≡◌, ◌<◌, true, length, map, filter, IfOk, IfSome};
 ghost use Rattle.std.specs.Option.{option_map};
 ghost use Rattle.std.specs.Ordering.{is_gt};
 ghost use Rattle.blz_bytes.specs.NameOrder.{name_cmp};
 ghost use Rattle.blz_model.specs.Part.{Gives};
-ghost use Rattle.blz_symbols.specs.NameOrders.{AreSorted, NamesFit, OrderFits, SplitsNames, listed_name, named_at, named_in, names_view, span_of};
+ghost use Rattle.blz_symbols.specs.NameOrders.{AreSorted, NamesFit, OrderFits, SplitsNames, is_asked, listed_name, named_at, named_in, names_view, span_of};
 ghost use Rattle.blz_symbols.specs.NameRule.{asked_names, is_called};
 ghost use Rattle.blz_symbols.specs.NameSteps.{named_view, passes};
 ghost use Rattle.blz_image.specs.Places.{SpanFits, span_in};
@@ -57,7 +57,8 @@ fn order_of<O: Orders>(
     strings: &[u8],
     listed: &[SymbolName],
 ) -> Result<NameOrder, AllocError>
-    ensures { IfOk result (OrderFits (named_in strings.now listed.now)) }
+    ensures fits { IfOk result (OrderFits (named_in strings.now listed.now)) }
+    ensures asked { IfOk result (λ o. is_asked o ≡ true) }
 {
     let spans = spans_of(alloc, listed)?;
     let mut places = first_places(alloc, spans.len())?;
@@ -187,6 +188,8 @@ impl KeptNames {
         ensures strings { self.new.strings ≡ self.old.strings }
         ensures listed { self.new.listed ≡ self.old.listed }
         ensures fits { NamesFit image.now self.new }
+        ensures before { is_asked self.old.order ≡ true → self.new.order ≡ self.old.order }
+        ensures asked { IfOk result (λ _. is_asked self.new.order ≡ true) }
     {
         if let NameOrder::Unasked = self.order {
             self.order = order_of(alloc, orders, self.strings_in(image), &self.listed)?;

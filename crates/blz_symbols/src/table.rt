@@ -90,6 +90,7 @@ impl Table {
         ensures symbols { self.new.symbols ≡ self.old.symbols }
         ensures strings { self.new.strings ≡ self.old.strings }
         ensures fits { TableFits image.now self.new }
+        ensures asked { self.new.asked ≡ self.old.asked }
         ensures before { is_some self.old.sorted ≡ true → is_some self.new.sorted ≡ true }
         ensures sorted { IfOk result (λ _. is_some self.new.sorted ≡ true) }
     {
@@ -110,7 +111,9 @@ impl Table {
         ensures symbols { self.new.symbols ≡ self.old.symbols }
         ensures strings { self.new.strings ≡ self.old.strings }
         ensures fits { TableFits image.now self.new }
+        ensures asked { self.new.asked ≡ true }
         ensures before { is_some self.old.sorted ≡ true → is_some self.new.sorted ≡ true }
+        ensures sorted { IfOk result (λ _. self.old.asked ≡ true → is_some self.new.sorted ≡ true) }
     {
         if self.asked {
             return self.sort(alloc, orders, image);
