@@ -1,5 +1,5 @@
 -- What a loop of puts has written.
-use Rattle.std.proofs.Common.{◌≡◌, ℕ, ◌-◌, ◌<◌, ◌≤◌, [], ◌∷◌, ◌++◌, length, take, drop, Option, Some, None, refl, sym, ◌∙◌, ap, subst, arith, take-append-drop, length-drop}
+use Rattle.std.proofs.Common.{◌≡◌, ℕ, ◌-◌, ◌<◌, ◌≤◌, [], ◌∷◌, ◌++◌, length, take, drop, Option, Some, None, Result, Ok, Err, OnErr, refl, sym, ◌∙◌, ap, subst, arith, take-append-drop, length-append, length-drop}
 use Rattle.std.proofs.lemmas.List.{append-nil, append_assoc, take_all}
 use Rattle.std.specs.Io.KnownBytes.{Appends}
 use Rattle.blz_error.specs.Texts.{Bytes}
@@ -39,3 +39,32 @@ ended a b text (x ∷ rest) w none = absurd (omega arith)
 
 pub stopped : (a b : Option Bytes) (text rest : Bytes) → Written a b text rest → 0 < length rest → AppendsFront a b text
 stopped a b text rest w some = record { front = w.front; back = rest; parts = w.parts; is_proper = some; appended = w.appended }
+
+-- a front behind what was written before is a front of the whole
+pub front_behind : {T E : Type 0} (r : Result T E) (a b c : Option Bytes) (xs ys whole : Bytes) → Appends a b xs → OnErr r (AppendsFront b c ys) → xs ++ ys ≡ whole
+    → OnErr r (AppendsFront a c whole)
+front_behind (Ok x) a b c xs ys whole written f is = tt
+front_behind (Err e) a b c xs ys whole written f is = record {
+  front = xs ++ f.front;
+  back = f.back;
+  parts = sym is ∙ ap (λ l. xs ++ l) f.parts ∙ sym (append_assoc xs f.front f.back);
+  is_proper = f.is_proper;
+  appended = appends_more a b c xs f.front written f.appended;
+}
+
+-- a front of the first part is one of the whole
+pub front_before : {T E : Type 0} (r : Result T E) (a b : Option Bytes) (xs ys whole : Bytes) → AppendsFront a b xs → xs ++ ys ≡ whole → OnErr r (AppendsFront a b whole)
+front_before (Ok x) a b xs ys whole f is = tt
+front_before (Err e) a b xs ys whole f is = record {
+  front = f.front;
+  back = f.back ++ ys;
+  parts = sym is ∙ ap (λ l. l ++ ys) f.parts ∙ append_assoc f.front f.back ys;
+  is_proper = omega (arith, f.is_proper, length-append f.back ys);
+  appended = f.appended;
+}
+
+pub append_three : (a b c d : Bytes) → a ++ (b ++ c ++ d) ≡ a ++ b ++ c ++ d
+append_three a b c d = sym (append_assoc a (b ++ c) d) ∙ ap (λ l. l ++ d) (sym (append_assoc a b c))
+
+pub append_five : (a b c d e f : Bytes) → a ++ (b ++ c ++ d ++ e ++ f) ≡ a ++ b ++ c ++ d ++ e ++ f
+append_five a b c d e f = append_three a (b ++ c ++ d) e f ∙ ap (λ l. l ++ e ++ f) (append_three a b c d)

@@ -1,9 +1,11 @@
 //! How a run ended.
-ghost use Rattle.std.specs.Prelude.{◌≡◌, OnOk};
+ghost use Rattle.std.specs.Prelude.{◌≡◌, ◌++◌, codes, decimal, OnErr, OnOk};
 ghost use Rattle.std.specs.Io.KnownBytes.{Appends};
 ghost use Rattle.blz_resolver.specs.Counts.{HasCause};
 ghost use Rattle.blz_program.specs.Outcomes.{bad_line, fault_text, line_for, refusal_of, said_by, status_of, usage_line};
+ghost use Rattle.blz_program.specs.PrintedText.{line_feed};
 ghost use Rattle.blz_program.specs.Programs.{texts_of};
+ghost use Rattle.blz_program.specs.Runs.{AppendsFront};
 
 use crate::ending::write_all;
 use crate::program::Program;
@@ -66,6 +68,7 @@ impl Outcome {
     /// Writes the line that says how the run ended, without memory; nothing where it went well.
     pub fn tell<E: Sink>(self, program: &Program, err: &mut E) -> Result<(), SinkFault>
         ensures ok { OnOk result (Appends (E.taken err.old) (E.taken err.new) (line_for (texts_of program.now) self)) }
+        ensures err { OnErr result (AppendsFront (E.taken err.old) (E.taken err.new) (line_for (texts_of program.now) self)) }
         ensures cause { HasCause (E.faults err.old) (E.faults err.new) result }
     {
         match self {
@@ -82,21 +85,39 @@ impl Outcome {
 // A refusal of the program, without memory.
 fn write_refusal<E: Sink>(program: &Program, text: &str, err: &mut E) -> Result<(), SinkFault>
     ensures ok { OnOk result (Appends (E.taken err.old) (E.taken err.new) (said_by (texts_of program.now) text.now)) }
+    ensures err { OnErr result (AppendsFront (E.taken err.old) (E.taken err.new) (said_by (texts_of program.now) text.now)) }
     ensures cause { HasCause (E.faults err.old) (E.faults err.new) result }
 {
     write_all(err, program.name.as_bytes())?;
+    write_said(text, err)
+}
+
+// What is said behind a name or a number.
+fn write_said<E: Sink>(text: &str, err: &mut E) -> Result<(), SinkFault>
+    ensures ok { OnOk result (Appends (E.taken err.old) (E.taken err.new) (codes ": " ++ text.now ++ line_feed)) }
+    ensures err { OnErr result (AppendsFront (E.taken err.old) (E.taken err.new) (codes ": " ++ text.now ++ line_feed)) }
+    ensures cause { HasCause (E.faults err.old) (E.faults err.new) result }
+{
     write_all(err, b": ")?;
+    write_line(text, err)
+}
+
+fn write_line<E: Sink>(text: &str, err: &mut E) -> Result<(), SinkFault>
+    ensures ok { OnOk result (Appends (E.taken err.old) (E.taken err.new) (text.now ++ line_feed)) }
+    ensures err { OnErr result (AppendsFront (E.taken err.old) (E.taken err.new) (text.now ++ line_feed)) }
+    ensures cause { HasCause (E.faults err.old) (E.faults err.new) result }
+{
     write_all(err, text.as_bytes())?;
     write_all(err, b"\n")
 }
 
 fn write_usage<E: Sink>(program: &Program, err: &mut E) -> Result<(), SinkFault>
     ensures ok { OnOk result (Appends (E.taken err.old) (E.taken err.new) (usage_line (texts_of program.now))) }
+    ensures err { OnErr result (AppendsFront (E.taken err.old) (E.taken err.new) (usage_line (texts_of program.now))) }
     ensures cause { HasCause (E.faults err.old) (E.faults err.new) result }
 {
     write_all(err, b"usage: ")?;
-    write_all(err, program.usage.as_bytes())?;
-    write_all(err, b"\n")
+    write_line(program.usage, err)
 }
 
 fn write_bad_line<E: Sink>(
@@ -106,15 +127,31 @@ fn write_bad_line<E: Sink>(
     err: &mut E,
 ) -> Result<(), SinkFault>
     ensures ok { OnOk result (Appends (E.taken err.old) (E.taken err.new) (bad_line (texts_of program.now) line fault)) }
+    ensures err { OnErr result (AppendsFront (E.taken err.old) (E.taken err.new) (bad_line (texts_of program.now) line fault)) }
+    ensures cause { HasCause (E.faults err.old) (E.faults err.new) result }
+{
+    write_all(err, program.name.as_bytes())?;
+    write_place(line, fault_text(program, fault), err)
+}
+
+// Where it was, and what is said of that place.
+fn write_place<E: Sink>(line: u64, text: &str, err: &mut E) -> Result<(), SinkFault>
+    ensures ok { OnOk result (Appends (E.taken err.old) (E.taken err.new) (codes ": line " ++ decimal line ++ codes ": " ++ text.now ++ line_feed)) }
+    ensures err { OnErr result (AppendsFront (E.taken err.old) (E.taken err.new) (codes ": line " ++ decimal line ++ codes ": " ++ text.now ++ line_feed)) }
+    ensures cause { HasCause (E.faults err.old) (E.faults err.new) result }
+{
+    write_all(err, b": line ")?;
+    write_number(line, text, err)
+}
+
+fn write_number<E: Sink>(number: u64, text: &str, err: &mut E) -> Result<(), SinkFault>
+    ensures ok { OnOk result (Appends (E.taken err.old) (E.taken err.new) (decimal number ++ codes ": " ++ text.now ++ line_feed)) }
+    ensures err { OnErr result (AppendsFront (E.taken err.old) (E.taken err.new) (decimal number ++ codes ": " ++ text.now ++ line_feed)) }
     ensures cause { HasCause (E.faults err.old) (E.faults err.new) result }
 {
     let mut buffer = Buffer::new();
-    write_all(err, program.name.as_bytes())?;
-    write_all(err, b": line ")?;
-    write_all(err, buffer.format(line).as_bytes())?;
-    write_all(err, b": ")?;
-    write_all(err, fault_text(program, fault).as_bytes())?;
-    write_all(err, b"\n")
+    write_all(err, buffer.format(number).as_bytes())?;
+    write_said(text, err)
 }
 
 fn fault_text(program: &Program, fault: LineFault) -> &'static str
