@@ -87,6 +87,7 @@ pub fn sort_kept<O: Orders>(
     ensures kept { Kept (TableFits image.now.image) (table_view image.now.image) table.new (table_of kind image.now) }
     ensures filled { is_kept table.new ≡ is_kept table.old }
     ensures before { is_sorted table.old ≡ true → is_sorted table.new ≡ true }
+    ensures sorted { IfOk result (λ _. is_kept table.old ≡ true → is_sorted table.new ≡ true) }
 {
     if let Cache::Value(table) = table {
         table.sort(alloc, orders, image.bytes())?;
