@@ -1,5 +1,5 @@
 //! Units that are built, as places and numbers.
-ghost use Rattle.std.specs.Prelude.{◌≡◌, false, ◌≤◌, ◌<◌, ◌+◌, ◌^◌, length, IfOk, IfSome, Option};
+ghost use Rattle.std.specs.Prelude.{◌≡◌, false, ◌≤◌, ◌<◌, ◌+◌, ◌^◌, ◌&&◌, length, is_some, IfOk, IfSome, Option};
 ghost use Rattle.std.specs.Arc.{arc_value};
 ghost use Rattle.blz_model.specs.Part.{Gives, Exactly};
 ghost use Rattle.blz_info.specs.Marks.{or_invalid};
@@ -44,7 +44,8 @@ fn has_id(kind: UnitKind) -> bool
 /// Whether the functions of a unit may stand in a package.
 #[tactic(auto, unfolding(crate::specs::BuiltUnits::reading, crate::specs::BuiltUnits::pieces_of))]
 pub fn may_be_split(dwarf: &Dwarf<'_, '_>, header: &UnitHeader) -> bool
-    ensures { result ≡ false → reading (files_view dwarf.now) header.now ≡ built (files_view dwarf.now).main header.now }
+    ensures value { result ≡ has_id header.now.kind && is_some dwarf.now.package }
+    ensures whole { result ≡ false → reading (files_view dwarf.now) header.now ≡ built (files_view dwarf.now).main header.now }
 {
     match header.kind {
         UnitKind::Skeleton | UnitKind::SplitCompile => dwarf.package.is_some(),

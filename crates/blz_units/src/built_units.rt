@@ -49,6 +49,7 @@ impl SideUnits {
     pub fn new(alloc: Global) -> SideUnits
         ensures units { result.units.items ≡ [] }
         ensures shared { (s : FileSections) → AreShared s result.shared }
+        ensures count { result.shared.count ≡ 0 }
     {
         SideUnits {
             units: Vec::new(alloc),

@@ -61,7 +61,8 @@ fn read_header(alloc: Global, sections: &Sections<'_, '_>, at: u64, address_size
 impl SharedParts {
     /// Nothing; takes no memory.
     pub fn new(alloc: Global) -> SharedParts
-        ensures { (s : FileSections) → AreShared s result }
+        ensures shared { (s : FileSections) → AreShared s result }
+        ensures count { result.count ≡ 0 }
     {
         SharedParts {
             tables: BTreeMap::new(alloc),

@@ -1,5 +1,5 @@
 //! The headers of units in the order in which the units stand.
-ghost use Rattle.std.specs.Prelude.{◌≡◌, ◌<◌, ◌++◌, ◌∷◌, [], List, length, Option, IfSome, MatchResult, OnOk, Some};
+ghost use Rattle.std.specs.Prelude.{◌≡◌, ◌<◌, ◌++◌, ◌∷◌, [], List, length, Option, IfSome, MatchResult, Some};
 ghost use Rattle.std.specs.List.{slice_get};
 ghost use Rattle.blz_info.specs.declared.units.UnitHeader.{UnitHeader};
 ghost use Rattle.blz_functions.specs.References.{distance_in, unit_at};
@@ -88,7 +88,7 @@ impl UnitList {
     pub fn push_but_types(&mut self, header: UnitHeader) -> Result<(), AllocError>
         requires in_place { IsInPlace header }
         requires behind { EndBefore self.old header.start }
-        ensures { OnOk result (self.new ≡ self.old ++ no_types (header ∷ [])) }
+        ensures { MatchResult result (λ _. self.new ≡ self.old ++ no_types (header ∷ [])) (λ _. self.new ≡ self.old) }
     {
         if is_type(header.kind) {
             return Ok(());
