@@ -1,7 +1,6 @@
 -- The items and the owners of a list of both.
-use Rattle.std.proofs.Common.{◌≡◌, ℕ, zero, suc, ◌+◌, ◌*◌, ◌<◌, ◌≤◌, ◌-◌, subst, append_assoc, length-append, List, [], ◌∷◌, ◌++◌, length, refl, sym, ap, ◌∙◌, arith}
+use Rattle.std.proofs.Common.{◌≡◌, ℕ, zero, suc, ◌+◌, ◌*◌, ◌<◌, ◌≤◌, ◌-◌, subst, length-append, List, [], ◌∷◌, ◌++◌, length, refl, ap, ◌∙◌, arith}
 use Rattle.std.specs.List.{slice_get}
-use Rattle.std.proofs.lemmas.List.{append-nil}
 use Rattle.blz_ranges.specs.Owned.{Owned, owned, items_of, owner_at, repeated, filled_up, own_all}
 
 pub items_owned : {A : Type 0} (items : List A) (owners : List ℕ) → length items ≡ length owners → items_of (owned items owners) ≡ items
@@ -55,17 +54,3 @@ length_repeated (suc count) n = ap suc (length_repeated count n)
 
 pub length_filled : (owners : List ℕ) (n count : ℕ) → length owners ≤ count → length (filled_up owners n count) ≡ count
 length_filled owners n count le = let a = length-append owners (repeated (count - length owners) n) in let b = length_repeated (count - length owners) n in omega arith
-
-one_repeated : (count n : ℕ) → repeated count n ++ n ∷ [] ≡ repeated (suc count) n
-one_repeated zero n = refl
-one_repeated (suc count) n = ap (λ (l : List ℕ). n ∷ l) (one_repeated count n)
-
--- one owner more, of those that are to be filled up
-pub filled_more : (owners start : List ℕ) (n count : ℕ) → owners ≡ filled_up start n (length owners) → length start ≤ length owners → owners ++ n ∷ [] ≡ filled_up start n (length (owners ++ n ∷ []))
-filled_more owners start n count e le =
-    let k = length-append owners (n ∷ []) in
-    let c : length (owners ++ n ∷ []) - length start ≡ suc (length owners - length start) = omega arith in
-    ap (λ (l : List ℕ). l ++ n ∷ []) e ∙ (append_assoc start (repeated (length owners - length start) n) (n ∷ []) ∙ (ap (λ (l : List ℕ). start ++ l) (one_repeated (length owners - length start) n) ∙ ap (λ (m : ℕ). start ++ repeated m n) (sym c)))
-
-pub filled_start : (owners : List ℕ) (n : ℕ) → owners ≡ filled_up owners n (length owners)
-filled_start owners n = let z : length owners - length owners ≡ 0 = omega arith in sym (ap (λ (k : ℕ). owners ++ repeated k n) z ∙ append-nil owners)

@@ -1,5 +1,5 @@
 //! The owners of items.
-ghost use Rattle.std.specs.Prelude.{◌≡◌, ◌≤◌, length, OnOk};
+ghost use Rattle.std.specs.Prelude.{◌≡◌, ◌≤◌, length, MatchResult};
 ghost use Rattle.blz_ranges.specs.Owned.{filled_up};
 
 use std::alloc::AllocError;
@@ -7,10 +7,7 @@ use std::alloc::AllocError;
 /// One owner for each new item.
 pub fn own(owners: &mut Vec<usize>, owner: usize, count: usize) -> Result<(), AllocError>
     requires { length owners.old.items ≤ count }
-    ensures { OnOk result (owners.new.items ≡ filled_up owners.old.items owner count) }
+    ensures { MatchResult result (λ _. owners.new.items ≡ filled_up owners.old.items owner count) (λ _. owners.new.items ≡ owners.old.items) }
 {
-    while owners.len() < count {
-        owners.push(owner)?;
-    }
-    Ok(())
+    owners.resize(count, owner)
 }
