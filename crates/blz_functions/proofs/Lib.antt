@@ -14,3 +14,5 @@ pub mod CallsTree
 pub mod CountedLevels
 pub mod CallEntry
 pub mod PassedEntries
+pub mod BestOwned
+pub mod SearchedRanges

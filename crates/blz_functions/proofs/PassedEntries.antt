@@ -1,7 +1,6 @@
 -- Entries that were passed over change neither the functions of a unit nor the calls of a function.
 use Rattle.std.proofs.Common.{◌≡◌, ℕ, zero, suc, ◌<◌, Bool, true, false, eqb, List, [], length, Option, Some, None, refl, sym, ap, ◌∙◌, inl, inr}
 use Rattle.std.specs.Prelude.{not, ◌&&◌}
-use Rattle.std.proofs.lemmas.Bool.{cases_Bool}
 use Rattle.blz_model.specs.Reads.{◌>>=◌}
 use Rattle.blz_info.specs.Passing.{is_leaf, past, past_one}
 use Rattle.blz_info.specs.Walks.{Walk, next_of, skipped_of}

@@ -8,3 +8,5 @@ pub mod References
 pub mod CallTree
 pub mod CallWalk
 pub mod FunctionRanges
+pub mod BestOwned
+pub mod SearchedFunctions

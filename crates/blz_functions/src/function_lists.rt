@@ -1,13 +1,15 @@
 //! The functions among the entries of a unit.
-ghost use Rattle.std.specs.Prelude.{◌≡◌, [], ◌≤◌, map, IfOk};
+ghost use Rattle.std.specs.Prelude.{◌≡◌, [], ◌≤◌, map, IfOk, OnOk};
+ghost use Rattle.std.specs.BTreeMap.{BTreeMap};
 ghost use Rattle.blz_model.specs.Part.{Gives};
 ghost use Rattle.blz_info.specs.Marks.{or_invalid};
 ghost use Rattle.blz_functions.specs.Describing.{specs_of};
-ghost use Rattle.blz_functions.specs.FunctionList.{is_function_tag, function_by, lists_added, function_added, no_lists, unit_lists, entry_met};
+ghost use Rattle.blz_functions.specs.FunctionList.{Lists, is_function_tag, function_by, lists_added, function_added, no_lists, entry_met};
 ghost use Rattle.blz_ranges.specs.Keyed.{IsAccepted, begin_key};
 ghost use Rattle.blz_functions.specs.Leaves.{source_in};
 ghost use Rattle.blz_functions.specs.Opened.{open_view, CanBeOpened};
 ghost use Rattle.blz_ranges.specs.Owned.{items_of};
+ghost use Rattle.blz_functions.specs.SearchedFunctions.{AreSearched, GivesAs, IsMet, KeepsList, list_kept, with_function, functions_asked, asked_of};
 
 use crate::description::Description;
 use crate::functions::{Function, Functions};
@@ -19,9 +21,11 @@ use blz_entry::{Entries, Entry, Passing, Span};
 use blz_error::Result;
 use blz_ranges::own;
 use std::alloc::{AllocError, Global};
+use std::collections::BTreeMap;
 use std::marker::Model;
 
-/// Functions, and their ranges with the number of the function of each.
+/// Functions, and their ranges with the number of the function of each. A list of ranges that several functions name is
+/// read once, and its ranges stand here for the first of them alone, which is the one that each address of them has.
 #[derive(Drop)]
 pub struct FunctionLists {
     functions: Vec<Function>,
@@ -58,6 +62,30 @@ fn function_by(place: usize, description: &Description) -> Function
     }
 }
 
+/// Whether a list of ranges tells one, where there is a list and it was read.
+fn kept_list(lists: &BTreeMap<u64, bool>, offset: Option<u64>) -> Option<bool>
+    ensures { result ≡ list_kept lists.now offset }
+{
+    match offset {
+        Some(offset) => lists.get(&offset).copied(),
+        None => None,
+    }
+}
+
+/// Keeps whether a list of ranges tells one, where there is a list.
+fn keep_list(
+    lists: &mut BTreeMap<u64, bool>,
+    offset: Option<u64>,
+    some: bool,
+) -> std::result::Result<(), AllocError>
+    ensures { OnOk result (KeepsList lists.old lists.new offset some) }
+{
+    if let Some(offset) = offset {
+        lists.insert(offset, some)?;
+    }
+    Ok(())
+}
+
 impl FunctionLists {
     fn new(alloc: Global) -> FunctionLists
         ensures { result ≡ no_lists }
@@ -69,14 +97,36 @@ impl FunctionLists {
         }
     }
 
-    /// The lists with one more function, where it has a range.
-    fn with(
+    /// The lists with one more function, whose list of ranges was read before and tells one.
+    fn with_known(
+        self,
+        place: usize,
+        description: &Description,
+    ) -> std::result::Result<FunctionLists, AllocError>
+        ensures { IfOk result (λ l. l ≡ with_function self (function_by place description.now)) }
+    {
+        let FunctionLists {
+            mut functions,
+            spans,
+            owners,
+        } = self;
+        functions.push(function_by(place, description))?;
+        Ok(FunctionLists {
+            functions,
+            spans,
+            owners,
+        })
+    }
+
+    /// The lists with one more function, where it has a range; its ranges are read.
+    fn with_new(
         self,
         unit: &OpenUnit<'_, '_>,
+        lists: &mut BTreeMap<u64, bool>,
         place: usize,
         description: &Description,
     ) -> Result<FunctionLists>
-        ensures { Gives (λ l. l) result (or_invalid (lists_added (open_view unit.now) self place description.now)) }
+        ensures { (all : Lists) → AreSearched (open_view unit.now) self lists.old all → GivesAs (λ l m. AreSearched (open_view unit.now) l lists.new m) result (lists_added (open_view unit.now) all place description.now) }
     {
         let FunctionLists {
             mut functions,
@@ -84,6 +134,7 @@ impl FunctionLists {
             mut owners,
         } = self;
         let some = unit.append_ranges(&description.ranges, &mut spans)?;
+        keep_list(lists, description.ranges.ranges_offset, some)?;
         if !some {
             return Ok(FunctionLists {
                 functions,
@@ -100,35 +151,53 @@ impl FunctionLists {
         })
     }
 
+    /// The lists with one more function, where it has a range.
+    fn with(
+        self,
+        unit: &OpenUnit<'_, '_>,
+        lists: &mut BTreeMap<u64, bool>,
+        place: usize,
+        description: &Description,
+    ) -> Result<FunctionLists>
+        ensures { (all : Lists) → AreSearched (open_view unit.now) self lists.old all → GivesAs (λ l m. AreSearched (open_view unit.now) l lists.new m) result (lists_added (open_view unit.now) all place description.now) }
+    {
+        match kept_list(lists, description.ranges.ranges_offset) {
+            Some(true) => Ok(self.with_known(place, description)?),
+            Some(false) => Ok(self),
+            None => self.with_new(unit, lists, place, description),
+        }
+    }
+
     /// The lists with the function that an entry is, if it is one.
     #[inline(always)]
     fn with_described(
         self,
         unit: &OpenUnit<'_, '_>,
+        lists: &mut BTreeMap<u64, bool>,
         place: usize,
         description: &Option<Description>,
     ) -> Result<FunctionLists>
-        ensures { Gives (λ l. l) result (or_invalid (function_added (open_view unit.now) self place description.now)) }
+        ensures { (all : Lists) → AreSearched (open_view unit.now) self lists.old all → GivesAs (λ l m. AreSearched (open_view unit.now) l lists.new m) result (function_added (open_view unit.now) all place description.now) }
     {
         match description {
-            Some(description) => self.with(unit, place, description),
+            Some(description) => self.with(unit, lists, place, description),
             None => Ok(self),
         }
     }
 
     /// The lists with what an entry adds, which was met last; its attributes are read.
     #[inline(always)]
-    #[tactic(auto, unfolding(crate::specs::FunctionList::entry_met))]
     fn with_entry<F: Links>(
         self,
         unit: &OpenUnit<'_, '_>,
         links: &mut F,
+        lists: &mut BTreeMap<u64, bool>,
         entries: &mut Entries<'_, '_>,
         entry: &Entry,
     ) -> Result<FunctionLists>
         requires source { entries.old.source ≡ source_in (open_view unit.now) }
         requires met { entries.old.pending ≡ specs_of (open_view unit.now) entry.now.code }
-        ensures value { Gives (λ l. (l, entries.new.place)) result (or_invalid (entry_met (F.refer (F.linkage links.old)) (open_view unit.now) self entry.now entries.old)) }
+        ensures value { (all : Lists) → AreSearched (open_view unit.now) self lists.old all → GivesAs (λ l p. IsMet (open_view unit.now) l lists.new p entries.new.place) result (entry_met (F.refer (F.linkage links.old)) (open_view unit.now) all entry.now entries.old) }
         ensures pending { IfOk result (λ _. entries.new.pending ≡ []) }
         ensures source { entries.new.source ≡ entries.old.source }
         ensures depth { entries.new.depth ≡ entries.old.depth }
@@ -137,7 +206,7 @@ impl FunctionLists {
     {
         let wanted = is_function_tag(entry.tag);
         match Description::of_entry(unit, links, entries, entry.code, wanted) {
-            Ok(description) => self.with_described(unit, entry.place, &description),
+            Ok(description) => self.with_described(unit, lists, entry.place, &description),
             Err(fault) => Err(fault),
         }
     }
@@ -150,19 +219,20 @@ impl FunctionLists {
         links: &mut F,
     ) -> Result<FunctionLists>
         requires { CanBeOpened unit.now }
-        ensures value { Gives (λ l. l) result (or_invalid (unit_lists (F.refer (F.linkage links.old)) (open_view unit.now))) }
+        ensures value { Gives asked_of result (or_invalid (functions_asked (F.refer (F.linkage links.old)) (open_view unit.now))) }
         ensures same { F.linkage links.new ≡ F.linkage links.old }
     {
         let mut entries = unit.entries(unit.header.entries)?;
-        let mut lists = FunctionLists::new(alloc);
+        let mut functions = FunctionLists::new(alloc);
+        let mut lists = BTreeMap::new(alloc);
         loop {
             entries.pass_over(Passing::Others, dwarf::DW_TAG_subprogram);
             let entry = match entries.next_entry() {
                 Ok(Some(entry)) => entry,
-                Ok(None) => return Ok(lists),
+                Ok(None) => return Ok(functions),
                 Err(fault) => return Err(fault),
             };
-            lists = match lists.with_entry(unit, links, &mut entries, &entry) {
+            functions = match functions.with_entry(unit, links, &mut lists, &mut entries, &entry) {
                 Ok(more) => more,
                 Err(fault) => return Err(fault),
             };

@@ -5,6 +5,7 @@ ghost use Rattle.blz_model.specs.Part.{Gives};
 ghost use Rattle.blz_model.specs.Kept.{Kept, is_kept};
 ghost use Rattle.blz_model.specs.declared.cache.Cache.TheVariants.{Empty};
 ghost use Rattle.blz_info.specs.Marks.{or_invalid};
+ghost use Rattle.blz_functions.specs.SearchedFunctions.{asked_of};
 ghost use Rattle.blz_units.specs.BuiltUnits.{built, built_view, has_id, root_in, BuiltFits, IsReadable};
 ghost use Rattle.blz_reader.specs.Growing.{LinesOrdered};
 ghost use Rattle.blz_units.specs.KeptParts.{lines_view, unit_root, BuiltFit, IsBuilt, IsFilled};
@@ -60,7 +61,7 @@ impl<'r, 's, 'b> Reader<'r, 's, 'b> {
         requires readable { IsReadable self.now.dwarf.now }
         requires fits { BuiltFit (reader_files self.now) (reader_table self.now) built.old }
         requires unit { BuiltFits (reader_files self.now) unit.now }
-        ensures value { Gives (λ l. l) result (or_invalid (lists_in (reader_files self.now) (reader_table self.now) (built_view (reader_files self.now) unit.now))) }
+        ensures value { Gives asked_of result (or_invalid (lists_in (reader_files self.now) (reader_table self.now) (built_view (reader_files self.now) unit.now))) }
         ensures fits { BuiltFit (reader_files self.now) (reader_table self.now) built.new }
     {
         let dwarf = lent(&*self.dwarf);
@@ -94,7 +95,7 @@ impl<'r, 's, 'b> Reader<'r, 's, 'b> {
     pub fn read_functions(&self, built: &mut BuiltUnits, number: usize) -> Result<FunctionLists>
         requires readable { IsReadable self.now.dwarf.now }
         requires fits { BuiltFit (reader_files self.now) (reader_table self.now) built.old }
-        ensures value { Gives (λ l. l) result (or_invalid (unit_functions (reader_files self.now) (reader_table self.now) number)) }
+        ensures value { Gives asked_of result (or_invalid (unit_functions (reader_files self.now) (reader_table self.now) number)) }
         ensures fits { BuiltFit (reader_files self.now) (reader_table self.now) built.new }
     {
         self.fill_unit(Side::File, built, number)?;

@@ -21,7 +21,7 @@ use Rattle.blz_units.specs.declared.caches.Caches.{Caches}
 use Rattle.blz_units.specs.declared.caches.UnitCaches.{UnitCaches}
 use Rattle.blz_units.specs.BuiltUnits.{Files, reading, sup_built, built_view, or_main, BuiltFits}
 use Rattle.blz_functions.specs.CallTree.{CallLists}
-use Rattle.blz_functions.specs.FunctionList.{Lists}
+use Rattle.blz_functions.specs.SearchedFunctions.{AskedFunctions, asked}
 use Rattle.blz_functions.specs.Leaves.{UnitParts}
 use Rattle.blz_functions.specs.FunctionRanges.{FunctionRanges, CallRanges}
 use Rattle.blz_units.specs.Sharing.{AreShared}
@@ -96,8 +96,9 @@ headers_of Sup t = t.sups
 
 -- ---- what was read of them
 
-abbrev pub lists_view : FunctionRanges → Lists
-lists_view x = record { functions = x.functions; ranges = x.ranges }
+-- the ranges that are kept are those that are searched
+abbrev pub lists_view : FunctionRanges → AskedFunctions
+lists_view x = asked x.functions x.ranges
 
 abbrev pub calls_view : CallRanges → CallLists
 calls_view x = record { calls = x.calls; ranges = x.ranges }

@@ -15,8 +15,8 @@ use Rattle.blz_units.specs.BuiltUnits.{Files, built, reading}
 use Rattle.blz_functions.specs.CallTree.{CallLists, unit_calls}
 use Rattle.blz_functions.specs.Chain.{chain}
 use Rattle.blz_functions.specs.FunctionList.{Lists, unit_lists}
+use Rattle.blz_functions.specs.SearchedFunctions.{AskedFunctions, functions_asked}
 use Rattle.blz_functions.specs.Leaves.{UnitParts}
-use Rattle.blz_ranges.specs.Ranges.{best_owner}
 use Rattle.blz_functions.specs.References.{refer_from}
 use Rattle.blz_units.specs.UnitTables.{UnitTable, reach_of, announcing, lines_in}
 
@@ -35,11 +35,18 @@ unfoldable pub unit_language : Files → UnitTable → ℕ → Option SrcLang
 unit_language f t k = main_unit f t k >>= λ u. Some (language_of u.root.language)
 
 -- the functions of a unit that is read
-abbrev pub lists_in : Files → UnitTable → UnitParts → Option Lists
-lists_in f t u = unit_lists (refer_from (reach_of f t) u) u
+abbrev pub lists_in : Files → UnitTable → UnitParts → Option AskedFunctions
+lists_in f t u = functions_asked (refer_from (reach_of f t) u) u
 
-unfoldable pub unit_functions : Files → UnitTable → ℕ → Option Lists
+unfoldable pub unit_functions : Files → UnitTable → ℕ → Option AskedFunctions
 unit_functions f t k = read_unit f t k >>= lists_in f t
+
+-- all their ranges, by which they are asked
+abbrev pub ranged_in : Files → UnitTable → UnitParts → Option Lists
+ranged_in f t u = unit_lists (refer_from (reach_of f t) u) u
+
+unfoldable pub ranged_functions : Files → UnitTable → ℕ → Option Lists
+ranged_functions f t k = read_unit f t k >>= ranged_in f t
 
 -- the lines: none where the root tells no line program
 unfoldable pub unit_lines : Files → UnitTable → ℕ → Option (Option LineTable)
@@ -53,7 +60,7 @@ unfoldable pub place_calls : Files → UnitTable → ℕ → ℕ → Option Call
 place_calls f t k place = read_unit f t k >>= calls_in f t place
 
 -- the place of a function, by its number in a unit
-abbrev pub place_in : ℕ → Lists → Option ℕ
+abbrev pub place_in : ℕ → AskedFunctions → Option ℕ
 place_in n l = slice_get l.functions n >>= λ function. Some function.place
 
 unfoldable pub function_place : Files → UnitTable → ℕ → ℕ → Option ℕ
@@ -81,8 +88,8 @@ covering_calls f t addr k n = function_calls f t k n >>= chain_of addr
 -- ---- the function of an address
 
 -- the function of the best range of a unit that covers an address
-abbrev pub best_of : ℕ → Lists → Option (Option ℕ)
-best_of addr l = Some (best_owner l.ranges addr)
+abbrev pub best_of : ℕ → AskedFunctions → Option (Option ℕ)
+best_of addr l = Some (l.at addr)
 
 unfoldable pub best_function : Files → UnitTable → ℕ → ℕ → Option (Option ℕ)
 best_function f t addr k = unit_functions f t k >>= best_of addr
@@ -109,7 +116,7 @@ is_called texts name None = false
 is_called texts name (Some place) = bytes_eq (text_of texts place) name
 
 -- the first function of a unit that has a name
-abbrev pub first_called : Texts → List ℕ → Lists → Option ℕ
+abbrev pub first_called : Texts → List ℕ → AskedFunctions → Option ℕ
 first_called texts name l = position (λ (function : Function). is_called texts name function.name) l.functions
 
 abbrev pub with_called : ℕ → Option ℕ → List (ℕ × ℕ) → List (ℕ × ℕ)

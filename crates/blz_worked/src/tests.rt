@@ -11,6 +11,7 @@ mod range_lists;
 mod references;
 mod refusals;
 mod rows;
+mod shared_ranges;
 mod shown;
 mod supplementary;
 mod units;

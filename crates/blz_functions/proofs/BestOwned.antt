@@ -1,0 +1,166 @@
+-- Ranges that can be left out, since equal ones stand before them.
+use Rattle.std.proofs.Common.{◌≡◌, ℕ, suc, ◌+◌, true, false, ltb, List, [], ◌∷◌, ◌++◌, Option, Some, None, option_map, refl, sym, ap, ◌∙◌, arith, inl, inr}
+use Rattle.std.specs.List.{slice_get}
+use Rattle.std.proofs.lemmas.Bool.{cases_Bool, ltb-true, ltb-false, lt-ltb, le-ltb}
+use Rattle.blz_ranges.specs.declared.span.Span.{Span}
+use Rattle.blz_ranges.specs.declared.placed.Placed.{Placed}
+use Rattle.blz_ranges.specs.Best.{covers, better, best_by, place_of}
+use Rattle.blz_functions.specs.BestOwned.{better_owned, best_owned, AnswersAs, AreNeverBest}
+use Rattle.blz_ranges.specs.Owned.{Owned, items_of, owner_at, own_all}
+use Rattle.blz_ranges.specs.Ranges.{owner_of, best_owner}
+
+-- ---- the better of two
+
+better_none : (x : Option (Owned Span)) → better_owned x None ≡ x
+better_none None = refl
+better_none (Some p) = refl
+
+three : (p q r : Owned Span) → better_owned (better_owned (Some p) (Some q)) (Some r) ≡ better_owned (Some p) (better_owned (Some q) (Some r))
+three p q r =
+    elim (cases_Bool (ltb p.item.begin q.item.begin)) [
+      | inl pq ↦ elim (cases_Bool (ltb q.item.begin r.item.begin)) [
+        | inl qr ↦ rw (pq, qr, lt-ltb p.item.begin r.item.begin (let a = ltb-true p.item.begin q.item.begin pq in let b = ltb-true q.item.begin r.item.begin qr in omega arith)) refl
+        | inr rq ↦ rw (pq, rq) (rw pq refl)
+      ]
+      | inr qp ↦ elim (cases_Bool (ltb q.item.begin r.item.begin)) [
+        | inl qr ↦ rw (qp, qr) refl
+        | inr rq ↦ rw (qp, rq, le-ltb p.item.begin r.item.begin (let a = ltb-false p.item.begin q.item.begin qp in let b = ltb-false q.item.begin r.item.begin rq in omega arith)) (rw qp refl)
+      ]
+    ]
+
+better_better : (x y z : Option (Owned Span)) → better_owned (better_owned x y) z ≡ better_owned x (better_owned y z)
+better_better None y z = refl
+better_better (Some p) None z = refl
+better_better (Some p) (Some q) None = better_none (better_owned (Some p) (Some q))
+better_better (Some p) (Some q) (Some r) = three p q r
+
+better_same : (p q : Owned Span) → p.item ≡ q.item → better_owned (Some p) (Some q) ≡ Some p
+better_same p q e = rw (le-ltb p.item.begin q.item.begin (let b : p.item.begin ≡ q.item.begin = ap (λ (s : Span). s.begin) e in omega arith)) refl
+
+-- what is no better than one stays so beside one more
+still_better : (x y z : Option (Owned Span)) → better_owned x z ≡ x → better_owned (better_owned x y) z ≡ better_owned x y
+still_better x None z h = rw (better_none x) h
+still_better None (Some q) None h = refl
+still_better None (Some q) (Some r) h = absurd cc
+still_better (Some p) (Some q) None h = better_none (better_owned (Some p) (Some q))
+still_better (Some p) (Some q) (Some r) h =
+    elim (cases_Bool (ltb p.item.begin r.item.begin)) [
+      | inl pr ↦ let same : Some r ≡ Some p = rw pr at h in let e : r.item.begin ≡ p.item.begin = let f : r ≡ p = cc in ap (λ (o : Owned Span). o.item.begin) f in let lt = ltb-true p.item.begin r.item.begin pr in absurd (omega arith)
+      | inr rp ↦ elim (cases_Bool (ltb p.item.begin q.item.begin)) [
+        | inl pq ↦ rw (pq, le-ltb q.item.begin r.item.begin (let a = ltb-false p.item.begin r.item.begin rp in let b = ltb-true p.item.begin q.item.begin pq in omega arith)) refl
+        | inr qp ↦ rw (qp, rp) refl
+      ]
+    ]
+
+-- ---- the best of a list
+
+best_appended : (front back : List (Owned Span)) (addr : ℕ) → best_owned (front ++ back) addr ≡ better_owned (best_owned front addr) (best_owned back addr)
+unfolding best_owned
+best_appended [] back addr = refl
+best_appended (o ∷ front) back addr =
+    elim (cases_Bool (covers o.item addr)) [
+      | inl t ↦ rw (t, best_appended front back addr) (sym (better_better (Some o) (best_owned front addr) (best_owned back addr)))
+      | inr f ↦ rw f (best_appended front back addr)
+    ]
+
+abbrev owned_by : ℕ → Owned Span → Owned Span
+owned_by n o = record { item = o.item; owner = n }
+
+owned_better : (n : ℕ) (s : Span) (m : ℕ) (x : Option (Owned Span)) → better_owned (Some (record { item = s; owner = n })) (option_map (owned_by n) x) ≡ option_map (owned_by n) (better_owned (Some (record { item = s; owner = m })) x)
+owned_better n s m None = refl
+owned_better n s m (Some q) =
+    elim (cases_Bool (ltb s.begin q.item.begin)) [
+      | inl lt ↦ rw lt refl
+      | inr ge ↦ rw ge refl
+    ]
+
+-- the best is the same range for each owner
+best_of_all : (n m : ℕ) (spans : List Span) (addr : ℕ) → best_owned (own_all n spans) addr ≡ option_map (owned_by n) (best_owned (own_all m spans) addr)
+unfolding best_owned
+best_of_all n m [] addr = refl
+best_of_all n m (s ∷ rest) addr =
+    elim (cases_Bool (covers s addr)) [
+      | inl t ↦ rw (t, best_of_all n m rest addr) (owned_better n s m (best_owned (own_all m rest) addr))
+      | inr f ↦ rw f (best_of_all n m rest addr)
+    ]
+
+same_again : (n : ℕ) (x : Option (Owned Span)) → better_owned x (option_map (owned_by n) x) ≡ x
+same_again n None = refl
+same_again n (Some p) = better_same p (owned_by n p) refl
+
+-- ---- the owner of the best range
+
+-- a range at an index, and the same with its place
+record IsFoundAt (at : ℕ) (list : List (Owned Span)) (p : Placed) (o : Owned Span) : Type 0 where
+  pub index : ℕ
+  pub place_is : p.place ≡ at + index
+  pub is : slice_get list index ≡ Some o
+  pub span_is : p.span ≡ o.item
+
+abbrev IsFound : ℕ → List (Owned Span) → Option Placed → Option (Owned Span) → Type 0
+IsFound at list None None = Unit {0}
+IsFound at list None (Some o) = ⊥
+IsFound at list (Some p) None = ⊥
+IsFound at list (Some p) (Some o) = IsFoundAt at list p o
+
+found_behind : (at : ℕ) (x : Owned Span) (list : List (Owned Span)) (p : Option Placed) (o : Option (Owned Span)) → IsFound (at + 1) list p o → IsFound at (x ∷ list) p o
+found_behind at x list None None h = tt
+found_behind at x list None (Some o) h = h
+found_behind at x list (Some p) None h = h
+found_behind at x list (Some p) (Some o) h = record { index = suc h.index; place_is = omega (arith, h.place_is); is = h.is; span_is = h.span_is }
+
+found_first : (at : ℕ) (x : Owned Span) (list : List (Owned Span)) → IsFoundAt at (x ∷ list) (record { place = at; span = x.item }) x
+found_first at x list = record { index = 0; place_is = omega arith; is = refl; span_is = refl }
+
+found_better : (at : ℕ) (x : Owned Span) (list : List (Owned Span)) (p : Option Placed) (o : Option (Owned Span)) → IsFound (at + 1) list p o → IsFound at (x ∷ list) (better (record { place = at; span = x.item }) p) (better_owned (Some x) o)
+found_better at x list None None h = found_first at x list
+found_better at x list None (Some o) h = absurd h
+found_better at x list (Some p) None h = absurd h
+found_better at x list (Some p) (Some o) h =
+    let same : p.span.begin ≡ o.item.begin = ap (λ (s : Span). s.begin) h.span_is in
+    elim (cases_Bool (ltb x.item.begin o.item.begin)) [
+      | inl lt ↦ let lt2 : ltb x.item.begin p.span.begin ≡ true = rw same lt in rw (lt2, lt) (record { index = suc h.index; place_is = omega (arith, h.place_is); is = h.is; span_is = h.span_is })
+      | inr ge ↦ let ge2 : ltb x.item.begin p.span.begin ≡ false = rw same ge in rw (ge2, ge) (found_first at x list)
+    ]
+
+found : (at addr : ℕ) (list : List (Owned Span)) → IsFound at list (best_by (λ n s. covers s addr) at (items_of list)) (best_owned list addr)
+unfolding best_by best_owned
+found at addr [] = tt
+found at addr (x ∷ list) =
+    elim (cases_Bool (covers x.item addr)) [
+      | inl t ↦ rw t (found_better at x list (best_by (λ n s. covers s addr) (at + 1) (items_of list)) (best_owned list addr) (found (at + 1) addr list))
+      | inr f ↦ rw f (found_behind at x list (best_by (λ n s. covers s addr) (at + 1) (items_of list)) (best_owned list addr) (found (at + 1) addr list))
+    ]
+
+owner_found : (list : List (Owned Span)) (p : Option Placed) (o : Option (Owned Span)) → IsFound 0 list p o → owner_of list (place_of p) ≡ option_map (λ (x : Owned Span). x.owner) o
+owner_found list None None h = refl
+owner_found list None (Some o) h = absurd h
+owner_found list (Some p) None h = absurd h
+owner_found list (Some p) (Some o) h =
+    let e : p.place ≡ h.index = omega (arith, h.place_is) in
+    ap (λ (n : ℕ). owner_at list n) e ∙ ap (λ (x : Option (Owned Span)). option_map (λ (y : Owned Span). y.owner) x) h.is
+
+pub owner_of_best : (list : List (Owned Span)) (addr : ℕ) → best_owner list addr ≡ option_map (λ (o : Owned Span). o.owner) (best_owned list addr)
+owner_of_best list addr = owner_found list (best_by (λ n s. covers s addr) 0 (items_of list)) (best_owned list addr) (found 0 addr list)
+
+-- ---- lists that answer alike
+
+pub same_owners : (kept all : List (Owned Span)) → AnswersAs kept all → (addr : ℕ) → best_owner kept addr ≡ best_owner all addr
+same_owners kept all h addr = owner_of_best kept addr ∙ (ap (λ (o : Option (Owned Span)). option_map (λ (x : Owned Span). x.owner) o) (h addr) ∙ sym (owner_of_best all addr))
+
+pub answers_more : (kept all new : List (Owned Span)) → AnswersAs kept all → AnswersAs (kept ++ new) (all ++ new)
+answers_more kept all new h addr = best_appended kept new addr ∙ (ap (λ (o : Option (Owned Span)). better_owned o (best_owned new addr)) (h addr) ∙ sym (best_appended all new addr))
+
+-- ranges that are never the best can be left out
+pub answers_without : (kept all : List (Owned Span)) (spans : List Span) (owner : ℕ) → AnswersAs kept all → AreNeverBest spans kept → AnswersAs kept (all ++ own_all owner spans)
+answers_without kept all spans owner h never addr = sym (never addr owner) ∙ (ap (λ (o : Option (Owned Span)). better_owned o (best_owned (own_all owner spans) addr)) (h addr) ∙ sym (best_appended all (own_all owner spans) addr))
+
+pub never_best_more : (spans : List Span) (list new : List (Owned Span)) → AreNeverBest spans list → AreNeverBest spans (list ++ new)
+never_best_more spans list new h addr owner = rw (best_appended list new addr) (still_better (best_owned list addr) (best_owned new addr) (best_owned (own_all owner spans) addr) (h addr owner))
+
+-- equal ranges stand before them
+pub never_best_again : (spans : List Span) (list : List (Owned Span)) (n : ℕ) → AreNeverBest spans (list ++ own_all n spans)
+never_best_again spans list n addr owner =
+    let x = best_owned list addr in
+    let y = best_owned (own_all n spans) addr in
+    rw (best_appended list (own_all n spans) addr, best_of_all owner n spans addr) (better_better x y (option_map (owned_by owner) y) ∙ ap (λ (o : Option (Owned Span)). better_owned x o) (same_again owner y))
