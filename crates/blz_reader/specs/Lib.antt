@@ -3,6 +3,7 @@ pub mod SiteViews
 pub mod Growing
 pub mod Readers
 pub mod Following
+pub mod LongEntries
 pub mod Linking
 pub mod Putting
 pub mod ShownFunctions

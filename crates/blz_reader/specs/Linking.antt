@@ -2,6 +2,7 @@
 use Rattle.blz_reader.specs.declared.references.References.TheInside.{Inside}
 use Rattle.blz_units.specs.BuiltUnits.{files_view, IsReadable}
 use Rattle.blz_reader.specs.Linkage.{Linked}
+use Rattle.blz_reader.specs.LongEntries.{AreSeen}
 use Rattle.blz_units.specs.KeptParts.{BuiltFit}
 use Rattle.blz_functions.specs.Opened.{open_view, CanBeOpened}
 use Rattle.blz_units.specs.TableViews.{table_view}
@@ -9,8 +10,9 @@ use Rattle.blz_units.specs.TableViews.{table_view}
 abbrev pub linked_view : Inside → Linked
 linked_view r = record { files = files_view r.dwarf; table = table_view r.table.now; unit = open_view r.unit }
 
--- The units that are built are those of the files.
+-- The units that are built are those of the files, and what is kept of entries is what they give.
 pub record AreLinked (r : Inside) : Type 0 where
   pub readable : IsReadable r.dwarf
   pub opened : CanBeOpened r.unit
   pub fits : BuiltFit (files_view r.dwarf) (table_view r.table.now) r.built
+  pub seen : AreSeen (linked_view r) r.long

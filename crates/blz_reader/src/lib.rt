@@ -8,6 +8,7 @@ mod calls;
 mod fill;
 mod lent;
 mod list;
+mod long_entries;
 mod names;
 mod prepare;
 mod puts;

@@ -1,16 +1,18 @@
 //! References from the entries of a unit to entries of any unit.
-ghost use Rattle.std.specs.Prelude.{◌≡◌, ◌≤◌, ◌<◌, ◌+◌, ◌^◌, ◌-◌, Option, IfOk};
+ghost use Rattle.std.specs.Prelude.{◌≡◌, ◌≤◌, ◌<◌, ◌+◌, ◌^◌, ◌-◌, Option, Some, IfOk, IfSome};
 ghost use Rattle.std.specs.List.{slice_get};
 ghost use Rattle.blz_model.specs.Part.{Gives, Exactly};
 ghost use Rattle.blz_info.specs.Marks.{or_invalid};
 ghost use Rattle.blz_units.specs.BuiltUnits.{built_view, files_view, BuiltFits, IsReadable};
 ghost use Rattle.blz_reader.specs.Following.{target_in, target_of, seen, seen_from, numbered_seen, entry_seen, step_of, name_over, own_side};
+ghost use Rattle.blz_reader.specs.LongEntries.{IsSeen};
 ghost use Rattle.blz_units.specs.KeptParts.{caches_of, IsFilled, BuiltFit};
 ghost use Rattle.blz_functions.specs.Naming.{visited};
 ghost use Rattle.blz_functions.specs.Opened.{open_view, CanBeOpened};
 ghost use Rattle.blz_reader.specs.Readers.{reader_files, reader_table};
 ghost use Rattle.blz_units.specs.TableViews.{table_view};
 
+use crate::long_entries::{LongEntries, LongEntry, attribute_count};
 use crate::reader::Reader;
 use blz_entry::{AttrValue, StrPlace, invalid};
 use blz_error::Result;
@@ -19,12 +21,15 @@ use blz_units::built_unit::BuiltUnit;
 use blz_units::built_units::{BuiltUnits, Side, look};
 use blz_units::dwarf::Dwarf;
 use blz_units::unit_table::UnitTable;
-use std::alloc::Global;
+use std::alloc::{AllocError, Global};
 use std::marker::Model;
 use std::ops::Deref;
 
 /// How many entries a name is looked for over.
 const MOST_ENTRIES: usize = 16;
+
+/// What an entry gives is kept where it has more attributes than this, and else found again.
+const FEW_ATTRIBUTES: usize = 24;
 
 /// The unit that an entry stands in.
 #[derive(Clone, Copy)]
@@ -53,7 +58,7 @@ pub enum Followed {
     On(Reference),
 }
 
-/// The references of a unit, and the units that are built on the way.
+/// The references of a unit, the units that are built on the way, and what entries with very many attributes gave.
 #[derive(Drop)]
 pub struct References<'u> {
     alloc: Global,
@@ -61,6 +66,7 @@ pub struct References<'u> {
     table: &'u UnitTable,
     unit: OpenUnit<'u, 'u>,
     built: BuiltUnits,
+    long: LongEntries,
 }
 
 impl<'u> Model for References<'u> {
@@ -127,27 +133,36 @@ fn seen(unit: Standing, sup: bool, visited: Visited) -> Followed
     }
 }
 
-/// What the entry at a distance from the start of a unit gives.
-fn seen_from(standing: Standing, unit: &OpenUnit<'_, '_>, distance: u64) -> Result<Followed>
-    requires { CanBeOpened unit.now }
-    ensures { Exactly (λ f. f) result (or_invalid (seen_from standing distance (open_view unit.now))) }
-{
-    let visited = visit_at(unit, distance)?;
-    Ok(seen(standing, unit.sections.sup, visited))
+/// Whether the entry at a distance from the start of a unit has very many attributes.
+fn is_long(unit: &OpenUnit<'_, '_>, distance: u64) -> bool {
+    match unit.header.start.checked_add(distance as usize) {
+        Some(place) => attribute_count(unit, place) > FEW_ATTRIBUTES,
+        None => false,
+    }
 }
 
-/// What an entry of a unit that is kept gives.
+/// What the entry at a distance from the start of a unit gives, and whether it has very many attributes.
+fn seen_from(standing: Standing, unit: &OpenUnit<'_, '_>, distance: u64) -> Result<(Followed, bool)>
+    requires { CanBeOpened unit.now }
+    ensures { Exactly (λ f. f.0) result (or_invalid (seen_from standing distance (open_view unit.now))) }
+{
+    let visited = visit_at(unit, distance)?;
+    let followed = seen(standing, unit.sections.sup, visited);
+    Ok((followed, is_long(unit, distance)))
+}
+
+/// The same of an entry of a unit that is kept.
 fn seen_in(
     reader: &Reader<'_, '_, '_>,
     side: Side,
     built: &BuiltUnits,
     number: usize,
     distance: u64,
-) -> Result<Followed>
+) -> Result<(Followed, bool)>
     requires readable { IsReadable reader.now.dwarf.now }
     requires fits { BuiltFit (reader_files reader.now) (reader_table reader.now) built.now }
     requires filled { IsFilled (slice_get (caches_of side built.now) number) }
-    ensures { Exactly (λ f. f) result (or_invalid (numbered_seen (reader_files reader.now) (reader_table reader.now) side number distance)) }
+    ensures { Exactly (λ f. f.0) result (or_invalid (numbered_seen (reader_files reader.now) (reader_table reader.now) side number distance)) }
 {
     let standing = Standing::Numbered(side, number);
     match side {
@@ -181,10 +196,10 @@ fn filled_and_seen(
     table: &UnitTable,
     built: &mut BuiltUnits,
     place: (Side, usize, u64),
-) -> Result<Followed>
+) -> Result<(Followed, bool)>
     requires readable { IsReadable dwarf.now }
     requires fits { BuiltFit (files_view dwarf.now) (table_view table.now) built.old }
-    ensures value { Gives (λ f. f) result (or_invalid (numbered_seen (files_view dwarf.now) (table_view table.now) place.0 place.1 place.2)) }
+    ensures value { Gives (λ f. f.0) result (or_invalid (numbered_seen (files_view dwarf.now) (table_view table.now) place.0 place.1 place.2)) }
     ensures fits { BuiltFit (files_view dwarf.now) (table_view table.now) built.new }
 {
     let (side, number, distance) = place;
@@ -217,6 +232,7 @@ impl<'u> References<'u> {
             table,
             unit,
             built,
+            long: LongEntries::new(alloc),
         }
     }
 
@@ -259,9 +275,10 @@ impl<'u> References<'u> {
         }
     }
 
+    /// What an entry gives, and whether it has very many attributes.
     #[tactic(auto, unfolding(crate::specs::Following::entry_seen))]
-    fn entry_seen(&mut self, standing: Standing, distance: u64) -> Result<Followed>
-        ensures value { Gives (λ f. f) result (or_invalid (entry_seen self.old standing distance)) }
+    fn found(&mut self, standing: Standing, distance: u64) -> Result<(Followed, bool)>
+        ensures value { Gives (λ f. f.0) result (or_invalid (entry_seen self.old standing distance)) }
         ensures same { self.new ≡ self.old }
     {
         match standing {
@@ -272,6 +289,40 @@ impl<'u> References<'u> {
                 filled_and_seen(alloc, &self.dwarf, table, &mut self.built, place)
             },
         }
+    }
+
+    /// What is kept of an entry.
+    fn kept(&self, standing: Standing, distance: u64) -> Option<Followed>
+        ensures { IfSome result (λ f. entry_seen self.now standing distance ≡ Some f) }
+    {
+        self.long.find(standing, distance)
+    }
+
+    /// Keeps what an entry gives.
+    fn keep(&mut self, entry: LongEntry) -> std::result::Result<(), AllocError>
+        requires { IsSeen self.old entry }
+        ensures { self.new ≡ self.old }
+    {
+        self.long.keep(entry)
+    }
+
+    /// What an entry gives, found once where it has very many attributes.
+    fn entry_seen(&mut self, standing: Standing, distance: u64) -> Result<Followed>
+        ensures value { Gives (λ f. f) result (or_invalid (entry_seen self.old standing distance)) }
+        ensures same { self.new ≡ self.old }
+    {
+        if let Some(followed) = self.kept(standing, distance) {
+            return Ok(followed);
+        }
+        let (followed, long) = self.found(standing, distance)?;
+        if long {
+            self.keep(LongEntry {
+                standing,
+                distance,
+                followed,
+            })?;
+        }
+        Ok(followed)
     }
 
     #[tactic(auto, unfolding(crate::specs::Following::step_of))]
