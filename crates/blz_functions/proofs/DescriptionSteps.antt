@@ -1,20 +1,16 @@
 -- The steps of a loop over the attributes of an entry.
-use Rattle.std.proofs.Common.{◌≡◌, ℕ, Bool, true, false, cond, leb, eqb, inl, inr, ◌≤◌, List, [], ◌∷◌, length, Option, Some, None, refl, sym, ap, subst, ◌∙◌, arith}
-use Rattle.std.specs.Prelude.{◌&&◌, ◌||◌, ◌⊎◌}
+use Rattle.std.proofs.Common.{◌≡◌, ℕ, Bool, true, false, eqb, inl, inr, ◌≤◌, List, [], ◌∷◌, length, Option, Some, None, refl, sym, ap, subst, ◌∙◌, arith}
+use Rattle.std.specs.Prelude.{◌||◌, ◌⊎◌}
 use Rattle.blz_model.specs.Reads.{Read, ◌>>=◌}
 use Rattle.blz_info.specs.Attributes.{attribute, attributes}
 use Rattle.blz_entry.specs.Folds.{fold_maybe}
 use Rattle.blz_entry.specs.RangeLists.{range_step}
 use Rattle.blz_info.specs.Wanted.{Wanted, is_wanted, wanted_in, wanted_of}
 use Rattle.blz_entry.specs.declared.ranges.RangeAttributes.{RangeAttributes}
-use Rattle.blz_info.specs.Walks.{Source, Walk, walk_from, next_of}
-use Rattle.blz_error.specs.declared.kind.ErrorKind.TheVariants.{InvalidDwarf}
+use Rattle.blz_info.specs.Walks.{Source, Walk}
 use Rattle.blz_model.specs.LebNumbers.{uleb}
-use Rattle.blz_model.specs.Part.{Good, Broken}
 use Rattle.blz_info.proofs.Ahead.{Past, uleb_past}
 use Rattle.blz_entry.proofs.RootSteps.{apart}
-use Rattle.blz_info.proofs.WalkSteps.{walk_made}
-use Rattle.blz_functions.proofs.MetEntries.{cut_length, ended, next_is}
 use Rattle.std.proofs.lemmas.Bool.{cases_Bool, eqb-true}
 use Rattle.blz_info.specs.declared.abbreviations.AttrSpec.{AttrSpec}
 use Rattle.blz_info.specs.declared.text.StrPlace.{StrPlace}
@@ -24,7 +20,7 @@ use Rattle.blz_functions.specs.declared.description.Description.{Description}
 use Rattle.blz_functions.specs.declared.referred.Visited.TheVariants.{Named}
 use Rattle.blz_functions.specs.Describing.{Refer, tells_range, tells_site, with_call_site, description_step, described}
 use Rattle.blz_functions.specs.Leaves.{UnitParts, range_step_in, source_in}
-use Rattle.blz_functions.specs.Naming.{name_step, visited, visit_from, visit_end, linkage_of, name_behind, link_behind}
+use Rattle.blz_functions.specs.Naming.{name_step, visit_from, visit_end, linkage_of, name_behind, link_behind}
 
 -- what stands at a place as the value of an attribute
 abbrev pub value_at : UnitParts → AttrSpec → ℕ → Option (AttrValue × ℕ)
@@ -344,7 +340,7 @@ wanted_unread u src at d pending s h = unread_by (source_in u) d (wanted_at u pe
 pub read_none : (u : UnitParts) (w : Walk) → w.source ≡ source_in u → wanted_of w ≡ None → wanted_at u w.pending w.place ≡ None
 read_none u w s h = wanted_unread u w.source w.place w.depth w.pending s h
 
--- ---- a place past the entries of a unit
+-- ---- no number stands past the bytes
 
 none_over : (bytes : List ℕ) (at : ℕ) (o : Read ℕ) → length bytes ≤ at → Past bytes at o → o ≡ None
 none_over bytes at None le h = refl
@@ -352,17 +348,6 @@ none_over bytes at (Some r) le h = absurd (omega (arith, h.0, h.1))
 
 pub uleb_over : (bytes : List ℕ) (at : ℕ) → length bytes ≤ at → uleb bytes at ≡ None
 uleb_over bytes at le = none_over bytes at (uleb bytes at) le (uleb_past bytes at)
-
-pub visited_over : (u : UnitParts) (place : ℕ) (e w : Walk) → cond (leb u.header.entries place && leb place u.header.end) (Good (walk_from (source_in u) place)) (Broken InvalidDwarf) ≡ Good e → next_of e ≡ Some (None, w) → visited u place ≡ None
-unfolding visited
-visited_over u place e w made n =
-    let is : e ≡ walk_from (source_in u) place = walk_made (leb u.header.entries place && leb place u.header.end) (walk_from (source_in u) place) e made in
-    let over : u.header.end ≤ place = ended (source_in u) 0 place w (sym (next_is (source_in u) (walk_from (source_in u) place) refl refl) ∙ (ap next_of (sym is) ∙ n)) in
-    let none : uleb (source_in u).section.bytes place ≡ None = uleb_over (source_in u).section.bytes place (let k = cut_length u in omega arith) in
-    elim (cases_Bool (leb u.header.entries place && leb place u.header.end)) [
-      | inl t ↦ rw (t, none) refl
-      | inr f ↦ rw f refl
-    ]
 
 -- ---- an attribute changes one part of a description
 

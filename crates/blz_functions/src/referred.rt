@@ -119,22 +119,17 @@ fn visit_attributes(unit: &OpenUnit<'_, '_>, entries: &mut Entries<'_, '_>) -> R
 /// What the entry at a place of a unit tells of a name: its first linkage name, else its last name, else where its last
 /// reference leads. InvalidDwarf exactly where no entry of the unit stands there, or one of its attributes up to its
 /// linkage name has no value.
-#[tactic(auto, unfolding(crate::specs::Naming::visited, blz_info::specs::Walks::next_of, blz_info::specs::Walks::entry_from, blz_info::specs::Attributes::passed))]
+#[tactic(auto, unfolding(crate::specs::Naming::visited, blz_info::specs::Walks::opened))]
 pub fn visit(unit: &OpenUnit<'_, '_>, place: usize) -> Result<Visited>
     requires { CanBeOpened unit.now }
     ensures { Exactly (λ v. v) result (or_invalid (visited (open_view unit.now) place)) }
 {
-    let mut entries = unit.entries(place)?;
-    let entry = match entries.next_entry() {
-        Ok(Some(entry)) => entry,
-        Ok(None) => return Err(invalid("a reference leads past the entries of a unit")),
-        Err(fault) => return Err(fault),
-    };
-    if entry.code == 0 {
-        return Err(invalid("a reference leads to no entry"));
+    if place < unit.header.entries || place > unit.header.end {
+        return Err(invalid("a reference leads past the entries of a unit"));
     }
-    let Some(_) = unit.abbreviations.get(entry.code) else {
-        return Err(invalid("a reference leads to an entry that no abbreviation has"));
+    let Some(mut entries) = Entries::opened(&unit.sections, &unit.header, unit.abbreviations, place)
+    else {
+        return Err(invalid("a reference leads to no entry"));
     };
     visit_attributes(unit, &mut entries)
 }

@@ -91,6 +91,9 @@ impl LongEntries {
     pub fn find(&self, standing: Standing, distance: u64) -> Option<Followed>
         ensures { (l : Linked) → AreSeen l self.now → IfSome result (λ f. entry_seen l standing distance ≡ Some f) }
     {
+        if self.kept.is_empty() {
+            return None;
+        }
         match self.kept.get(&key_of(standing, distance)) {
             Some(entry) => entry.at(standing, distance),
             None => None,

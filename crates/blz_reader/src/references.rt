@@ -141,13 +141,21 @@ fn is_long(unit: &OpenUnit<'_, '_>, distance: u64) -> bool {
     }
 }
 
-/// What the entry at a distance from the start of a unit gives, and whether it has very many attributes.
-fn seen_from(standing: Standing, unit: &OpenUnit<'_, '_>, distance: u64) -> Result<(Followed, bool)>
+/// What the entry at a distance from the start of a unit gives.
+fn seen_from(standing: Standing, unit: &OpenUnit<'_, '_>, distance: u64) -> Result<Followed>
+    requires { CanBeOpened unit.now }
+    ensures { Exactly (λ f. f) result (or_invalid (seen_from standing distance (open_view unit.now))) }
+{
+    let visited = visit_at(unit, distance)?;
+    Ok(seen(standing, unit.sections.sup, visited))
+}
+
+/// The same, and whether the entry has very many attributes.
+fn seen_over(standing: Standing, unit: &OpenUnit<'_, '_>, distance: u64) -> Result<(Followed, bool)>
     requires { CanBeOpened unit.now }
     ensures { Exactly (λ f. f.0) result (or_invalid (seen_from standing distance (open_view unit.now))) }
 {
-    let visited = visit_at(unit, distance)?;
-    let followed = seen(standing, unit.sections.sup, visited);
+    let followed = seen_from(standing, unit, distance)?;
     Ok((followed, is_long(unit, distance)))
 }
 
@@ -174,7 +182,7 @@ fn seen_in(
                 &built.kept.units,
                 number,
             )?;
-            seen_from(standing, &unit, distance)
+            seen_over(standing, &unit, distance)
         },
         Side::Sup => {
             let unit = look(
@@ -184,7 +192,7 @@ fn seen_in(
                 &built.sups.units,
                 number,
             )?;
-            seen_from(standing, &unit, distance)
+            seen_over(standing, &unit, distance)
         },
     }
 }
@@ -282,7 +290,7 @@ impl<'u> References<'u> {
         ensures same { self.new ≡ self.old }
     {
         match standing {
-            Standing::Own => seen_from(standing, &self.unit, distance),
+            Standing::Own => seen_over(standing, &self.unit, distance),
             Standing::Numbered(side, number) => {
                 let (alloc, table) = (self.alloc, self.table);
                 let place = (side, number, distance);
@@ -306,8 +314,8 @@ impl<'u> References<'u> {
         self.long.keep(entry)
     }
 
-    /// What an entry gives, found once where it has very many attributes.
-    fn entry_seen(&mut self, standing: Standing, distance: u64) -> Result<Followed>
+    /// What an entry gives, which is kept where it has very many attributes.
+    fn found_once(&mut self, standing: Standing, distance: u64) -> Result<Followed>
         ensures value { Gives (λ f. f) result (or_invalid (entry_seen self.old standing distance)) }
         ensures same { self.new ≡ self.old }
     {
@@ -323,6 +331,23 @@ impl<'u> References<'u> {
             })?;
         }
         Ok(followed)
+    }
+
+    /// What an entry gives; most stand in the unit itself, and have few attributes.
+    #[tactic(auto, unfolding(crate::specs::Following::entry_seen))]
+    fn entry_seen(&mut self, standing: Standing, distance: u64) -> Result<Followed>
+        ensures value { Gives (λ f. f) result (or_invalid (entry_seen self.old standing distance)) }
+        ensures same { self.new ≡ self.old }
+    {
+        match standing {
+            Standing::Own => {
+                if is_long(&self.unit, distance) {
+                    return self.found_once(standing, distance);
+                }
+                seen_from(standing, &self.unit, distance)
+            },
+            Standing::Numbered(..) => self.found_once(standing, distance),
+        }
     }
 
     #[tactic(auto, unfolding(crate::specs::Following::step_of))]
