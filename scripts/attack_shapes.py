@@ -1,55 +1,8 @@
 """Shapes of images in which some work could be done for each pair of two parts of the file. Each is a function from a count
 to an Attack, whose image grows with the count; `scripts/attacks` writes them by name and size."""
 import struct
-from typing import NamedTuple
 
-from image_parts import *  # noqa: F403  the constants and the parts of an image
-
-
-class Attack(NamedTuple):
-    image: bytes
-    addresses: list
-    package: bytes = b""  # what stands beside it, with `.dwp` behind its path
-
-
-SHAPES = {}
-
-
-def shape(make):
-    SHAPES[make.__name__] = make
-    return make
-
-
-ROOT, FUNCTION, OUTER, CALL, TARGET, CHAIN, NAMED = 1, 2, 3, 4, 5, 6, 7
-BASE = 0x1000
-FLAG = (DW_AT_EXTERNAL, DW_FORM_FLAG_PRESENT)
-RANGES = [(DW_AT_RANGES, DW_FORM_SEC_OFFSET)]
-
-
-def subprogram(attributes, has_children=0):
-    return Abbreviation(DW_TAG_SUBPROGRAM, has_children, attributes)
-
-
-def root(attributes=RANGE, has_children=1):
-    return Abbreviation(DW_TAG_COMPILE_UNIT, has_children, list(attributes))
-
-
-def dwarf(shapes, units, **parts):
-    """An image of units with one table of abbreviations, and other sections by their names without `.debug_`."""
-    table = shapes if isinstance(shapes, bytes) else abbreviations(shapes)
-    sections = {"abbrev": table, "info": units} | parts
-    return image([Section(f".debug_{name}", data) for name, data in sections.items()])
-
-
-def one_unit(shapes, *below, size=0x10000, **parts):
-    """An image of one unit that covers `size` addresses from BASE."""
-    return dwarf(shapes, unit(entry(shapes, ROOT, BASE, size) + b"".join(below) + b"\0"), **parts)
-
-
-def scattered(count, size):
-    """Addresses all over a stretch, without a repeat where it is long enough."""
-    return [BASE + (k * 40503) % size for k in range(count)]
-
+from attack_parts import *  # noqa: F403
 
 # ---- range lists
 
@@ -110,6 +63,12 @@ def bare_functions_of_many_flags(n):
 
 
 @shape
+def bare_functions_of_many_empty_names(n):
+    shapes = {ROOT: root(), FUNCTION: subprogram([EMPTY_NAME] * n)}
+    return Attack(one_unit(shapes, bytes([FUNCTION]) * 2 * n), [BASE])
+
+
+@shape
 def variables_of_many_flags(n):
     shapes = {ROOT: root(), FUNCTION: Abbreviation(DW_TAG_VARIABLE, 0, [FLAG] * n)}
     return Attack(one_unit(shapes, bytes([FUNCTION]) * 2 * n), [BASE])
@@ -121,51 +80,7 @@ def units_of_many_flags(n):
     return Attack(dwarf(shapes, unit(entry(shapes, ROOT)) * (n // 6 + 1)), [0])
 
 
-# ---- references
-
-
-REFERENCE = (DW_AT_ABSTRACT_ORIGIN, DW_FORM_REF4)
-
-
-def referring(n, target, chain):
-    """n functions that refer to one entry through a chain of entries."""
-    shapes = {ROOT: root(), FUNCTION: subprogram([*RANGE, REFERENCE]), TARGET: target, CHAIN: subprogram([REFERENCE])}
-    at = ENTRIES_AT + len(entry(shapes, ROOT, 0, 0))
-    below = entry(shapes, TARGET, *(["f"] * sum(form == DW_FORM_STRING for _, form in target.attributes)))
-    for _ in range(chain):
-        at, below = ENTRIES_AT + len(entry(shapes, ROOT, 0, 0)) + len(below), below + entry(shapes, CHAIN, at)
-    functions = b"".join(entry(shapes, FUNCTION, BASE + 4 * k, 4, at) for k in range(n))
-    return one_unit(shapes, below, functions, size=4 * n)
-
-
-@shape
-def references_to_an_entry_of_many_flags(n):
-    return Attack(referring(n, subprogram([FLAG] * 8 * n), 0), [BASE + 1])
-
-
-@shape
-def chains_to_an_entry_of_many_flags(n):
-    return Attack(referring(n, subprogram([FLAG] * 8 * n), 15), [BASE + 1])
-
-
-@shape
-def references_to_an_entry_of_many_names(n):
-    # the last name is the name of all
-    return Attack(referring(n, subprogram([(DW_AT_SPECIFICATION + 1, DW_FORM_STRING)] * 4 * n + [FLAG]), 0), [BASE + 1])
-
-
-@shape
-def references_into_many_partial_units(n):
-    shapes = {ROOT: root(), FUNCTION: subprogram([*RANGE, (DW_AT_ABSTRACT_ORIGIN, DW_FORM_REF_ADDR)]), NAMED: subprogram([
-        (DW_AT_NAME, DW_FORM_STRING)]), OUTER: Abbreviation(DW_TAG_PARTIAL_UNIT, 1, [])}
-    # abbreviations that nothing uses make the table long
-    shapes |= {100 + k: subprogram([FLAG]) for k in range(4 * n)}
-    part = unit(entry(shapes, OUTER) + entry(shapes, NAMED, "f") + b"\0", DW_UT_PARTIAL)
-    name_at = ENTRIES_AT + len(entry(shapes, OUTER))
-    functions = [entry(shapes, FUNCTION, BASE + 4 * k, 4, len(part) * k + name_at) for k in range(n)]
-    main = unit(entry(shapes, ROOT, BASE, 4 * n) + b"".join(functions) + b"\0")
-    return Attack(dwarf(shapes, part * n + main), [BASE + 4 * (n // 2)])
-
+import attack_references  # noqa: E402,F401  its shapes stand here in the list
 
 # ---- units that share a table or a program
 
@@ -183,19 +98,12 @@ def announced_units_of_one_table(n):
     return announced_units({ROOT: root(RANGE, 0)} | {100 + k: subprogram([FLAG]) for k in range(8 * n)}, n)
 
 
-LINES = (DW_AT_STMT_LIST, DW_FORM_SEC_OFFSET)
-
-
 def many_rows(n):
     return set_address(BASE) + (advance(1) + COPY) * n + END_SEQUENCE
 
 
 def many_sequences(n):
     return b"".join(set_address(BASE + k) + COPY + advance(1) + END_SEQUENCE for k in range(n))
-
-
-def plain_program(opcodes):
-    return line_program(["/p"], [("a.c", 0)], opcodes)
 
 
 @shape

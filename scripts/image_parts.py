@@ -143,6 +143,7 @@ def advance(count):
 
 
 COPY = b"\x01"
+SET_FILE_0 = b"\x04\x00"
 END_SEQUENCE = b"\0\x01\x01"
 
 
