@@ -1,7 +1,7 @@
 //! What entries with very many attributes give, found once.
-ghost use Rattle.std.specs.Prelude.{◌≡◌, Some, IfSome};
+ghost use Rattle.std.specs.Prelude.{◌≡◌, ◌+◌, Some, IfSome};
 ghost use Rattle.std.specs.Bool.{OnTrue};
-ghost use Rattle.blz_functions.specs.Opened.{open_view};
+ghost use Rattle.blz_functions.specs.Opened.{open_view, CanBeOpened};
 ghost use Rattle.blz_reader.specs.Following.{entry_seen};
 ghost use Rattle.blz_reader.specs.Linkage.{Linked};
 ghost use Rattle.blz_reader.specs.LongEntries.{attribute_count, AreSeen, IsSeen};
@@ -27,10 +27,14 @@ pub struct LongEntries {
     pub kept: BTreeMap<u64, LongEntry>,
 }
 
-/// How many attributes the entry at a place has; 0 where no abbreviation tells it.
-pub fn attribute_count(unit: &OpenUnit<'_, '_>, place: usize) -> usize
-    ensures { result ≡ attribute_count (open_view unit.now) place }
+/// How many attributes the entry at a distance from the start of a unit has; 0 where no abbreviation tells it.
+pub fn attribute_count(unit: &OpenUnit<'_, '_>, distance: u64) -> usize
+    requires { CanBeOpened unit.now }
+    ensures { result ≡ attribute_count (open_view unit.now) (unit.now.header.start + distance) }
 {
+    let Some(place) = unit.header.start.checked_add(distance as usize) else {
+        return 0;
+    };
     let Some((code, _)) = uleb_at(unit.sections.info.bytes, place) else {
         return 0;
     };

@@ -1,11 +1,11 @@
 //! References from the entries of a unit to entries of any unit.
-ghost use Rattle.std.specs.Prelude.{◌≡◌, ◌≤◌, ◌<◌, ◌+◌, ◌^◌, ◌-◌, Option, Some, IfOk, IfSome};
+ghost use Rattle.std.specs.Prelude.{◌≡◌, ◌≤◌, ◌<◌, ◌+◌, ◌^◌, ◌-◌, Option, Some, IfOk, IfSome, nat_lt};
 ghost use Rattle.std.specs.List.{slice_get};
 ghost use Rattle.blz_model.specs.Part.{Gives, Exactly};
 ghost use Rattle.blz_info.specs.Marks.{or_invalid};
 ghost use Rattle.blz_units.specs.BuiltUnits.{built_view, files_view, BuiltFits, IsReadable};
 ghost use Rattle.blz_reader.specs.Following.{target_in, target_of, seen, seen_from, numbered_seen, entry_seen, step_of, name_over, own_side};
-ghost use Rattle.blz_reader.specs.LongEntries.{IsSeen};
+ghost use Rattle.blz_reader.specs.LongEntries.{attribute_count, IsSeen};
 ghost use Rattle.blz_units.specs.KeptParts.{caches_of, IsFilled, BuiltFit};
 ghost use Rattle.blz_functions.specs.Naming.{visited};
 ghost use Rattle.blz_functions.specs.Opened.{open_view, CanBeOpened};
@@ -134,11 +134,11 @@ fn seen(unit: Standing, sup: bool, visited: Visited) -> Followed
 }
 
 /// Whether the entry at a distance from the start of a unit has very many attributes.
-fn is_long(unit: &OpenUnit<'_, '_>, distance: u64) -> bool {
-    match unit.header.start.checked_add(distance as usize) {
-        Some(place) => attribute_count(unit, place) > FEW_ATTRIBUTES,
-        None => false,
-    }
+fn is_long(unit: &OpenUnit<'_, '_>, distance: u64) -> bool
+    requires { CanBeOpened unit.now }
+    ensures { result ≡ nat_lt 24 (attribute_count (open_view unit.now) (unit.now.header.start + distance)) }
+{
+    attribute_count(unit, distance) > FEW_ATTRIBUTES
 }
 
 /// What the entry at a distance from the start of a unit gives.
@@ -153,7 +153,8 @@ fn seen_from(standing: Standing, unit: &OpenUnit<'_, '_>, distance: u64) -> Resu
 /// The same, and whether the entry has very many attributes.
 fn seen_over(standing: Standing, unit: &OpenUnit<'_, '_>, distance: u64) -> Result<(Followed, bool)>
     requires { CanBeOpened unit.now }
-    ensures { Exactly (λ f. f.0) result (or_invalid (seen_from standing distance (open_view unit.now))) }
+    ensures value { Exactly (λ f. f.0) result (or_invalid (seen_from standing distance (open_view unit.now))) }
+    ensures long { IfOk result (λ f. f.1 ≡ nat_lt 24 (attribute_count (open_view unit.now) (unit.now.header.start + distance))) }
 {
     let followed = seen_from(standing, unit, distance)?;
     Ok((followed, is_long(unit, distance)))
