@@ -13,6 +13,7 @@ pub mod CallSteps
 pub mod CallsTree
 pub mod CountedLevels
 pub mod CallEntry
+pub mod UnplacedEntries
 pub mod PassedEntries
 pub mod BestOwned
 pub mod SearchedRanges

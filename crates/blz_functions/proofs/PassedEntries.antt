@@ -1,12 +1,14 @@
 -- Entries that were passed over change neither the functions of a unit nor the calls of a function.
 use Rattle.std.proofs.Common.{◌≡◌, ℕ, zero, suc, ◌<◌, Bool, true, false, eqb, List, [], length, Option, Some, None, refl, sym, ap, ◌∙◌, inl, inr}
-use Rattle.std.specs.Prelude.{not, ◌&&◌}
+use Rattle.std.specs.Prelude.{not, ◌&&◌, ◌||◌}
+use Rattle.std.proofs.lemmas.Bool.{cases_Bool}
 use Rattle.blz_model.specs.Reads.{◌>>=◌}
 use Rattle.blz_info.specs.Passing.{is_leaf, past, past_one}
 use Rattle.blz_info.specs.Walks.{Walk, next_of, skipped_of}
+use Rattle.blz_info.specs.Wanted.{any_placing}
 use Rattle.blz_info.specs.declared.entries.Entry.{Entry}
 use Rattle.blz_info.specs.declared.passing.Passing.{Passing}
-use Rattle.blz_info.specs.declared.passing.Passing.TheVariants.{Others, Leaves}
+use Rattle.blz_info.specs.declared.passing.Passing.TheVariants.{Leaves, Unplaced}
 use Rattle.blz_info.proofs.PassingSteps.{passed_entry, behind_skipped}
 use Rattle.blz_functions.specs.CallTree.{CallLists, is_call_tag}
 use Rattle.blz_functions.specs.CallWalk.{innermost, levels_behind, call_depth, call_met}
@@ -18,6 +20,7 @@ use Rattle.blz_functions.specs.Leaves.{UnitParts, source_in}
 use Rattle.blz_functions.proofs.CallSteps.{calls_rest, first, one_more as call_more}
 use Rattle.blz_functions.proofs.FunctionSteps.{lists_behind, one_more as function_more}
 use Rattle.blz_functions.proofs.MetEntries.{met_next}
+use Rattle.blz_functions.proofs.UnplacedEntries.{unplaced}
 
 not_true : (b : Bool) → not b ≡ true → b ≡ false
 not_true true h = absurd cc
@@ -52,26 +55,41 @@ unlisted : (refer : Refer) (u : UnitParts) (l : Lists) (e : Entry) (m v : Walk) 
 unfolding entry_met described_if
 unlisted refer u l e m v t s = rw (t, s) refl
 
-lists_one : (refer : Refer) (u : UnitParts) (l : Lists) (w v : Walk) → IsBetween u w → past_one Others 0x2e w ≡ Some v → lists_from refer u l w.depth w.place ≡ lists_from refer u l v.depth v.place
+-- a zero is no function
+unclosed : (refer : Refer) (u : UnitParts) (l : Lists) (e : Entry) (m v : Walk) → is_function_tag e.tag ≡ true → e.code ≡ 0 → skipped_of m ≡ Some (tt {0}, v) → entry_met refer u l e m ≡ Some (l, v.place)
+unfolding entry_met described_if
+unclosed refer u l e m v t z s = rw (t, z, s) refl
+
+unadded : (refer : Refer) (u : UnitParts) (l : Lists) (w m v : Walk) (e : Entry) → IsBetween u w → next_of w ≡ Some (Some e, m) → (not (is_function_tag e.tag) || not (any_placing m.pending)) ≡ true → skipped_of m ≡ Some (tt {0}, v) → entry_met refer u l e m ≡ Some (l, v.place)
+unadded refer u l w m v e b n h s =
+    elim (cases_Bool (is_function_tag e.tag)) [
+      | inl t ↦ elim (met_next u w m e b.pending b.source n) [
+        | inl z ↦ unclosed refer u l e m v t z.code_is s
+        | inr k ↦ unplaced refer u l w.depth w.place e m v k t (not_true _ (rw t at h)) s
+      ]
+      | inr f ↦ unlisted refer u l e m v f s
+    ]
+
+lists_one : (refer : Refer) (u : UnitParts) (l : Lists) (w v : Walk) → IsBetween u w → past_one Unplaced 0x2e w ≡ Some v → lists_from refer u l w.depth w.place ≡ lists_from refer u l v.depth v.place
 lists_one refer u l w v b h =
-    let k = passed_entry Others 0x2e w v h in
+    let k = passed_entry Unplaced 0x2e w v h in
     let f = behind_skipped k.met v k.skipped in
-    let met = unlisted refer u l k.entry k.met v (not_true _ k.other) k.skipped in
+    let met = unadded refer u l w k.met v k.entry b k.next k.other k.skipped in
     function_more refer u l w k.met k.entry b.pending b.source k.next
     ∙ (ap (λ (o : Option (Lists × ℕ)). o >>= lists_behind refer u k.met.depth) met ∙ ap (λ (d : ℕ). lists_from refer u l d v.place) (sym f.depth))
 
-lists_then : (refer : Refer) (u : UnitParts) (l : Lists) (n : ℕ) (w v : Walk) (o : Option Walk) → IsBetween u w → past_one Others 0x2e w ≡ o → (o >>= past n Others 0x2e) ≡ Some v
-    → ((x : Walk) → IsBetween u x → past n Others 0x2e x ≡ Some v → lists_from refer u l x.depth x.place ≡ lists_from refer u l v.depth v.place)
+lists_then : (refer : Refer) (u : UnitParts) (l : Lists) (n : ℕ) (w v : Walk) (o : Option Walk) → IsBetween u w → past_one Unplaced 0x2e w ≡ o → (o >>= past n Unplaced 0x2e) ≡ Some v
+    → ((x : Walk) → IsBetween u x → past n Unplaced 0x2e x ≡ Some v → lists_from refer u l x.depth x.place ≡ lists_from refer u l v.depth v.place)
     → lists_from refer u l w.depth w.place ≡ lists_from refer u l v.depth v.place
 lists_then refer u l n w v None b is h rest = absurd cc
-lists_then refer u l n w v (Some x) b is h rest = lists_one refer u l w x b is ∙ rest x (between_on u Others 0x2e w x b is) h
+lists_then refer u l n w v (Some x) b is h rest = lists_one refer u l w x b is ∙ rest x (between_on u Unplaced 0x2e w x b is) h
 
-lists_on : (refer : Refer) (u : UnitParts) (l : Lists) (n : ℕ) (w v : Walk) → IsBetween u w → past n Others 0x2e w ≡ Some v → lists_from refer u l w.depth w.place ≡ lists_from refer u l v.depth v.place
+lists_on : (refer : Refer) (u : UnitParts) (l : Lists) (n : ℕ) (w v : Walk) → IsBetween u w → past n Unplaced 0x2e w ≡ Some v → lists_from refer u l w.depth w.place ≡ lists_from refer u l v.depth v.place
 unfolding past
 lists_on refer u l zero w v b h = let e : w ≡ v = cc in ap (λ (x : Walk). lists_from refer u l x.depth x.place) e
-lists_on refer u l (suc n) w v b h = lists_then refer u l n w v (past_one Others 0x2e w) b refl h (λ x c k. lists_on refer u l n x v c k)
+lists_on refer u l (suc n) w v b h = lists_then refer u l n w v (past_one Unplaced 0x2e w) b refl h (λ x c k. lists_on refer u l n x v c k)
 
-pub lists_behind_passed : (refer : Refer) (u : UnitParts) (l : Lists) (n : ℕ) (w v : Walk) (all : Option Lists) → w.pending ≡ [] → w.source ≡ source_in u → past n Others 0x2e w ≡ Some v
+pub lists_behind_passed : (refer : Refer) (u : UnitParts) (l : Lists) (n : ℕ) (w v : Walk) (all : Option Lists) → w.pending ≡ [] → w.source ≡ source_in u → past n Unplaced 0x2e w ≡ Some v
     → lists_from refer u l w.depth w.place ≡ all → lists_from refer u l v.depth v.place ≡ all
 lists_behind_passed refer u l n w v all p s h rest = sym (lists_on refer u l n w v (record { pending = p; source = s }) h) ∙ rest
 

@@ -226,7 +226,7 @@ impl FunctionLists {
         let mut functions = FunctionLists::new(alloc);
         let mut lists = BTreeMap::new(alloc);
         loop {
-            entries.pass_over(Passing::Others, dwarf::DW_TAG_subprogram);
+            entries.pass_over(Passing::Unplaced, dwarf::DW_TAG_subprogram);
             let entry = match entries.next_entry() {
                 Ok(Some(entry)) => entry,
                 Ok(None) => return Ok(functions),

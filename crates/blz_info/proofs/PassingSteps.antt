@@ -9,6 +9,7 @@ use Rattle.blz_info.specs.Contents.{Contents}
 use Rattle.blz_info.specs.Passing.{is_leaf, is_passed, behind_entry, past, past_one}
 use Rattle.blz_info.specs.Sizes.{over}
 use Rattle.blz_info.specs.Walks.{Walk, next_of, skipped_of}
+use Rattle.blz_info.specs.Wanted.{any_placing}
 use Rattle.blz_info.specs.declared.encoding.Encoding.{Encoding}
 use Rattle.blz_info.specs.declared.entries.Entry.{Entry}
 use Rattle.blz_info.specs.declared.passing.Passing.{Passing}
@@ -33,7 +34,7 @@ pub record IsPassed (p : Passing) (tag : ℕ) (w v : Walk) : Type 0 where
   pub entry : Entry
   pub met : Walk
   pub next : next_of w ≡ Some (Some entry, met)
-  pub other : is_passed p tag entry.tag (is_leaf entry) ≡ true
+  pub other : is_passed p tag entry.tag (is_leaf entry) (any_placing met.pending) ≡ true
   pub skipped : skipped_of met ≡ Some (tt {0}, v)
 
 skipped_to : (o : Option (Unit {0} × Walk)) (v : Walk) → (o >>= λ (r : Unit {0} × Walk). Some r.1) ≡ Some v → o ≡ Some (tt {0}, v)
@@ -44,7 +45,7 @@ entry_by : (p : Passing) (tag : ℕ) (w v : Walk) (o : Option (Option Entry × W
 entry_by p tag w v None is h = absurd cc
 entry_by p tag w v (Some (None, m)) is h = absurd cc
 entry_by p tag w v (Some (Some e, m)) is h =
-    elim (cases_Bool (is_passed p tag e.tag (is_leaf e))) [
+    elim (cases_Bool (is_passed p tag e.tag (is_leaf e) (any_placing m.pending))) [
       | inl t ↦ record { entry = e; met = m; next = is; other = t; skipped = skipped_to (skipped_of m) v (rw t at h) }
       | inr f ↦ let none : None ≡ Some v = rw f at h in absurd cc
     ]

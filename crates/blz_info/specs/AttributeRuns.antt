@@ -6,7 +6,7 @@ use Rattle.blz_info.specs.Attributes.{form_for, attribute}
 use Rattle.blz_info.specs.Contents.{Contents}
 use Rattle.blz_info.specs.Forms.{value_by}
 use Rattle.blz_info.specs.Sizes.{over, behind_form, behind, attribute_size, size_together}
-use Rattle.blz_info.specs.Wanted.{is_wanted}
+use Rattle.blz_info.specs.Wanted.{is_wanted, any_placing}
 use Rattle.blz_info.specs.declared.abbreviations.AttrSpec.{AttrSpec}
 use Rattle.blz_info.specs.declared.encoding.Encoding.{Encoding}
 use Rattle.blz_info.specs.declared.form.Form.{Form}
@@ -76,10 +76,12 @@ pub record Reads (e : Encoding) (taken : ℕ) (r : Runs) (specs : List AttrSpec)
   pub within : taken ≤ length r.runs.items
   pub runs : AreRuns true e (drop taken r.runs.items) r.tail specs
 
--- Some attributes are passed over by one list of runs, and read by another one, if they are read.
+-- Some attributes are passed over by one list of runs, and read by another one, if they are read; and whether one of them
+-- tells addresses or refers to an entry.
 pub record IsReady (r : Ready) (specs : List AttrSpec) : Type 0 where
   pub passing : Passes r.encoding r.passing specs
   pub reading : IfSome r.reading (λ runs. Reads r.encoding 0 runs specs)
+  pub placing : r.placing ≡ any_placing specs
 
 -- a run behind so many attributes with so many bytes
 abbrev pub run_of : Bool → Encoding → ℕ → ℕ → AttrSpec → Run

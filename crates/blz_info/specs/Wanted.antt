@@ -1,6 +1,6 @@
 -- Attributes that tell what a function or an inlined call is, its names, the addresses that it covers, and where it is
 -- called, or what holds for a whole unit (DWARF 5 sections 2.15, 2.17, 3.1.1, 3.3.8.2 and 7.5.4).
-use Rattle.std.specs.Prelude.{ℕ, Bool, ◌||◌, List, [], ◌∷◌, drop, Option, Some, None, ◌==◌, if◌then◌else◌}
+use Rattle.std.specs.Prelude.{ℕ, Bool, false, ◌||◌, List, [], ◌∷◌, drop, Option, Some, None, ◌==◌, if◌then◌else◌}
 use Rattle.blz_constants.specs.declared.dwarf.TheConstants as dwarf
 use Rattle.blz_model.specs.Reads.{◌>>=◌}
 use Rattle.blz_info.specs.Attributes.{attribute}
@@ -22,6 +22,17 @@ is_wanted name =
     (name == dwarf.DW_AT_linkage_name) || ((name == dwarf.DW_AT_MIPS_linkage_name) || ((name == dwarf.DW_AT_stmt_list) || (
     (name == dwarf.DW_AT_language) || ((name == dwarf.DW_AT_comp_dir) || ((name == dwarf.DW_AT_str_offsets_base) || (
     (name == dwarf.DW_AT_addr_base) || (name == dwarf.DW_AT_rnglists_base))))))))))))))))
+
+-- DW_AT_low_pc, high_pc, ranges, abstract_origin and specification: an entry that has none of them covers no address,
+-- and refers to no other entry
+unfoldable pub is_placing : ℕ → Bool
+is_placing name =
+    (name == dwarf.DW_AT_low_pc) || ((name == dwarf.DW_AT_high_pc) || ((name == dwarf.DW_AT_ranges) || (
+    (name == dwarf.DW_AT_abstract_origin) || (name == dwarf.DW_AT_specification))))
+
+abbrev pub any_placing : List AttrSpec → Bool
+any_placing [] = false
+any_placing (a ∷ rest) = is_placing a.name || any_placing rest
 
 -- a wanted attribute with its name, the attributes behind it, and the place behind it
 abbrev pub Wanted : Type 0

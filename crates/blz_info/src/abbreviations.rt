@@ -6,6 +6,7 @@ ghost use Rattle.blz_model.specs.Part.{Gives};
 ghost use Rattle.blz_info.specs.Marks.{or_invalid};
 ghost use Rattle.blz_info.specs.Abbrevs.{of_code};
 ghost use Rattle.blz_info.specs.AttributeRuns.{Passes, Reads};
+ghost use Rattle.blz_info.specs.Wanted.{any_placing};
 ghost use Rattle.blz_info.specs.AbbreviationTables.{spec_at, is_last, specs_in, has_children, abbreviation_at, has_code, abbreviations};
 
 use crate::encoding::Encoding;
@@ -58,6 +59,14 @@ impl Abbreviation {
         ensures { result.now ≡ self.now.specs }
     {
         &self.specs
+    }
+
+    /// Whether one of the attributes tells addresses or refers to an entry.
+    #[inline(always)]
+    pub(crate) fn places(&self) -> bool
+        ensures { result ≡ any_placing self.now.specs }
+    {
+        self.ready.placing
     }
 
     /// How the attributes are passed over, where this is known for the sizes of a unit.

@@ -359,20 +359,21 @@ impl<'s, 'b> Entries<'s, 'b> {
         }
         let (code, next) = uleb_at(self.section.bytes, at)?;
         if code == 0 {
-            if !passing.takes(tag, 0, false) {
+            if !passing.takes(tag, 0, false, false) {
                 return None;
             }
             return Some((next, depth.saturating_sub(1)));
         }
         let abbreviation = self.abbreviations.get(code)?;
-        if !passing.takes(tag, abbreviation.tag, !abbreviation.children) {
+        let leaf = !abbreviation.children;
+        if !passing.takes(tag, abbreviation.tag, leaf, abbreviation.places()) {
             return None;
         }
         let behind = self.behind_ready(abbreviation, next)?;
         Some((behind, depth_behind(depth, abbreviation.children)))
     }
 
-    /// Passes over entries that are not looked at, where another tag is sought, as far as their sizes are known; how many
+    /// Passes over entries that are not looked at, where a tag is sought, as far as their sizes are known; how many
     /// these are is not told.
     pub fn pass_over(&mut self, passing: Passing, tag: u64)
         requires { self.old.pending ≡ [] }

@@ -9,17 +9,20 @@ pub enum Passing {
     Others,
     /// Those of other tags that have no children.
     Leaves,
+    /// Those of other tags, zeros, and those that cover no address and refer to no entry, as declarations do.
+    Unplaced,
 }
 
 impl Passing {
-    /// Whether an entry of a tag is passed over, where another tag is sought.
+    /// Whether an entry of a tag is passed over, where a tag is sought.
     #[inline(always)]
-    pub(crate) fn takes(self, sought: u64, tag: u64, leaf: bool) -> bool
-        ensures { result ≡ is_passed self sought tag leaf }
+    pub(crate) fn takes(self, sought: u64, tag: u64, leaf: bool, placing: bool) -> bool
+        ensures { result ≡ is_passed self sought tag leaf placing }
     {
         match self {
             Passing::Others => tag != sought,
             Passing::Leaves => tag != sought && leaf,
+            Passing::Unplaced => tag != sought || !placing,
         }
     }
 }

@@ -9,7 +9,7 @@ use crate::encoding::Encoding;
 use crate::runs::{Runs, wanted_by};
 use crate::section::Section;
 use crate::text::StrBase;
-use crate::wanted::{Met, wanted_in};
+use crate::wanted::{Met, any_placing, wanted_in};
 use blz_constants::dwarf;
 use std::alloc::{AllocError, Global};
 
@@ -23,6 +23,8 @@ pub struct Ready {
     pub(crate) encoding: Encoding,
     pub(crate) passing: Runs,
     pub(crate) reading: Option<Runs>,
+    /// One of them tells addresses or refers to an entry.
+    pub(crate) placing: bool,
 }
 
 fn reading_of(
@@ -58,6 +60,7 @@ impl Ready {
             encoding,
             passing,
             reading,
+            placing: any_placing(specs),
         })
     }
 }

@@ -2,7 +2,7 @@
 //! called, or what holds for a whole unit.
 ghost use Rattle.std.specs.Prelude.{◌≡◌, ◌≤◌, ◌<◌, ◌+◌, ◌^◌, length, IfSome, MatchOption, option_map};
 ghost use Rattle.blz_info.specs.Contents.{section_view};
-ghost use Rattle.blz_info.specs.Wanted.{is_wanted, wanted_in, met_view};
+ghost use Rattle.blz_info.specs.Wanted.{is_wanted, is_placing, any_placing, wanted_in, met_view};
 
 use crate::abbreviations::AttrSpec;
 use crate::attributes::attribute;
@@ -50,6 +50,32 @@ pub(crate) fn is_wanted(name: u64) -> bool
         | dwarf::DW_AT_rnglists_base => true,
         _ => false,
     }
+}
+
+/// The attribute tells addresses that its entry covers, or another entry that it stands for.
+#[tactic(auto, unfolding(crate::specs::Wanted::is_placing))]
+fn is_placing(name: u64) -> bool
+    ensures { result ≡ is_placing name }
+{
+    match name {
+        dwarf::DW_AT_low_pc
+        | dwarf::DW_AT_high_pc
+        | dwarf::DW_AT_ranges
+        | dwarf::DW_AT_abstract_origin
+        | dwarf::DW_AT_specification => true,
+        _ => false,
+    }
+}
+
+pub(crate) fn any_placing(specs: &[AttrSpec]) -> bool
+    ensures { result ≡ any_placing specs.now }
+{
+    for spec in specs {
+        if is_placing(spec.name) {
+            return true;
+        }
+    }
+    false
 }
 
 /// The next wanted one of some attributes.
