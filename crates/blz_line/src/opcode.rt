@@ -1,5 +1,6 @@
 //! Opcodes and their operands.
-ghost use Rattle.std.specs.Prelude.{◌≡◌, ◌≤◌, ◌<◌, ◌+◌, length, IfSome};
+ghost use Rattle.std.specs.Prelude.{◌≡◌, ◌≤◌, ◌<◌, ◌+◌, ◌^◌, length, IfSome, option_map};
+ghost use Rattle.blz_model.specs.LebNumbers.{signed, fits_i64, sleb};
 ghost use Rattle.blz_info.specs.Contents.{section_view};
 ghost use Rattle.blz_line.specs.Opcodes.{ulebs_passed, extended_op, extended_at, standard_at, op_at};
 
@@ -8,6 +9,7 @@ use crate::rules::Rules;
 use blz_bytes::{sleb_at, u8_at, u16_at, uleb_at};
 use blz_constants::dwarf;
 use blz_entry::{Section, address_at, cut};
+use blz_model::Leb;
 
 /// An opcode with its operands (DWARF 5 section 6.2.5).
 #[derive(Clone, Copy)]
@@ -49,6 +51,40 @@ fn ulebs_passed(count: u8, bytes: &[u8], at: usize) -> Option<usize>
         offset = next;
     }
     Some(offset)
+}
+
+/// The value of a number with its sign, where it fits, and the place behind it.
+#[inline(always)]
+fn signed_of(leb: Leb, next: usize) -> Option<(i64, usize)>
+    requires { (leb.value < leb.weight) × (leb.weight ≤ 2 ^ 70) }
+    ensures value { result ≡ option_map (λ v. (v, next)) (fits_i64 (signed leb)) }
+    ensures place { IfSome result (λ r. r.1 ≡ next) }
+{
+    let value = if leb.negative {
+        leb.value as i128 - leb.weight as i128
+    } else {
+        leb.value as i128
+    };
+    if value < -(1 << 63) || value >= 1 << 63 {
+        return None;
+    }
+    Some((value as i64, next))
+}
+
+/// A number with a sign, most of which have one byte.
+fn signed_at(bytes: &[u8], at: usize) -> Option<(i64, usize)>
+    ensures value { result ≡ sleb bytes.now at }
+    ensures within { IfSome result (λ r. (at < r.1) × (r.1 ≤ length bytes.now)) }
+{
+    if at < bytes.len() && bytes[at] < 128 {
+        let leb = Leb {
+            value: u128::from(bytes[at]),
+            weight: 128,
+            negative: bytes[at] >= 64,
+        };
+        return signed_of(leb, at + 1);
+    }
+    sleb_at(bytes, at)
 }
 
 #[tactic(auto, unfolding(crate::specs::Opcodes::extended_op))]
@@ -106,7 +142,7 @@ fn standard_at(
             Some((Op::AdvancePc(count), next))
         }
         dwarf::DW_LNS_advance_line => {
-            let (by, next) = sleb_at(bytes, at)?;
+            let (by, next) = signed_at(bytes, at)?;
             Some((Op::AdvanceLine(by), next))
         }
         dwarf::DW_LNS_set_file => {
