@@ -1,5 +1,5 @@
 //! What an entry is called and covers.
-ghost use Rattle.std.specs.Prelude.{◌≡◌, ◌≤◌, [], Option, None, Some, IfOk, MatchResult, if◌then◌else◌};
+ghost use Rattle.std.specs.Prelude.{◌≡◌, ◌≤◌, [], false, Option, None, Some, IfOk, MatchResult, if◌then◌else◌};
 ghost use Rattle.blz_model.specs.Part.{Gives, Exactly, Fails};
 ghost use Rattle.blz_info.specs.Marks.{or_invalid};
 ghost use Rattle.blz_functions.specs.Describing.{tells_range, tells_site, low_bits, kept_file, with_call_site, no_ranges, undescribed, description_step, described, described_if, specs_of};
@@ -121,7 +121,10 @@ fn name_with<F: Links>(
         return Ok(or_else(unit.string(value), known));
     }
     if is_name(name) {
-        return Ok(or_else(known, unit.string(value)));
+        return Ok(match known {
+            Some(_) => known,
+            None => unit.string(value),
+        });
     }
     if is_reference(name) && known.is_none() {
         return links.follow(value);
@@ -130,7 +133,7 @@ fn name_with<F: Links>(
 }
 
 impl Description {
-    /// One attribute more; what stands there after an error is not told.
+    /// One attribute more, which tells no call site; what stands there after an error is not told.
     #[tactic(auto, unfolding(crate::specs::Describing::description_step))]
     fn add<F: Links>(
         &mut self,
@@ -139,13 +142,12 @@ impl Description {
         name: u64,
         value: AttrValue,
     ) -> Result<()>
+        requires { tells_site name ≡ false }
         ensures value { MatchResult result (λ _. description_step (F.refer (F.linkage links.old)) (open_view unit.now) self.old (name, value) ≡ Some self.new) (λ e. Fails e.kind (or_invalid (description_step (F.refer (F.linkage links.old)) (open_view unit.now) self.old (name, value)))) }
         ensures same { F.linkage links.new ≡ F.linkage links.old }
     {
         if tells_range(name) {
             self.ranges = unit.with_attribute(self.ranges, name, value)?;
-        } else if tells_site(name) {
-            self.site = self.site.with(unit.header.version, name, value);
         } else {
             self.name = name_with(unit, links, self.name, name, value)?;
         }
@@ -173,6 +175,11 @@ impl Description {
                 Ok(None) => return Ok(description),
                 Err(fault) => return Err(fault),
             };
+            // most attributes of calls are these, and none of them fails
+            if tells_site(name) {
+                description.site = description.site.with(unit.header.version, name, value);
+                continue;
+            }
             match description.add(unit, links, name, value) {
                 Ok(()) => (),
                 Err(fault) => return Err(fault),

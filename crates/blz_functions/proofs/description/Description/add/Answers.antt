@@ -1,8 +1,8 @@
 use Rattle.std.proofs.Common.{sym, ◌∙◌, refl}
 use Rattle.blz_info.proofs.Marked.{good_some}
 use Rattle.blz_functions.specs.Opened.{open_view}
-use Rattle.blz_functions.proofs.DescriptionSteps.{range_alone, site_alone, name_alone}
-use Rattle.blz_functions.proofs.description.Description.add.Goals.{then-tells_range+in_ok-self, else-tells_range+then-tells_site, else-tells_range+else-tells_site+in_ok-self-2}
+use Rattle.blz_functions.proofs.DescriptionSteps.{range_alone, name_alone}
+use Rattle.blz_functions.proofs.description.Description.add.Goals.{then-tells_range+in_ok-self, else-tells_range+in_ok-self-2}
 use Rattle.blz_functions.proofs.description.Description.add.Goals as goal
 
 pub returns-clause-value : goal.returns-clause-value
@@ -12,6 +12,5 @@ returns-clause-value g c =
     let d = c.args.self.now in
     elim c.if-tells_range.branch [
       | then-tells_range+in_ok-self w ↦ range_alone refer u d c.args.name c.args.value (sym c.tells_range.ensures ∙ w.if-tells_range.true) ∙ rw (good_some _ _ w.in_ok-self.ensures, w.self-is) refl
-      | else-tells_range+then-tells_site w ↦ site_alone refer u d c.args.name c.args.value (sym w.tells_site.ensures ∙ w.if-tells_site.true) ∙ rw (w.self-is, w.with-self.ensures) refl
-      | else-tells_range+else-tells_site+in_ok-self-2 w ↦ name_alone refer u d c.args.name c.args.value (sym c.tells_range.ensures ∙ w.if-tells_range.false) (sym w.tells_site.ensures ∙ w.if-tells_site.false) ∙ rw (good_some _ _ w.in_ok-self-2.ensures.value, w.self-is) refl
+      | else-tells_range+in_ok-self-2 w ↦ name_alone refer u d c.args.name c.args.value (sym c.tells_range.ensures ∙ w.if-tells_range.false) c.requires ∙ rw (good_some _ _ w.in_ok-self-2.ensures.value, w.self-is) refl
     ]
