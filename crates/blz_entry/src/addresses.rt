@@ -21,6 +21,7 @@ pub(crate) fn address_of(
 }
 
 /// A value as an address, where it is one.
+#[inline(always)]
 #[tactic(auto, unfolding(crate::specs::AddressIndexes::value_address))]
 pub(crate) fn value_address(
     sections: &Sections<'_, '_>,

@@ -91,6 +91,7 @@ fn held_offset(offset: Option<u128>) -> Option<u64>
     Some(offset as u64)
 }
 
+#[inline(always)]
 fn with_low(attributes: RangeAttributes, low_pc: Option<u64>) -> RangeAttributes
     ensures { result ≡ with_low attributes low_pc }
 {
@@ -103,6 +104,7 @@ fn with_low(attributes: RangeAttributes, low_pc: Option<u64>) -> RangeAttributes
     }
 }
 
+#[inline(always)]
 fn with_high(
     attributes: RangeAttributes,
     high_pc: Option<u64>,
@@ -123,6 +125,7 @@ fn with_high(
     }
 }
 
+#[inline(always)]
 #[tactic(auto, unfolding(crate::specs::RangeLists::range_step))]
 pub(crate) fn range_step(
     sections: &Sections<'_, '_>,
@@ -173,6 +176,7 @@ fn not_empty(bounds: Option<Span>) -> Option<Span>
 impl RangeAttributes {
     /// These attributes with one more, in the order in which an entry has them; others than the three that tell ranges
     /// change nothing. InvalidDwarf exactly where an index lies outside.
+    #[inline(always)]
     pub fn with(
         self,
         sections: &Sections<'_, '_>,

@@ -32,6 +32,7 @@ impl<'s, 'b> OpenUnit<'s, 'b> {
     }
 
     /// The attributes that tell ranges, with one more.
+    #[inline(always)]
     pub fn with_attribute(
         &self,
         ranges: RangeAttributes,

@@ -9,6 +9,7 @@ use crate::section::Section;
 use blz_bytes::{number_at, u8_at, u16_at, u32_at, u64_at, uleb_at};
 
 /// A number of so many bytes.
+#[inline(always)]
 #[tactic(auto, using(crate::proofs::Bytes::number_of_one))]
 pub fn fixed_at(width: Width, section: &Section<'_, '_>, at: usize) -> Option<(u64, usize)>
     ensures value { result ≡ number section.now.order (bytes_in width) section.now.bytes.now at }
@@ -23,16 +24,23 @@ pub fn fixed_at(width: Width, section: &Section<'_, '_>, at: usize) -> Option<(u
             let (value, next) = u16_at(section.bytes, at, section.order)?;
             Some((u64::from(value), next))
         }
-        Width::Three => number_at(section.bytes, at, 3, section.order),
+        Width::Three => {
+            let (value, next) = number_at(section.bytes, at, 3, section.order)?;
+            Some((value, next))
+        }
         Width::Four => {
             let (value, next) = u32_at(section.bytes, at, section.order)?;
             Some((u64::from(value), next))
         }
-        Width::Eight => u64_at(section.bytes, at, section.order),
+        Width::Eight => {
+            let (value, next) = u64_at(section.bytes, at, section.order)?;
+            Some((value, next))
+        }
     }
 }
 
 /// A number of so many bytes, relocated.
+#[inline(always)]
 #[tactic(auto, unfolding(crate::specs::Contents::moved_number))]
 fn moved_at(width: Width, section: &Section<'_, '_>, at: usize) -> Option<(u64, usize)>
     ensures value { result ≡ moved_number (bytes_in width) (section_view section.now) at }
@@ -43,6 +51,7 @@ fn moved_at(width: Width, section: &Section<'_, '_>, at: usize) -> Option<(u64, 
 }
 
 /// An address of four or eight bytes.
+#[inline(always)]
 #[tactic(auto, unfolding(crate::specs::Contents::address_at))]
 pub fn address_at(address_size: u8, section: &Section<'_, '_>, at: usize) -> Option<(u64, usize)>
     ensures value { result ≡ address_at address_size (section_view section.now) at }
@@ -56,6 +65,7 @@ pub fn address_at(address_size: u8, section: &Section<'_, '_>, at: usize) -> Opt
 }
 
 /// An offset of the unit's width.
+#[inline(always)]
 #[tactic(auto, unfolding(crate::specs::Contents::offset_at))]
 pub fn offset_at(wide: bool, section: &Section<'_, '_>, at: usize) -> Option<(u64, usize)>
     ensures value { result ≡ offset_at wide (section_view section.now) at }
@@ -69,6 +79,7 @@ pub fn offset_at(wide: bool, section: &Section<'_, '_>, at: usize) -> Option<(u6
 }
 
 /// So many bytes that are passed over.
+#[inline(always)]
 #[tactic(auto, unfolding(crate::specs::Contents::skipped))]
 fn skip(count: u64, bytes: &[u8], at: usize) -> Option<(u64, usize)>
     ensures value { result ≡ skipped count bytes.now at }
@@ -104,7 +115,10 @@ pub(crate) fn field_at(
                 offset_at(encoding.wide, section, at)
             }
         }
-        Field::Uleb => uleb_at(section.bytes, at),
+        Field::Uleb => {
+            let (value, next) = uleb_at(section.bytes, at)?;
+            Some((value, next))
+        }
         Field::Sixteen => skip(16, section.bytes, at),
         Field::Block(width) => {
             let (count, next) = fixed_at(width, section, at)?;

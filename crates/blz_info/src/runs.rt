@@ -108,7 +108,10 @@ impl Run {
     {
         match self.form {
             Some(form) => value_by(form, encoding, base, section, at),
-            None => attribute(self.spec, encoding, base, section, at),
+            None => {
+                let (value, next) = attribute(self.spec, encoding, base, section, at)?;
+                Some((value, next))
+            }
         }
     }
 }

@@ -117,7 +117,10 @@ pub(crate) fn value_by(
             let (number, next) = sleb_at(section.bytes, at)?;
             Some((AttrValue::Signed(number), next))
         }
-        Form::Text => text_here(base, section.bytes, at),
+        Form::Text => {
+            let (value, next) = text_here(base, section.bytes, at)?;
+            Some((value, next))
+        }
     }
 }
 
