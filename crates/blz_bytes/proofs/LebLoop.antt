@@ -56,6 +56,13 @@ pub uleb_one : (bytes : List ℕ) (at byte : ℕ) → slice_get bytes at ≡ Som
 unfolding uleb
 uleb_one bytes at byte h lt = rw (leb_one 10 9 at byte bytes refl h lt, lt-ltb byte (2 ^ 64) (omega arith)) refl
 
+pub uleb_two : (bytes : List ℕ) (at byte next : ℕ) → slice_get bytes at ≡ Some byte → 128 ≤ byte → byte < 256 → slice_get bytes (at + 1) ≡ Some next → next < 128 → uleb bytes at ≡ Some (byte - 128 + 128 * next, at + 1 + 1)
+unfolding uleb leb_in
+uleb_two bytes at byte next h le small k lt =
+    let rest = leb_one 9 8 (at + 1) next bytes refl k lt in
+    let fits : byte - 128 + 128 * next < 2 ^ 64 = omega (arith, lt, small) in
+    rw (h, le-ltb byte 128 le, rest, lt-ltb (byte - 128 + 128 * next) (2 ^ 64) fits) refl
+
 pub leb_none : (m n at : ℕ) (bytes : List ℕ) → m ≡ suc n → length bytes ≤ at → leb_in m bytes at ≡ None
 unfolding leb_in
 leb_none m n at bytes em le = rw (em, slice_get_past bytes at le) refl

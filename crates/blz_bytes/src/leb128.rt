@@ -58,6 +58,11 @@ pub fn uleb_at(bytes: &[u8], at: usize) -> Option<(u64, usize)>
     if at < bytes.len() && bytes[at] < 128 {
         return Some((u64::from(bytes[at]), at + 1));
     }
+    // and most others two
+    if at < bytes.len() && bytes.len() - at > 1 && bytes[at + 1] < 128 {
+        let value = u64::from(bytes[at]) - 128 + u64::from(bytes[at + 1]) * 128;
+        return Some((value, at + 2));
+    }
     let (leb, next) = leb_at(bytes, at)?;
     if leb.value >= 1 << 64 {
         return None;

@@ -226,10 +226,12 @@ impl<'s, 'b> Entries<'s, 'b> {
         let Some(abbreviation) = self.abbreviations.get(code) else {
             return Err(invalid("an entry has a code that no abbreviation has"));
         };
+        let passing = abbreviation.passing(self.encoding);
+        let reading = abbreviation.reading(self.encoding);
         self.place = next;
         self.pending = abbreviation.attributes();
-        self.passing = abbreviation.passing(self.encoding);
-        self.reading = abbreviation.reading(self.encoding);
+        self.passing = passing;
+        self.reading = reading;
         self.taken = 0;
         self.depth = depth_behind(depth, abbreviation.children);
         Ok(Some(Entry {
