@@ -1,7 +1,7 @@
 //! The attributes of an entry that tell what a function or an inlined call is.
 use super::small::{header, no_sections, section};
 use blz_entry::{
-    Abbreviations, AttrValue, Encoding, Entries, Sections, StrPart, StrPlace, UnitHeader,
+    Abbreviations, AttrValue, Encoding, Entries, Passing, Sections, StrPart, StrPlace, UnitHeader,
 };
 use blz_moves::RelocationMap;
 use std::alloc::Global;
@@ -97,5 +97,33 @@ fn an_entry_of_which_some_was_read_is_passed_over(rt: HostRuntime) -> Result<(),
     assert_eq!(rt; spec.name, 0x12);
     let second = entries.next_entry()?.ok_or("a second entry")?;
     assert_eq!(rt; second.place, 22);
+    Ok(())
+}
+
+// subprograms: one with a name alone, one with an address, and one with a reference
+const KINDS: &[u8] =
+    b"\x01\x2e\0\x03\x08\0\0\x02\x2e\0\x03\x08\x11\x01\0\0\x03\x2e\0\x47\x13\0\0\0";
+
+// two names, a reference, a name, and a name with an address
+const FUNCTIONS: &[u8] = b"\x01a\0\x01b\0\x03\0\0\0\0\x01c\0\x02d\0\0\x10\0\0\0\0\0\0";
+
+#[test]
+fn functions_without_addresses_and_references_are_passed_over(rt: HostRuntime) -> Result<(), Fail> {
+    let moves = RelocationMap::new(rt.alloc());
+    let sections = Sections {
+        info: section(FUNCTIONS, &moves),
+        ..no_sections(&moves)
+    };
+    let abbreviations = Abbreviations::parse(rt.alloc(), KINDS, 0)?;
+    let unit = UnitHeader {
+        end: 25,
+        ..header(5)
+    };
+    for (from, place) in [(0, 6), (11, 14)] {
+        let mut entries = Entries::new(sections, unit, &abbreviations, from)?;
+        entries.pass_over(Passing::Unplaced, 0x2e);
+        let entry = entries.next_entry()?.ok_or("a function")?;
+        assert_eq!(rt; entry.place, place);
+    }
     Ok(())
 }
