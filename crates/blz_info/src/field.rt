@@ -15,6 +15,7 @@ pub fn fixed_at(width: Width, section: &Section<'_, '_>, at: usize) -> Option<(u
     ensures value { result ≡ number section.now.order (bytes_in width) section.now.bytes.now at }
     ensures within { IfSome result (λ r. (at < r.1) × (r.1 ≤ length section.now.bytes.now)) }
 {
+    // each result is taken apart, since one that a call writes would stand in memory
     match width {
         Width::One => {
             let (value, next) = u8_at(section.bytes, at)?;
@@ -103,6 +104,7 @@ pub(crate) fn field_at(
     ensures value { result ≡ field_at field encoding (section_view section.now) at }
     ensures within { IfSome result (λ r. (at ≤ r.1) × (at ≤ length section.now.bytes.now → r.1 ≤ length section.now.bytes.now)) }
 {
+    // each result is taken apart, since one that a call writes would stand in memory
     match field {
         Field::Nothing => Some((0, at)),
         Field::Fixed(width) => fixed_at(width, section, at),

@@ -106,6 +106,7 @@ impl Run {
         ensures value { result ≡ value_by_form self.now.form self.now.spec encoding base (section_view section.now) at }
         ensures within { IfSome result (λ r. (at ≤ r.1) × (at ≤ length section.now.bytes.now → r.1 ≤ length section.now.bytes.now)) }
     {
+        // each result is taken apart, since one that a call writes would stand in memory
         match self.form {
             Some(form) => value_by(form, encoding, base, section, at),
             None => {

@@ -108,6 +108,7 @@ pub(crate) fn value_by(
     ensures value { result ≡ value_by form encoding base (section_view section.now) at }
     ensures within { IfSome result (λ r. (at ≤ r.1) × (at ≤ length section.now.bytes.now → r.1 ≤ length section.now.bytes.now)) }
 {
+    // each result is taken apart, since one that a call writes would stand in memory
     match form {
         Form::Numeric(field, makes) => {
             let (number, next) = field_at(field, encoding, section, at)?;
