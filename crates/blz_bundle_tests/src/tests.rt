@@ -4,26 +4,18 @@ mod alternative;
 mod failing;
 mod linkee;
 mod package;
+mod refused;
 mod supplementary;
 mod vanishing;
 
 use blz_bundle::{Bundle, Companion, OwnedBundle};
 use blz_error::{Error, ErrorKind, Result};
-use blz_images::{ByteOrder, Image, build_id_note, debug_link};
+use blz_images::{ByteOrder, debug_link, debug_sup, with_section};
 use blz_links::MemoryFiles;
 use std::alloc::{AllocError, Global};
 
 /// The checksum of `123456789` (CRC-32).
 const DIGITS_CHECKSUM: u32 = 0xcbf43926;
-
-// an image with one more section
-fn with_section(
-    alloc: Global,
-    name: &str,
-    bytes: &[u8],
-) -> std::result::Result<Vec<u8>, AllocError> {
-    Image::elf64(alloc).section(name, 1, bytes)?.bytes()
-}
 
 // an image whose link names a file and its checksum
 fn linked(alloc: Global, file: &str, checksum: u32) -> std::result::Result<Vec<u8>, AllocError> {
@@ -31,10 +23,10 @@ fn linked(alloc: Global, file: &str, checksum: u32) -> std::result::Result<Vec<u
     with_section(alloc, ".gnu_debuglink", &link)
 }
 
-// an image with a build id
-fn with_build_id(alloc: Global, build_id: &[u8]) -> std::result::Result<Vec<u8>, AllocError> {
-    let notes = build_id_note(alloc, ByteOrder::Little, build_id)?;
-    Image::elf64(alloc).section(".note", 7, &notes)?.bytes()
+// an image whose section leads to a supplementary file, or says that it is one
+fn sup(alloc: Global, path: &str, checksum: &[u8]) -> std::result::Result<Vec<u8>, AllocError> {
+    let section = debug_sup(alloc, ByteOrder::Little, path, checksum)?;
+    with_section(alloc, ".debug_sup", &section)
 }
 
 fn bytes_of(alloc: Global, text: &[u8]) -> std::result::Result<Vec<u8>, AllocError> {
@@ -83,6 +75,25 @@ fn is_invalid(opened: Result<OwnedBundle>) -> bool {
         Ok(_) => false,
         Err(error) => error.kind() == ErrorKind::InvalidData && error.mismatch().is_none(),
     }
+}
+
+// files with an image at `/x/a`
+fn holding(alloc: Global, image: Vec<u8>) -> std::result::Result<MemoryFiles, AllocError> {
+    let mut files = MemoryFiles::new(alloc);
+    files.put("/x/a", image)?;
+    Ok(files)
+}
+
+// opens `/x/a`, where an image lies, with nothing beside it
+fn open_lone(alloc: Global, image: Vec<u8>) -> Result<OwnedBundle> {
+    open(alloc, &mut holding(alloc, image)?)
+}
+
+// opens `/x/a`, where an image lies, with one more file
+fn open_with(alloc: Global, image: Vec<u8>, path: &str, file: &[u8]) -> Result<OwnedBundle> {
+    let mut files = holding(alloc, image)?;
+    files.put(path, bytes_of(alloc, file)?)?;
+    open(alloc, &mut files)
 }
 
 // opens `/x/a`

@@ -1,21 +1,19 @@
 //! The debug file of an image.
 use super::{
-    DIGITS_CHECKSUM, bytes_of, differs, is_at, is_invalid, linked, open, refusal, stands_alone,
-    with_section,
+    DIGITS_CHECKSUM, bytes_of, differs, holding, is_at, linked, open, open_lone, open_with,
+    refusal, stands_alone,
 };
 use blz_bundle::OwnedBundle;
 use blz_error::ErrorKind;
-use blz_images::{ByteOrder, Image, Section, build_id_note, debug_link};
+use blz_images::{ByteOrder, Image, build_id_note, debug_link};
 use blz_links::MemoryFiles;
 use std::test::Fail;
 
 #[test]
 fn the_debug_file_beside_an_image_is_found(rt: HostRuntime) -> Result<(), Fail> {
     let alloc = rt.alloc();
-    let mut files = MemoryFiles::new(alloc);
-    files.put("/x/a", linked(alloc, "a.debug", DIGITS_CHECKSUM)?)?;
-    files.put("/x/a.debug", bytes_of(alloc, b"123456789")?)?;
-    let opened = open(alloc, &mut files)?;
+    let image = linked(alloc, "a.debug", DIGITS_CHECKSUM)?;
+    let opened = open_with(alloc, image, "/x/a.debug", b"123456789")?;
     assert!(rt; opened.bundle().module == Some("/x/a"));
     assert!(rt; is_at(opened.bundle().linkee, "/x/a.debug", b"123456789"));
     Ok(())
@@ -26,8 +24,7 @@ fn a_checksum_that_differs_ends_opening_and_no_later_file_is_tried(
     rt: HostRuntime,
 ) -> Result<(), Fail> {
     let alloc = rt.alloc();
-    let mut files = MemoryFiles::new(alloc);
-    files.put("/x/a", linked(alloc, "a.debug", DIGITS_CHECKSUM)?)?;
+    let mut files = holding(alloc, linked(alloc, "a.debug", DIGITS_CHECKSUM)?)?;
     files.put("/x/a.debug", Vec::new(alloc))?;
     files.put("/usr/lib/debug/x/a.debug", bytes_of(alloc, b"123456789")?)?;
     // the calls before: a read, the path of the linker, three candidates, a read
@@ -48,11 +45,8 @@ fn the_debug_file_is_found_by_the_build_id_of_the_image(rt: HostRuntime) -> Resu
     let link = debug_link(alloc, ByteOrder::Little, "a.debug", DIGITS_CHECKSUM)?;
     let image = Image::elf64(alloc).section(".note", 7, &notes)?;
     let image = image.section(".gnu_debuglink", 1, &link)?.bytes()?;
-    let mut files = MemoryFiles::new(alloc);
-    files.put("/x/a", image)?;
     let path = "/usr/lib/debug/.build-id/be/efbeeffeedbabe.debug";
-    files.put(path, bytes_of(alloc, b"123456789")?)?;
-    let opened = open(alloc, &mut files)?;
+    let opened = open_with(alloc, image, path, b"123456789")?;
     assert!(rt; is_at(opened.bundle().linkee, path, b"123456789"));
     Ok(())
 }
@@ -62,8 +56,7 @@ fn debug_directories_that_are_handed_in_stand_in_place_of_the_default_ones(
     rt: HostRuntime,
 ) -> Result<(), Fail> {
     let alloc = rt.alloc();
-    let mut files = MemoryFiles::new(alloc);
-    files.put("/x/a", linked(alloc, "a.debug", DIGITS_CHECKSUM)?)?;
+    let mut files = holding(alloc, linked(alloc, "a.debug", DIGITS_CHECKSUM)?)?;
     files.put("/opt/debug/a.debug", bytes_of(alloc, b"123456789")?)?;
     let dirs = [String::from_str(alloc, "/opt/debug")?];
     let opened = OwnedBundle::open_with_debug_dirs(alloc, &mut files, "/x/a", &dirs)?;
@@ -74,22 +67,16 @@ fn debug_directories_that_are_handed_in_stand_in_place_of_the_default_ones(
 }
 
 #[test]
-fn an_image_with_a_link_to_itself_stands_alone(rt: HostRuntime) -> Result<(), Fail> {
+fn a_link_to_the_image_itself_or_to_a_directory_leads_nowhere(rt: HostRuntime) -> Result<(), Fail> {
     let alloc = rt.alloc();
-    let mut files = MemoryFiles::new(alloc);
-    files.put("/x/a", linked(alloc, "a", 0)?)?;
-    let opened = open(alloc, &mut files)?;
-    assert!(rt; stands_alone(&opened.bundle()));
-    Ok(())
-}
-
-#[test]
-fn a_link_to_a_directory_that_is_no_file_leads_nowhere(rt: HostRuntime) -> Result<(), Fail> {
-    let alloc = rt.alloc();
-    let mut files = MemoryFiles::new(alloc);
-    files.put("/x/a", linked(alloc, "debug/", 0)?)?;
-    files.put("/x/debug/b", bytes_of(alloc, b"123456789")?)?;
-    let opened = open(alloc, &mut files)?;
+    let lone = open_lone(alloc, linked(alloc, "a", 0)?)?;
+    assert!(rt; stands_alone(&lone.bundle()));
+    let opened = open_with(
+        alloc,
+        linked(alloc, "debug/", 0)?,
+        "/x/debug/b",
+        b"123456789",
+    )?;
     assert!(rt; stands_alone(&opened.bundle()));
     Ok(())
 }
@@ -100,28 +87,5 @@ fn a_path_that_names_nothing_is_not_found(rt: HostRuntime) -> Result<(), Fail> {
     let mut files = MemoryFiles::new(alloc);
     files.put("/x/a/", Vec::new(alloc))?;
     assert_eq!(rt; refusal(open(alloc, &mut files)), Some(ErrorKind::NotFound));
-    Ok(())
-}
-
-#[test]
-fn a_broken_link_is_invalid(rt: HostRuntime) -> Result<(), Fail> {
-    let alloc = rt.alloc();
-    let mut files = MemoryFiles::new(alloc);
-    files.put("/x/a", with_section(alloc, ".gnu_debuglink", b"a.debug\0")?)?;
-    assert!(rt; is_invalid(open(alloc, &mut files)));
-    Ok(())
-}
-
-#[test]
-fn a_compressed_link_is_unsupported(rt: HostRuntime) -> Result<(), Fail> {
-    let alloc = rt.alloc();
-    let section = Section::new(".gnu_debuglink", 1, &[0; 24]).with_flags(0x800);
-    let image = Image::elf64(alloc).add_section(section)?.bytes()?;
-    let mut files = MemoryFiles::new(alloc);
-    files.put("/x/a", image)?;
-    assert_eq!(rt;
-        refusal(open(alloc, &mut files)),
-        Some(ErrorKind::Unsupported)
-    );
     Ok(())
 }

@@ -1,8 +1,8 @@
 //! A file that is gone when it is read.
-use super::{DIGITS_CHECKSUM, bytes_of, linked, refusal, with_build_id, with_section};
+use super::{DIGITS_CHECKSUM, bytes_of, holding, linked, refusal};
 use blz_bundle::OwnedBundle;
 use blz_error::ErrorKind;
-use blz_images::debug_altlink;
+use blz_images::{debug_altlink, with_build_id, with_section};
 use blz_links::{Files, FilesFault, MemoryFiles, Stamp};
 use std::alloc::Global;
 use std::test::Fail;
@@ -47,8 +47,7 @@ impl Files for Vanishing {
 #[test]
 fn a_debug_file_that_vanishes_is_not_found(rt: HostRuntime) -> Result<(), Fail> {
     let alloc = rt.alloc();
-    let mut files = MemoryFiles::new(alloc);
-    files.put("/x/a", linked(alloc, "a.debug", DIGITS_CHECKSUM)?)?;
+    let mut files = holding(alloc, linked(alloc, "a.debug", DIGITS_CHECKSUM)?)?;
     files.put("/x/a.debug", bytes_of(alloc, b"123456789")?)?;
     let mut files = Vanishing { files };
     let opened = OwnedBundle::open(alloc, &mut files, "/x/a");
@@ -60,8 +59,7 @@ fn a_debug_file_that_vanishes_is_not_found(rt: HostRuntime) -> Result<(), Fail> 
 fn a_shared_file_that_vanishes_is_not_found(rt: HostRuntime) -> Result<(), Fail> {
     let alloc = rt.alloc();
     let link = debug_altlink(alloc, "a.debug", b"12345678")?;
-    let mut files = MemoryFiles::new(alloc);
-    files.put("/x/a", with_section(alloc, ".gnu_debugaltlink", &link)?)?;
+    let mut files = holding(alloc, with_section(alloc, ".gnu_debugaltlink", &link)?)?;
     files.put("/x/a.debug", with_build_id(alloc, b"12345678")?)?;
     let mut files = Vanishing { files };
     let opened = OwnedBundle::open(alloc, &mut files, "/x/a");
