@@ -24,10 +24,7 @@ fn a_unit_that_a_set_names_is_built_when_an_address_reaches_it(
     let none = RelocationMap::new(alloc);
     let dwarf = file_of(INFO, ABBREV, ARANGES, &none);
     let orders = &mut AsTheyStand;
-    let Ok(mut units) = Units::parse(alloc, orders, &dwarf) else {
-        assert!(rt; false);
-        return Ok(());
-    };
+    let mut units = Units::parse(alloc, orders, &dwarf)?;
     assert_eq!(rt; units.len(), 2);
     assert!(rt; matches!(units.find_function(alloc, orders, &dwarf, 0x10), Ok(None)));
     assert!(rt; matches!(units.find_function(alloc, orders, &dwarf, 0x30), Ok(None)));
@@ -41,10 +38,7 @@ fn a_unit_without_its_abbreviations_cannot_be_built(rt: HostRuntime) -> Result<(
     let alloc = rt.alloc();
     let none = RelocationMap::new(alloc);
     let dwarf = file_of(INFO, ABBREV, ARANGES, &none);
-    let Ok(mut units) = Units::parse(alloc, &mut AsTheyStand, &dwarf) else {
-        assert!(rt; false);
-        return Ok(());
-    };
+    let mut units = Units::parse(alloc, &mut AsTheyStand, &dwarf)?;
     if units.len() != 2 {
         assert!(rt; false);
         return Ok(());
@@ -60,10 +54,7 @@ fn a_unit_that_cannot_be_built_is_not_kept(rt: HostRuntime) -> Result<(), Fail> 
     let alloc = rt.alloc();
     let none = RelocationMap::new(alloc);
     let dwarf = file_of(INFO, ABBREV, &[], &none);
-    match Units::parse(alloc, &mut AsTheyStand, &dwarf) {
-        Ok(units) => assert_eq!(rt; units.len(), 1),
-        Err(_) => assert!(rt; false),
-    }
+    assert_eq!(rt; Units::parse(alloc, &mut AsTheyStand, &dwarf)?.len(), 1);
     Ok(())
 }
 
@@ -72,16 +63,10 @@ fn an_offset_leads_into_the_unit_around_it(rt: HostRuntime) -> Result<(), Fail> 
     let alloc = rt.alloc();
     let none = RelocationMap::new(alloc);
     let dwarf = file_of(INFO, ABBREV, ARANGES, &none);
-    let Ok(units) = Units::parse(alloc, &mut AsTheyStand, &dwarf) else {
-        assert!(rt; false);
-        return Ok(());
-    };
+    let units = Units::parse(alloc, &mut AsTheyStand, &dwarf)?;
     // the entries of the units stand at 11 and at 23
     for (offset, number, distance) in [(11, 0, 11), (23, 1, 11)] {
-        match units.find_unit(offset) {
-            Ok((unit, place)) => assert!(rt; unit == number && place == distance),
-            Err(_) => assert!(rt; false),
-        }
+        assert!(rt; units.find_unit(offset)? == (number, distance));
     }
     // the start of a unit, and the end of the last
     for offset in [12, 24] {

@@ -1,6 +1,6 @@
 //! Units that are asked, each part of which is read when it is first needed.
 
-use super::small::file_of;
+use super::small::{file_of, refusal};
 use blz_bytes::AsTheyStand;
 use blz_error::ErrorKind;
 use blz_index::Units;
@@ -48,18 +48,10 @@ fn a_name_is_looked_for_over_sixteen_entries(rt: HostRuntime) -> Result<(), Fail
     for (info, named) in [(SIXTEEN, true), (SEVENTEEN, false), (CYCLE, false)] {
         let dwarf = file_of(info, ABBREV, ARANGES, &none);
         let orders = &mut AsTheyStand;
-        let Ok(mut units) = Units::parse(alloc, orders, &dwarf) else {
-            assert!(rt; false);
-            return Ok(());
-        };
-        let Ok(Some((unit, number))) = units.find_function(alloc, orders, &dwarf, 0x12) else {
-            assert!(rt; false);
-            return Ok(());
-        };
-        let Some(function) = units.function(unit, number) else {
-            assert!(rt; false);
-            return Ok(());
-        };
+        let mut units = Units::parse(alloc, orders, &dwarf)?;
+        let found = units.find_function(alloc, orders, &dwarf, 0x12)?;
+        let (unit, number) = found.ok_or("a function")?;
+        let function = units.function(unit, number).ok_or("what it is")?;
         assert!(rt; function.name.is_some() == named);
     }
     Ok(())
@@ -71,21 +63,12 @@ fn a_unit_is_read_when_an_address_reaches_it(rt: HostRuntime) -> Result<(), Fail
     let none = RelocationMap::new(alloc);
     let dwarf = file_of(BROKEN, ABBREV, BOTH, &none);
     let orders = &mut AsTheyStand;
-    let Ok(mut units) = Units::parse(alloc, orders, &dwarf) else {
-        assert!(rt; false);
-        return Ok(());
-    };
+    let mut units = Units::parse(alloc, orders, &dwarf)?;
     assert!(rt; units.len() == 2);
     assert!(rt; matches!(units.find_function(alloc, orders, &dwarf, 0x12), Ok(None)));
-    let Err(fault) = units.find_function(alloc, orders, &dwarf, 0x22) else {
-        assert!(rt; false);
-        return Ok(());
-    };
-    assert!(rt; fault.kind() == ErrorKind::InvalidDwarf);
-    if units.prepare(alloc, orders, &dwarf).is_err() {
-        assert!(rt; false);
-        return Ok(());
-    }
+    let broken = units.find_function(alloc, orders, &dwarf, 0x22);
+    assert!(rt; refusal(broken) == Some(ErrorKind::InvalidDwarf));
+    units.prepare(alloc, orders, &dwarf)?;
     assert!(rt; units.is_prepared());
     Ok(())
 }

@@ -1,5 +1,5 @@
 //! Functions and inlined calls of a small unit, whose places and ranges were counted by hand.
-use super::small::{file_of, refusal};
+use super::small::{file_of, only_unit, refusal};
 use blz_bytes::{AsTheyStand, ByStdSort};
 use blz_entry::{StrPart, StrPlace};
 use blz_error::ErrorKind;
@@ -39,18 +39,8 @@ fn the_functions_with_a_range_are_listed(rt: HostRuntime) -> Result<(), Fail> {
     let alloc = rt.alloc();
     let none = RelocationMap::new(alloc);
     let dwarf = file_of(INFO, ABBREV, ARANGES, &none);
-    let Ok(mut units) = Units::parse(alloc, &mut ByStdSort, &dwarf) else {
-        assert!(rt; false);
-        return Ok(());
-    };
-    if units.len() != 1 {
-        assert!(rt; false);
-        return Ok(());
-    }
-    let Ok(functions) = units.parse_functions(alloc, &mut ByStdSort, &dwarf, 0) else {
-        assert!(rt; false);
-        return Ok(());
-    };
+    let mut units = only_unit(alloc, &mut ByStdSort, &dwarf)?;
+    let functions = units.parse_functions(alloc, &mut ByStdSort, &dwarf, 0)?;
     let list = functions.functions();
     assert!(rt; list.len() == 2);
     assert!(rt; list[0].place == 12 && list[0].name == name_at(13));
@@ -64,10 +54,7 @@ fn the_innermost_function_of_an_address_is_found(rt: HostRuntime) -> Result<(), 
     let none = RelocationMap::new(alloc);
     let dwarf = file_of(INFO, ABBREV, ARANGES, &none);
     let orders = &mut AsTheyStand;
-    let Ok(mut units) = Units::parse(alloc, orders, &dwarf) else {
-        assert!(rt; false);
-        return Ok(());
-    };
+    let mut units = Units::parse(alloc, orders, &dwarf)?;
     let inner = units.find_function(alloc, orders, &dwarf, 0x1012);
     assert!(rt; matches!(inner, Ok(Some((0, 1)))));
     let outer = units.find_function(alloc, orders, &dwarf, 0x1014);
@@ -82,45 +69,14 @@ fn the_calls_below_a_function_are_its_own(rt: HostRuntime) -> Result<(), Fail> {
     let alloc = rt.alloc();
     let none = RelocationMap::new(alloc);
     let dwarf = file_of(INFO, ABBREV, ARANGES, &none);
-    let orders = &mut ByStdSort;
-    let Ok(mut units) = Units::parse(alloc, orders, &dwarf) else {
-        assert!(rt; false);
-        return Ok(());
-    };
-    if units.len() != 1 {
-        assert!(rt; false);
-        return Ok(());
-    }
-    let Ok(calls) = units.parse_inlined_functions(alloc, orders, &dwarf, 0, 0) else {
-        assert!(rt; false);
-        return Ok(());
-    };
+    let mut units = only_unit(alloc, &mut ByStdSort, &dwarf)?;
+    let calls = units.parse_inlined_functions(alloc, &mut ByStdSort, &dwarf, 0, 0)?;
     let list = calls.calls();
     assert!(rt; list.len() == 2);
     assert!(rt; list[0].name == name_at(26) && list[0].call_file == Some(1));
     assert!(rt; list[0].call_line == 5 && list[0].call_column == 3);
     assert!(rt; list[1].name == name_at(41) && list[1].call_file == None);
-    Ok(())
-}
-
-#[test]
-fn the_calls_of_an_address_are_the_outermost_first(rt: HostRuntime) -> Result<(), Fail> {
-    let alloc = rt.alloc();
-    let none = RelocationMap::new(alloc);
-    let dwarf = file_of(INFO, ABBREV, ARANGES, &none);
-    let orders = &mut ByStdSort;
-    let Ok(mut units) = Units::parse(alloc, orders, &dwarf) else {
-        assert!(rt; false);
-        return Ok(());
-    };
-    if units.len() != 1 {
-        assert!(rt; false);
-        return Ok(());
-    }
-    let Ok(calls) = units.parse_inlined_functions(alloc, orders, &dwarf, 0, 0) else {
-        assert!(rt; false);
-        return Ok(());
-    };
+    // of an address the outermost first
     let deep = calls.find_inlined_functions(alloc, 0x1006)?;
     assert!(rt; deep.as_slice() == [0, 1].as_slice());
     let shallow = calls.find_inlined_functions(alloc, 0x1005)?;
@@ -137,18 +93,8 @@ fn a_function_below_another_has_calls_of_its_own(rt: HostRuntime) -> Result<(), 
     // closed or not, f is around n
     for info in [INFO, CUT] {
         let dwarf = file_of(info, ABBREV, ARANGES, &none);
-        let Ok(mut units) = Units::parse(alloc, orders, &dwarf) else {
-            assert!(rt; false);
-            return Ok(());
-        };
-        if units.len() != 1 {
-            assert!(rt; false);
-            return Ok(());
-        }
-        let Ok(inner) = units.parse_inlined_functions(alloc, orders, &dwarf, 0, 1) else {
-            assert!(rt; false);
-            return Ok(());
-        };
+        let mut units = only_unit(alloc, orders, &dwarf)?;
+        let inner = units.parse_inlined_functions(alloc, orders, &dwarf, 0, 1)?;
         assert!(rt; inner.calls().len() == 1 && inner.calls()[0].name == name_at(70));
     }
     Ok(())
@@ -160,18 +106,8 @@ fn an_open_function_is_listed_and_has_no_calls(rt: HostRuntime) -> Result<(), Fa
     let none = RelocationMap::new(alloc);
     let dwarf = file_of(CUT, ABBREV, ARANGES, &none);
     let orders = &mut ByStdSort;
-    let Ok(mut units) = Units::parse(alloc, orders, &dwarf) else {
-        assert!(rt; false);
-        return Ok(());
-    };
-    if units.len() != 1 {
-        assert!(rt; false);
-        return Ok(());
-    }
-    match units.find_function(alloc, orders, &dwarf, 0x1014) {
-        Ok(found) => assert!(rt; found == Some((0, 0))),
-        Err(_) => assert!(rt; false),
-    }
+    let mut units = only_unit(alloc, orders, &dwarf)?;
+    assert!(rt; units.find_function(alloc, orders, &dwarf, 0x1014)? == Some((0, 0)));
     let calls = units.find_inlined_functions(alloc, orders, &dwarf, 0x1006, 0, 0);
     assert!(rt; refusal(calls) == Some(ErrorKind::InvalidDwarf));
     Ok(())

@@ -1,7 +1,7 @@
 //! Functions of several units by a name, and all of them one after the other.
 ghost use Rattle.std.specs.Prelude.{None};
 
-use super::small::file_of;
+use super::small::{file_of, refusal};
 use blz_bytes::AsTheyStand;
 use blz_error::ErrorKind;
 use blz_index::{Function, Units, VisitFunction};
@@ -28,19 +28,10 @@ fn each_unit_gives_its_first_function_of_a_name(rt: HostRuntime) -> Result<(), F
     let none = RelocationMap::new(alloc);
     let dwarf = file_of(THREE, ABBREV, &[], &none);
     let orders = &mut AsTheyStand;
-    let Ok(mut units) = Units::parse(alloc, orders, &dwarf) else {
-        assert!(rt; false);
-        return Ok(());
-    };
-    let Ok(found) = units.find_name(alloc, orders, &dwarf, "n") else {
-        assert!(rt; false);
-        return Ok(());
-    };
+    let mut units = Units::parse(alloc, orders, &dwarf)?;
+    let found = units.find_name(alloc, orders, &dwarf, "n")?;
     assert!(rt; found.len() == 2 && found[0] == (0, 1) && found[1] == (2, 0));
-    let Ok(found) = units.find_name(alloc, orders, &dwarf, "") else {
-        assert!(rt; false);
-        return Ok(());
-    };
+    let found = units.find_name(alloc, orders, &dwarf, "")?;
     assert!(rt; found.is_empty());
     Ok(())
 }
@@ -70,42 +61,34 @@ impl VisitFunction for Count {
     }
 }
 
-fn counted(alloc: Global, info: &'static [u8], end: usize) -> Option<(Count, Option<ErrorKind>)> {
+// the count of the functions of a file that are shown, and why no further one was
+fn counted(
+    alloc: Global,
+    info: &'static [u8],
+    end: usize,
+) -> Result<(Count, Option<ErrorKind>), Fail> {
     let none = RelocationMap::new(alloc);
     let dwarf = file_of(info, ABBREV, &[], &none);
     let orders = &mut AsTheyStand;
-    let Ok(mut units) = Units::parse(alloc, orders, &dwarf) else {
-        return None;
-    };
+    let mut units = Units::parse(alloc, orders, &dwarf)?;
     let mut count = Count {
         end,
         shown: 0,
         unit: 0,
         stopped: false,
     };
-    match units.for_each_function(alloc, orders, &dwarf, &mut count) {
-        Ok(()) => Some((count, None)),
-        Err(fault) => Some((count, Some(fault.kind()))),
-    }
+    let fault = refusal(units.for_each_function(alloc, orders, &dwarf, &mut count));
+    Ok((count, fault))
 }
 
 #[test]
 fn all_functions_are_shown_until_a_break_or_a_mark(rt: HostRuntime) -> Result<(), Fail> {
     let alloc = rt.alloc();
-    let Some((all, fault)) = counted(alloc, THREE, 9) else {
-        assert!(rt; false);
-        return Ok(());
-    };
+    let (all, fault) = counted(alloc, THREE, 9)?;
     assert!(rt; fault.is_none() && all.shown == 5 && all.unit == 2);
-    let Some((some, fault)) = counted(alloc, THREE, 4) else {
-        assert!(rt; false);
-        return Ok(());
-    };
+    let (some, fault) = counted(alloc, THREE, 4)?;
     assert!(rt; fault.is_none() && some.shown == 4 && some.unit == 1);
-    let Some((whole, fault)) = counted(alloc, BROKEN, 9) else {
-        assert!(rt; false);
-        return Ok(());
-    };
+    let (whole, fault) = counted(alloc, BROKEN, 9)?;
     assert!(rt; fault == Some(ErrorKind::InvalidDwarf) && whole.shown == 1);
     Ok(())
 }

@@ -1,7 +1,7 @@
 //! Ranges in orders that are accepted and that are not, and the chain of inlined calls.
 ghost use Rattle.std.specs.Prelude.{◌≡◌, ◌<◌};
 
-use super::small::file_of;
+use super::small::{file_of, only_unit};
 use blz_bytes::{AsTheyStand, ByStdSort, Orders, Steps};
 use blz_images::codes::*;
 use blz_images::{Attribute, ByteOrder, DebugInfo};
@@ -108,18 +108,8 @@ fn a_chain_goes_down_by_depth(rt: HostRuntime) -> Result<(), Fail> {
     let none = RelocationMap::new(alloc);
     let dwarf = file_of(entries.info(), &abbreviations, &[], &none);
     let orders = &mut ByStdSort;
-    let Ok(mut units) = Units::parse(alloc, orders, &dwarf) else {
-        assert!(rt; false);
-        return Ok(());
-    };
-    if units.len() != 1 {
-        assert!(rt; false);
-        return Ok(());
-    }
-    let Ok(calls) = units.parse_inlined_functions(alloc, orders, &dwarf, 0, 0) else {
-        assert!(rt; false);
-        return Ok(());
-    };
+    let mut units = only_unit(alloc, orders, &dwarf)?;
+    let calls = units.parse_inlined_functions(alloc, orders, &dwarf, 0, 0)?;
     let deep = calls.find_inlined_functions(alloc, 7)?;
     assert!(rt; deep.as_slice() == [0, 2].as_slice());
     let shallow = calls.find_inlined_functions(alloc, 3)?;

@@ -1,13 +1,17 @@
 //! Files of units, in the little-endian order.
-ghost use Rattle.std.specs.Prelude.{◌≡◌};
+ghost use Rattle.std.specs.Prelude.{◌≡◌, length, IfOk};
 ghost use Rattle.std.specs.FinMap as map;
-ghost use Rattle.blz_units.specs.BuiltUnits.{IsReadable};
+ghost use Rattle.blz_index.specs.UnitsWarm.{UnitsFit, units_table};
+ghost use Rattle.blz_units.specs.BuiltUnits.{files_view, IsReadable};
 
+use blz_bytes::Orders;
 use blz_entry::{Section, Sections, Texts};
 use blz_error::{ErrorKind, Result};
-use blz_index::Dwarf;
+use blz_index::{Dwarf, Units};
 use blz_model::ByteOrder;
 use blz_moves::RelocationMap;
+use std::alloc::Global;
+use std::test::Fail;
 
 fn section<'s, 'b>(bytes: &'b [u8], none: &'s RelocationMap) -> Section<'s, 'b> {
     Section {
@@ -59,6 +63,23 @@ pub fn file_of<'s, 'b>(
         package: None,
         none,
         sup: None,
+    }
+}
+
+/// The units of a file that has one.
+pub fn only_unit<O: Orders>(
+    alloc: Global,
+    orders: &mut O,
+    dwarf: &Dwarf<'_, '_>,
+) -> std::result::Result<Units, Fail>
+    requires { IsReadable dwarf.now }
+    ensures fits { IfOk result (UnitsFit (files_view dwarf.now)) }
+    ensures one { IfOk result (λ u. length (units_table u).kept ≡ 1) }
+{
+    let units = Units::parse(alloc, orders, dwarf)?;
+    match units.len() {
+        1 => Ok(units),
+        _ => Err(Fail::from("not one unit")),
     }
 }
 
