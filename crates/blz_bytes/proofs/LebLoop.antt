@@ -48,7 +48,7 @@ fits_step v f low i small power lt low_small =
     (omega arith, omega arith, next)
 
 -- a number of one byte
-leb_one : (m n at byte : ℕ) (bytes : List ℕ) → m ≡ suc n → slice_get bytes at ≡ Some byte → byte < 128 → leb_in m bytes at ≡ Some (record { value = byte; weight = 128; negative = leb 64 byte }, at + 1)
+pub leb_one : (m n at byte : ℕ) (bytes : List ℕ) → m ≡ suc n → slice_get bytes at ≡ Some byte → byte < 128 → leb_in m bytes at ≡ Some (record { value = byte; weight = 128; negative = leb 64 byte }, at + 1)
 unfolding leb_in
 leb_one m n at byte bytes em h lt = rw (em, h, lt-ltb byte 128 lt) refl
 

@@ -8,4 +8,5 @@ pub mod PairOrdering
 pub mod Pairs
 pub mod RecordsLoop
 pub mod Retaining
+pub mod SignedBytes
 pub mod ZeroEnded

@@ -1,6 +1,6 @@
 //! LEB128 numbers (DWARF 5 section 7.6).
-ghost use Rattle.std.specs.Prelude.{◌≡◌, ◌≤◌, ◌<◌, ◌^◌, IfSome, length};
-ghost use Rattle.blz_model.specs.LebNumbers.{leb_in, uleb, sleb};
+ghost use Rattle.std.specs.Prelude.{◌≡◌, ◌≤◌, ◌<◌, ◌^◌, IfSome, length, option_map};
+ghost use Rattle.blz_model.specs.LebNumbers.{leb_in, uleb, sleb, signed, fits_i64};
 
 use blz_model::Leb;
 
@@ -70,13 +70,13 @@ pub fn uleb_at(bytes: &[u8], at: usize) -> Option<(u64, usize)>
     Some((leb.value as u64, next))
 }
 
-/// A signed number; none where it does not end within ten bytes or the slice, or does not fit.
-#[tactic(auto, unfolding(blz_model::specs::LebNumbers::sleb))]
-pub fn sleb_at(bytes: &[u8], at: usize) -> Option<(i64, usize)>
-    ensures value { result ≡ sleb bytes.now at }
-    ensures within { IfSome result (λ r. (at < r.1) × (r.1 ≤ length bytes.now)) }
+/// The value of a number with its sign, where it fits, and the place behind it.
+#[inline(always)]
+fn signed_of(leb: Leb, next: usize) -> Option<(i64, usize)>
+    requires { (leb.value < leb.weight) × (leb.weight ≤ 2 ^ 70) }
+    ensures value { result ≡ option_map (λ v. (v, next)) (fits_i64 (signed leb)) }
+    ensures place { IfSome result (λ r. r.1 ≡ next) }
 {
-    let (leb, next) = leb_at(bytes, at)?;
     let value = if leb.negative {
         leb.value as i128 - leb.weight as i128
     } else {
@@ -86,4 +86,23 @@ pub fn sleb_at(bytes: &[u8], at: usize) -> Option<(i64, usize)>
         return None;
     }
     Some((value as i64, next))
+}
+
+/// A signed number; none where it does not end within ten bytes or the slice, or does not fit.
+#[inline(always)]
+pub fn sleb_at(bytes: &[u8], at: usize) -> Option<(i64, usize)>
+    ensures value { result ≡ sleb bytes.now at }
+    ensures within { IfSome result (λ r. (at < r.1) × (r.1 ≤ length bytes.now)) }
+{
+    // most numbers have one byte
+    if at < bytes.len() && bytes[at] < 128 {
+        let leb = Leb {
+            value: u128::from(bytes[at]),
+            weight: 128,
+            negative: bytes[at] >= 64,
+        };
+        return signed_of(leb, at + 1);
+    }
+    let (leb, next) = leb_at(bytes, at)?;
+    signed_of(leb, next)
 }

@@ -3,4 +3,3 @@ pub mod TableSteps
 pub mod AllFiles
 pub mod RowsUpTo
 pub mod RisingRows
-pub mod SignedBytes

@@ -53,40 +53,6 @@ fn ulebs_passed(count: u8, bytes: &[u8], at: usize) -> Option<usize>
     Some(offset)
 }
 
-/// The value of a number with its sign, where it fits, and the place behind it.
-#[inline(always)]
-fn signed_of(leb: Leb, next: usize) -> Option<(i64, usize)>
-    requires { (leb.value < leb.weight) × (leb.weight ≤ 2 ^ 70) }
-    ensures value { result ≡ option_map (λ v. (v, next)) (fits_i64 (signed leb)) }
-    ensures place { IfSome result (λ r. r.1 ≡ next) }
-{
-    let value = if leb.negative {
-        leb.value as i128 - leb.weight as i128
-    } else {
-        leb.value as i128
-    };
-    if value < -(1 << 63) || value >= 1 << 63 {
-        return None;
-    }
-    Some((value as i64, next))
-}
-
-/// A number with a sign, most of which have one byte.
-fn signed_at(bytes: &[u8], at: usize) -> Option<(i64, usize)>
-    ensures value { result ≡ sleb bytes.now at }
-    ensures within { IfSome result (λ r. (at < r.1) × (r.1 ≤ length bytes.now)) }
-{
-    if at < bytes.len() && bytes[at] < 128 {
-        let leb = Leb {
-            value: u128::from(bytes[at]),
-            weight: 128,
-            negative: bytes[at] >= 64,
-        };
-        return signed_of(leb, at + 1);
-    }
-    sleb_at(bytes, at)
-}
-
 #[tactic(auto, unfolding(crate::specs::Opcodes::extended_op))]
 fn extended_op(rules: Rules, section: &Section<'_, '_>, code: u8, at: usize) -> Option<Op>
     ensures { result ≡ extended_op rules (section_view section.now) code at }
@@ -142,7 +108,7 @@ fn standard_at(
             Some((Op::AdvancePc(count), next))
         }
         dwarf::DW_LNS_advance_line => {
-            let (by, next) = signed_at(bytes, at)?;
+            let (by, next) = sleb_at(bytes, at)?;
             Some((Op::AdvanceLine(by), next))
         }
         dwarf::DW_LNS_set_file => {

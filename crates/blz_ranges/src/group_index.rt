@@ -65,7 +65,8 @@ fn scan<L: Ledger>(
     after: &Option<Placed>,
     steps: &mut Steps<L>,
 ) -> Option<Placed>
-    ensures { result ≡ best_by (in_group list.now group (passes addr after.now)) 0 (spans_of list.now) }
+    ensures best { result ≡ best_by (in_group list.now group (passes addr after.now)) 0 (spans_of list.now) }
+    ensures later { steps.old ≤ steps.new }
 {
     let mut best: Option<Placed> = None;
     let mut at = list.len();
@@ -123,6 +124,7 @@ impl GroupIndex {
     pub fn best_in<L: Ledger>(&self, group: usize, addr: u64, steps: &mut Steps<L>) -> Option<usize>
         ensures best { result ≡ best_in self.now.list group addr }
         ensures cost { self.now.ordered ≡ true → AreApartInGroups self.now.list → 2 ^ (steps.new - steps.old) ≤ 4 * (2 * length self.now.list + 1) }
+        ensures later { steps.old ≤ steps.new }
     {
         if self.ordered {
             let high = split(&self.order, &Target::at(group, addr), steps);
@@ -141,7 +143,8 @@ impl GroupIndex {
         steps: &mut Steps<L>,
     ) -> Option<usize>
         requires { bound < length self.now.list }
-        ensures { result ≡ next_in self.now.list group addr bound }
+        ensures next { result ≡ next_in self.now.list group addr bound }
+        ensures later { steps.old ≤ steps.new }
     {
         let Some(range) = self.list.look(bound, steps) else {
             return None;

@@ -80,6 +80,7 @@ impl OwnedRanges {
     pub fn best_at<L: Ledger>(&self, addr: u64, steps: &mut Steps<L>) -> Option<usize>
         ensures best { result ≡ best (items_of self.now.ranges) addr }
         ensures cost { self.now.ordered ≡ true → AreApart (items_of self.now.ranges) → 2 ^ (steps.new - steps.old) ≤ 4 * (2 * length self.now.ranges + 1) }
+        ensures later { steps.old ≤ steps.new }
     {
         self.index.best_at(addr, steps)
     }
@@ -92,7 +93,8 @@ impl OwnedRanges {
         steps: &mut Steps<L>,
     ) -> Option<usize>
         requires { bound < length self.now.ranges }
-        ensures { result ≡ next (items_of self.now.ranges) addr bound }
+        ensures next { result ≡ next (items_of self.now.ranges) addr bound }
+        ensures later { steps.old ≤ steps.new }
     {
         self.index.next_below(addr, bound, steps)
     }

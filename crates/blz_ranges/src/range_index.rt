@@ -66,6 +66,7 @@ impl RangeIndex {
     pub fn best_at<L: Ledger>(&self, addr: u64, steps: &mut Steps<L>) -> Option<usize>
         ensures best { result ≡ best self.now.spans addr }
         ensures cost { self.now.ordered ≡ true → AreApart self.now.spans → 2 ^ (steps.new - steps.old) ≤ 4 * (2 * length self.now.spans + 1) }
+        ensures later { steps.old ≤ steps.new }
     {
         self.index.best_in(0, addr, steps)
     }
@@ -78,7 +79,8 @@ impl RangeIndex {
         steps: &mut Steps<L>,
     ) -> Option<usize>
         requires { bound < length self.now.spans }
-        ensures { result ≡ next self.now.spans addr bound }
+        ensures next { result ≡ next self.now.spans addr bound }
+        ensures later { steps.old ≤ steps.new }
     {
         self.index.next_in(0, addr, bound, steps)
     }

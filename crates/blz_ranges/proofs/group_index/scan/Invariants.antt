@@ -5,6 +5,7 @@ use Rattle.blz_ranges.proofs.group_index.scan.Given as goal
 
 abbrev pub invariant-loop-at : goal.invariant-loop-at
 invariant-loop-at g l = record {
+  later : l.initial.steps ≤ l.steps;
   within : l.at ≤ length l.list;
   best_is : l.best ≡ best_by (in_group l.list l.group (passes l.addr l.after)) l.at (drop l.at (spans_of l.list));
 }
