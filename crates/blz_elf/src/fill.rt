@@ -48,6 +48,7 @@ pub fn sort_table<O: Orders>(
     ensures filled { is_kept table.new ≡ is_kept table.old }
     ensures before { is_sorted table.old ≡ true → is_sorted table.new ≡ true }
     ensures sorted { IfOk result (λ _. is_kept table.old ≡ true → is_sorted table.new ≡ true) }
+    ensures refused { OnErr result (table.new ≡ table.old) }
 {
     if let Cache::Value(table) = table {
         table.sort(alloc, orders, image)?;
@@ -68,6 +69,7 @@ pub fn sort_from_second<O: Orders>(
     ensures kept { Kept (TableFits image.now) (table_view image.now) table.new (image_table kind image.now) }
     ensures filled { is_kept table.new ≡ is_kept table.old }
     ensures before { is_sorted table.old ≡ true → is_sorted table.new ≡ true }
+    ensures refused { OnErr result (table.new ≡ table.old) }
 {
     if let Cache::Value(table) = table {
         table.sort_from_second(alloc, orders, image)?;
@@ -88,6 +90,7 @@ pub fn sort_kept<O: Orders>(
     ensures filled { is_kept table.new ≡ is_kept table.old }
     ensures before { is_sorted table.old ≡ true → is_sorted table.new ≡ true }
     ensures sorted { IfOk result (λ _. is_kept table.old ≡ true → is_sorted table.new ≡ true) }
+    ensures refused { OnErr result (table.new ≡ table.old) }
 {
     if let Cache::Value(table) = table {
         table.sort(alloc, orders, image.bytes())?;

@@ -1,5 +1,5 @@
 //! The names of both tables of symbols, filled and looked at.
-ghost use Rattle.std.specs.Prelude.{◌≡◌, true, List, map, IfOk};
+ghost use Rattle.std.specs.Prelude.{◌≡◌, true, List, map, IfOk, OnErr};
 ghost use Rattle.blz_model.specs.Part.{Exactly, Gives, Part};
 ghost use Rattle.blz_model.specs.Kept.{Kept, is_kept};
 ghost use Rattle.blz_image.specs.declared.symbols.TableKind.TheVariants.{Symtab, Dynsym};
@@ -76,6 +76,7 @@ fn keep(
     ensures kept { NamesKept kind image.now names.new }
     ensures full { IfOk result (λ _. is_kept names.new ≡ true) }
     ensures before { is_kept names.old ≡ true → is_kept names.new ≡ true }
+    ensures refused { OnErr result (names.new ≡ names.old) }
 {
     match read {
         Ok(read) => {
@@ -105,6 +106,7 @@ pub fn fill_static(
     ensures names { NamesKept Symtab image.now names.new }
     ensures names_full { IfOk result (λ _. is_kept names.new ≡ true) }
     ensures names_before { is_kept names.old ≡ true → is_kept names.new ≡ true }
+    ensures refused { OnErr result (names.new ≡ names.old) }
 {
     fill_table(symtab, image, TableKind::Symtab);
     if let Cache::Empty = names {
@@ -134,6 +136,7 @@ pub fn fill_dynamic<O: Orders>(
     ensures names { NamesKept Dynsym image.now names.new }
     ensures names_full { IfOk result (λ _. is_kept names.new ≡ true) }
     ensures names_before { is_kept names.old ≡ true → is_kept names.new ≡ true }
+    ensures refused { OnErr result (names.new ≡ names.old) }
 {
     fill_table(dynsym, image, TableKind::Dynsym);
     if let Cache::Empty = names {
@@ -199,6 +202,7 @@ pub fn sort_names<O: Orders>(
     requires { NamesKept kind image.now names.old }
     ensures kept { NamesKept kind image.now names.new }
     ensures filled { is_kept names.new ≡ is_kept names.old }
+    ensures refused { OnErr result (names.new ≡ names.old) }
 {
     if let Cache::Value(names) = names {
         names.sort(alloc, orders, image.bytes())?;
@@ -218,6 +222,7 @@ fn sort_for<O: Orders>(
     requires { NamesKept kind image.now names.old }
     ensures kept { NamesKept kind image.now names.new }
     ensures filled { is_kept names.new ≡ is_kept names.old }
+    ensures refused { OnErr result (names.new ≡ names.old) }
 {
     match wanted {
         Wanted::Called(_) => sort_names(alloc, orders, image, kind, names),

@@ -84,6 +84,7 @@ pub fn next_name<'b>(table: &'b [u8], last: Option<ReadName<'b>>, at: u32) -> Re
     requires { IfSome last (λ r. name_at table.now r.at ≡ Good r.text.now) }
     ensures value { Exactly (λ _. value_or [] (name_at table.now at)) result (name_at table.now at) }
     ensures read { IfOk result (λ r. name_at table.now r.at ≡ Good r.text.now) }
+    ensures tail { IfOk result (λ r. (r.at ≤ at) × IsCharBoundary r.text.now (at - r.at)) }
 {
     match last {
         Some(read) if has_tail(&read, at) => Ok(read),

@@ -1,5 +1,5 @@
 //! The names of a table of symbols, and an order of them.
-ghost use Rattle.std.specs.Prelude.{◌≡◌, ◌<◌, true, length, map, filter, IfOk, IfSome};
+ghost use Rattle.std.specs.Prelude.{◌≡◌, ◌<◌, true, length, map, filter, IfOk, IfSome, OnErr};
 ghost use Rattle.std.specs.Option.{option_map};
 ghost use Rattle.std.specs.Ordering.{is_gt};
 ghost use Rattle.blz_bytes.specs.NameOrder.{name_cmp};
@@ -190,6 +190,7 @@ impl KeptNames {
         ensures fits { NamesFit image.now self.new }
         ensures before { is_asked self.old.order ≡ true → self.new.order ≡ self.old.order }
         ensures asked { IfOk result (λ _. is_asked self.new.order ≡ true) }
+        ensures refused { OnErr result (self.new.order ≡ self.old.order) }
     {
         if let NameOrder::Unasked = self.order {
             self.order = order_of(alloc, orders, self.strings_in(image), &self.listed)?;

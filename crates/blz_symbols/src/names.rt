@@ -1,5 +1,5 @@
 //! The symbols of a table with their names.
-ghost use Rattle.std.specs.Prelude.{◌≡◌, List, map, IfOk, IfSome};
+ghost use Rattle.std.specs.Prelude.{◌≡◌, List, map, true, IfErr, IfOk, IfSome};
 ghost use Rattle.std.specs.Option.{option_map};
 ghost use Rattle.blz_model.specs.Part.{Exactly, Gives};
 ghost use Rattle.blz_symbols.specs.NameOrders.{name_view, named_in};
@@ -77,7 +77,8 @@ impl Wanted<'_> {
         listed: &mut Vec<NamedSymbol<'b>>,
         named: NamedSymbol<'b>,
     ) -> std::result::Result<(), AllocError>
-        ensures { IfOk result (λ _. map named_view listed.new.items ≡ with_named (passes self.now) (map named_view listed.old.items) (named_view named.entry)) }
+        ensures ok { IfOk result (λ _. map named_view listed.new.items ≡ with_named (passes self.now) (map named_view listed.old.items) (named_view named.entry)) }
+        ensures err { IfErr result (λ _. (map named_view listed.new.items ≡ map named_view listed.old.items) × (passes self.now (named_view named.entry) ≡ true)) }
     {
         if self.takes(&named) {
             listed.push(named)?;

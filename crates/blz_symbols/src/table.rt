@@ -1,5 +1,5 @@
 //! A table of symbols, and its symbols in order.
-ghost use Rattle.std.specs.Prelude.{◌≡◌, IfOk, true, is_some};
+ghost use Rattle.std.specs.Prelude.{◌≡◌, IfErr, IfOk, OnErr, OnOk, false, true, is_some};
 ghost use Rattle.blz_model.specs.Part.{Exactly};
 ghost use Rattle.blz_image.specs.Places.{SpanFits, span_in, symbols_in};
 ghost use Rattle.blz_symbols.specs.Tables.{TableFits, table_view};
@@ -91,8 +91,9 @@ impl Table {
         ensures strings { self.new.strings ≡ self.old.strings }
         ensures fits { TableFits image.now self.new }
         ensures asked { self.new.asked ≡ self.old.asked }
-        ensures before { is_some self.old.sorted ≡ true → is_some self.new.sorted ≡ true }
+        ensures before { is_some self.old.sorted ≡ true → self.new.sorted ≡ self.old.sorted }
         ensures sorted { IfOk result (λ _. is_some self.new.sorted ≡ true) }
+        ensures refused { OnErr result (self.new.sorted ≡ self.old.sorted) }
     {
         if self.sorted.is_none() {
             self.sorted = Some(Sorted::read(alloc, orders, &Records::open(image, self.symbols))?);
@@ -112,8 +113,10 @@ impl Table {
         ensures strings { self.new.strings ≡ self.old.strings }
         ensures fits { TableFits image.now self.new }
         ensures asked { self.new.asked ≡ true }
-        ensures before { is_some self.old.sorted ≡ true → is_some self.new.sorted ≡ true }
+        ensures before { is_some self.old.sorted ≡ true → self.new.sorted ≡ self.old.sorted }
+        ensures first { self.old.asked ≡ false → OnOk result (self.new.sorted ≡ self.old.sorted) }
         ensures sorted { IfOk result (λ _. self.old.asked ≡ true → is_some self.new.sorted ≡ true) }
+        ensures refused { IfErr result (λ _. (self.old.asked ≡ true) × (self.new.sorted ≡ self.old.sorted)) }
     {
         if self.asked {
             return self.sort(alloc, orders, image);

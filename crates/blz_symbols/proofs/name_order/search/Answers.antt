@@ -13,7 +13,7 @@ loop-k-preserved c =
     let same : c.name_at_place-named.result.name.now ≡ c.args.name.now = equal_name c.name_at_place-named.result.name.now c.as_bytes-in-loop-k.result.now c.if-ne.ensures ∙ c.as_bytes-in-loop-k.ensures.value in
     search_on c.args.name.now (named_in c.args.strings.now c.args.listed.now) c.args.places.now c.loop-k.k _ _ c.requires c.loop-k-test.true
     (ap (λ (n : Named). n.name) (sym c.name_at_place-named.ensures) ∙ same)
-    (rw (← c.name_at_place-named.ensures) (c.in_ok-list.ensures))
+    (rw (← c.name_at_place-named.ensures) (c.in_ok-list.ensures.ok))
     c.loop-k.invariant
 
 pub returns-then-ne : goal.returns-then-ne
