@@ -1,6 +1,5 @@
 //! Opcodes and their operands.
-ghost use Rattle.std.specs.Prelude.{◌≡◌, ◌≤◌, ◌<◌, ◌+◌, ◌^◌, length, IfSome, option_map};
-ghost use Rattle.blz_model.specs.LebNumbers.{signed, fits_i64, sleb};
+ghost use Rattle.std.specs.Prelude.{◌≡◌, ◌≤◌, ◌<◌, ◌+◌, length, IfSome};
 ghost use Rattle.blz_info.specs.Contents.{section_view};
 ghost use Rattle.blz_line.specs.Opcodes.{ulebs_passed, extended_op, extended_at, standard_at, op_at};
 
@@ -9,7 +8,6 @@ use crate::rules::Rules;
 use blz_bytes::{sleb_at, u8_at, u16_at, uleb_at};
 use blz_constants::dwarf;
 use blz_entry::{Section, address_at, cut};
-use blz_model::Leb;
 
 /// An opcode with its operands (DWARF 5 section 6.2.5).
 #[derive(Clone, Copy)]

@@ -64,6 +64,7 @@ fn next_place<L: Ledger>(
     requires { IsTurn announced.now.ranges addr turn }
     ensures place { result ≡ slice_get (places_left announced.now.ranges addr turn) 0 }
     ensures cost { is_first turn ≡ true → announced.now.ordered ≡ true → AreApart (items_of announced.now.ranges) → 2 ^ (steps.new - steps.old) ≤ 4 * (2 * length announced.now.ranges + 1) }
+    ensures later { steps.old ≤ steps.new }
 {
     match turn {
         Turn::First => announced.best_at(addr, steps),
@@ -100,6 +101,7 @@ impl<'u> UnitsAt<'u> {
         ensures unit { result ≡ slice_get self.old.left 0 }
         ensures left { self.new ≡ record self.old { left = drop 1 self.old.left; fresh = false } }
         ensures cost { self.old.fresh ≡ true → self.old.announced.ordered ≡ true → AreApart (items_of self.old.announced.ranges) → 2 ^ (steps.new - steps.old) ≤ 4 * (2 * length self.old.announced.ranges + 1) }
+        ensures later { steps.old ≤ steps.new }
     {
         let place = next_place(self.announced, self.addr, self.turn, steps);
         self.turn = turn_of(place);
