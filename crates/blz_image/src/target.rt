@@ -21,6 +21,20 @@ use blz_moves::RelocationMap;
 use std::alloc::{AllocError, Global};
 use std::collections::BTreeMap;
 
+/// Whether it is noted what was read, for tables that are read later.
+#[derive(Clone, Copy)]
+enum Notes {
+    Taken,
+    Needless,
+}
+
+/// The relocations of a section as far as they were gathered, and what was read of the image for them.
+#[derive(Drop)]
+struct Gathered {
+    map: RelocationMap,
+    read: ReadPlaces,
+}
+
 /// Puts one entry, where its offset has none.
 fn put_absent(
     map: &mut RelocationMap,
@@ -63,13 +77,13 @@ fn put_unread(
     Ok(())
 }
 
-/// Puts a table beneath a map, and notes what was read where more tables come.
+/// Puts a table beneath a map, and notes what was read where that is needed.
 fn put_table(
     map: &mut RelocationMap,
     read: &mut BTreeMap<usize, usize>,
     image: &[u8],
     table: &RelocationTable,
-    is_first: bool,
+    notes: Notes,
 ) -> Result<(), AllocError>
     requires fits { TableFits image.now table.now }
     requires read { AllRead (entry_size table.now.kind table.now.entries.format.class) (is_known table.now.entries.format image.now map.old) read.old }
@@ -77,29 +91,28 @@ fn put_table(
     ensures read { OnOk result (AllRead (entry_size table.now.kind table.now.entries.format.class) (is_known table.now.entries.format image.now map.new) read.new) }
 {
     put_unread(map, read, image, table)?;
-    if !is_first {
+    if let Notes::Taken = notes {
         let size = entry_size(table.kind, table.entries.format.class);
         note_read(read, table.entries, size, image.len())?;
     }
     Ok(())
 }
 
-/// Puts a section beneath a map, where it holds relocations of the target.
+/// Puts a section beneath what was gathered, where it holds relocations of the target.
 #[tactic(auto, unfolding(crate::specs::TargetTables::beneath_section, crate::specs::TargetTables::section_mark))]
 fn put_section(
-    map: &mut RelocationMap,
-    read: &mut ReadPlaces,
+    gathered: &mut Gathered,
     image: &[u8],
     format: Format,
     sections: &SectionTable<'_>,
     section: &Section,
     target: usize,
-    is_first: bool,
+    notes: Notes,
 ) -> Result<(), AllocError>
     requires mark { section_mark format image.now sections.now section.now ≡ Good tt }
-    requires read { AreRead format image.now map.old read.old }
-    ensures value { OnOk result (map.new ≡ beneath_section format image.now sections.now target map.old section.now) }
-    ensures read { OnOk result (AreRead format image.now map.new read.new) }
+    requires read { AreRead format image.now gathered.old.map gathered.old.read }
+    ensures value { OnOk result (gathered.new.map ≡ beneath_section format image.now sections.now target gathered.old.map section.now) }
+    ensures read { OnOk result (AreRead format image.now gathered.new.map gathered.new.read) }
 {
     let Some(kind) = entry_kind(section) else {
         return Ok(());
@@ -111,9 +124,10 @@ fn put_section(
         Ok(table) => table,
         Err(_) => unreachable!(),
     };
+    let map = &mut gathered.map;
     match kind {
-        EntryKind::Rela => put_table(map, &mut read.rela, image, &table, is_first),
-        EntryKind::Rel => put_table(map, &mut read.rel, image, &table, is_first),
+        EntryKind::Rela => put_table(map, &mut gathered.read.rela, image, &table, notes),
+        EntryKind::Rel => put_table(map, &mut gathered.read.rel, image, &table, notes),
     }
 }
 
@@ -140,22 +154,27 @@ pub fn relocations_of(
     ensures { IfOk result (λ m. m ≡ beneath_sections format image.now sections.now target sections.now) }
 {
     let first = first_of(sections, target);
-    let mut map = RelocationMap::new(alloc);
-    let mut read = ReadPlaces::none(alloc);
+    let map = RelocationMap::new(alloc);
+    let read = ReadPlaces::none(alloc);
+    let mut gathered = Gathered { map, read };
     let mut i = sections.len();
     while i > 0 {
         i -= 1;
         let section = sections.at(i);
+        let notes = if i == first {
+            Notes::Needless
+        } else {
+            Notes::Taken
+        };
         put_section(
-            &mut map,
-            &mut read,
+            &mut gathered,
             image,
             format,
             sections,
             &section,
             target,
-            i == first,
+            notes,
         )?;
     }
-    Ok(map)
+    Ok(gathered.map)
 }

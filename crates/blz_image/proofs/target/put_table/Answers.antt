@@ -15,7 +15,7 @@ returns-in_ok-note_read-clause-read c =
     (all_read-beneath symbols (entries_in t.kind c.args.image.now t.entries) t.entries.format c.args.image.now c.args.map.now (entry_size t.kind t.entries.format.class) c.args.read.now c.requires.read)
     (λ k lt. table_known symbols t.kind c.args.image.now t.entries c.args.map.now k lt))
 
-pub returns-else-not-is_first-clause-read : goal.returns-else-not-is_first-clause-read
-returns-else-not-is_first-clause-read c =
+pub returns-in_default-clause-read : goal.returns-in_default-clause-read
+returns-in_default-clause-read c =
     let t = c.args.table.now in
     rw c.in_ok-put_unread.ensures (all_read-beneath (symbols_in c.args.image.now t.symbols) (entries_in t.kind c.args.image.now t.entries) t.entries.format c.args.image.now c.args.map.now (entry_size t.kind t.entries.format.class) c.args.read.now c.requires.read)

@@ -19,7 +19,7 @@ pub loop-i-preserved : goal.loop-i-preserved
 loop-i-preserved c =
     let next : c.loop-i.i ≡ c.loop-i.i - 1 + 1 = omega (arith, c.loop-i-test.true) in (
       omega (arith, c.loop-i.invariant.0),
-      beneath_sections_more c.args.format c.args.image.now c.args.sections.now c.args.target (c.loop-i.i - 1) c.at-section.result c.loop-i.map _ (omega (arith, c.loop-i-test.true, c.loop-i.invariant.0)) c.at-section.ensures
+      beneath_sections_more c.args.format c.args.image.now c.args.sections.now c.args.target (c.loop-i.i - 1) c.at-section.result c.loop-i.gathered.map _ (omega (arith, c.loop-i-test.true, c.loop-i.invariant.0)) c.at-section.ensures
           (c.loop-i.invariant.1 ∙ ap (λ n. beneath_sections c.args.format c.args.image.now c.args.sections.now c.args.target (drop n c.args.sections.now)) next) c.in_ok-put_section.ensures.value,
       c.in_ok-put_section.ensures.read,
     )
