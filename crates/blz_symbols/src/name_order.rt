@@ -1,5 +1,5 @@
 //! The names of a table of symbols, and an order of them.
-ghost use Rattle.std.specs.Prelude.{◌≡◌, ◌<◌, true, length, map, filter, IfOk, IfSome, OnErr};
+ghost use Rattle.std.specs.Prelude.{◌≡◌, ◌<◌, false, true, length, map, filter, IfOk, IfSome, OnErr};
 ghost use Rattle.std.specs.Option.{option_map};
 ghost use Rattle.std.specs.Ordering.{is_gt};
 ghost use Rattle.blz_bytes.specs.NameOrder.{name_cmp};
@@ -161,6 +161,7 @@ impl KeptNames {
         requires table { TableFits image.now table.now }
         ensures value { Gives (names_view image.now) result (asked_names (option_map (λ t. table_view image.now t.now) symtab.entry) (table_view image.now table.now)) }
         ensures fits { IfOk result (NamesFit image.now) }
+        ensures unasked { IfOk result (λ n. is_asked n.order ≡ false) }
     {
         Ok(KeptNames {
             strings: table.strings,

@@ -1,5 +1,5 @@
 //! A table of symbols, and its symbols in order.
-ghost use Rattle.std.specs.Prelude.{◌≡◌, IfErr, IfOk, OnErr, OnOk, false, true, is_some};
+ghost use Rattle.std.specs.Prelude.{◌≡◌, IfErr, IfOk, None, OnErr, OnOk, false, true, is_some};
 ghost use Rattle.blz_model.specs.Part.{Exactly};
 ghost use Rattle.blz_image.specs.Places.{SpanFits, span_in, symbols_in};
 ghost use Rattle.blz_symbols.specs.Tables.{TableFits, table_view};
@@ -48,6 +48,7 @@ fn strings_of(image: &[u8], section: Option<Section>) -> Result<Span>
 fn table_named(image: &Image<'_>, name: &str, strings_name: &str) -> Result<Table>
     ensures value { Exactly (table_view image.now.image) result (table_named image.now name.now strings_name.now) }
     ensures fits { IfOk result (TableFits image.now.image) }
+    ensures unasked { IfOk result (λ t. (t.sorted ≡ None) × (t.asked ≡ false)) }
 {
     let bytes = image.bytes();
     let symbols = symbols_of(bytes, image.section_called(name), image.format())?;
@@ -65,6 +66,7 @@ fn table_named(image: &Image<'_>, name: &str, strings_name: &str) -> Result<Tabl
 pub fn read_table(image: &Image<'_>, kind: TableKind) -> Result<Table>
     ensures value { Exactly (table_view image.now.image) result (table_of kind image.now) }
     ensures fits { IfOk result (TableFits image.now.image) }
+    ensures unasked { IfOk result (λ t. (t.sorted ≡ None) × (t.asked ≡ false)) }
 {
     match kind {
         TableKind::Dynsym => table_named(image, ".dynsym", ".dynstr"),
