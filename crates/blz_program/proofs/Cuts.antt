@@ -1,6 +1,6 @@
 -- A text is cut at the first byte that ends a piece.
-use Rattle.std.proofs.Common.{◌≡◌, ℕ, zero, suc, ◌+◌, ◌<◌, ◌==◌, Bool, true, false, List, [], ◌∷◌, length, slice_index, take, drop, refl, ap, sym, ◌∙◌, arith, if◌then◌else◌}
-use Rattle.std.proofs.lemmas.Bool.{false≢true}
+use Rattle.std.proofs.Common.{◌≡◌, ℕ, zero, suc, ◌+◌, ◌<◌, ◌==◌, Bool, true, false, List, [], ◌∷◌, ◌++◌, length, slice_index, take, drop, refl, ap, sym, ◌∙◌, arith, if◌then◌else◌}
+use Rattle.std.proofs.lemmas.Bool.{eqb-true, false≢true}
 use Rattle.blz_error.specs.Texts.{Bytes}
 use Rattle.blz_program.specs.TextLines.{pieces_of, with_first}
 
@@ -25,6 +25,14 @@ pieces_of-end_at end (b ∷ bs) (suc n) h at before =
     let rest = pieces_of-end_at end bs n (omega (arith, h)) at (λ k lt. before (suc k) (omega (arith, lt))) in
     let next : suc n + 1 ≡ suc (n + 1) = omega arith in
     rw next (first ∙ ap (with_first b) rest)
+
+-- the parts before and behind the byte make the text
+pub cut_at : (end : ℕ) (text : Bytes) (n : ℕ) → n < length text → EndsAt end text n → text ≡ take n text ++ end ∷ drop (n + 1) text
+cut_at end [] n h at = absurd (omega (arith, h))
+cut_at end (b ∷ bs) zero h at = ap (λ (x : ℕ). x ∷ bs) (eqb-true b end at)
+cut_at end (b ∷ bs) (suc n) h at =
+    let next : suc n + 1 ≡ suc (n + 1) = omega arith in
+    rw next (ap (λ (r : Bytes). b ∷ r) (cut_at end bs n (omega (arith, h)) at))
 
 pub pieces_of-no_end : (end : ℕ) (text : Bytes) → 0 < length text → ((k : ℕ) → k < length text → ¬ (EndsAt end text k)) → pieces_of end text ≡ text ∷ []
 pieces_of-no_end end [] h none = absurd (omega (arith, h))

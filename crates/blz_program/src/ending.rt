@@ -1,5 +1,5 @@
 //! The last step of a run: its text is written, or the reason is told why there is none.
-ghost use Rattle.std.specs.Prelude.{OnOk, OnErr};
+ghost use Rattle.std.specs.Prelude.{◌≤◌, OnOk, OnErr};
 ghost use Rattle.std.specs.Io.KnownBytes.{Appends};
 ghost use Rattle.blz_resolver.specs.Counts.{HasCause, Rose};
 ghost use Rattle.blz_program.specs.Outcomes.{line_for};
@@ -18,8 +18,10 @@ pub fn finish<S: Sink, E: Sink>(
     out: &mut S,
     err: &mut E,
 ) -> u8
-    ensures { HasOutcome result (λ o. EndsBy made o (S.taken out.old) (S.taken out.new) (Rose (S.faults out.old) (S.faults out.new))
+    ensures ended { HasOutcome result (λ o. EndsBy made o (S.taken out.old) (S.taken out.new) (Rose (S.faults out.old) (S.faults out.new))
         × TellsLine (Rose (E.faults err.old) (E.faults err.new)) (E.taken err.old) (E.taken err.new) (line_for (texts_of program.now) o)) }
+    ensures out_count { S.faults out.old ≤ S.faults out.new }
+    ensures err_count { E.faults err.old ≤ E.faults err.new }
 {
     let outcome = written(made, out);
     let _ = outcome.tell(program, err);
@@ -27,7 +29,8 @@ pub fn finish<S: Sink, E: Sink>(
 }
 
 fn written<S: Sink>(made: Result<Vec<u8>, Outcome>, out: &mut S) -> Outcome
-    ensures { EndsBy made result (S.taken out.old) (S.taken out.new) (Rose (S.faults out.old) (S.faults out.new)) }
+    ensures ended { EndsBy made result (S.taken out.old) (S.taken out.new) (Rose (S.faults out.old) (S.faults out.new)) }
+    ensures count { S.faults out.old ≤ S.faults out.new }
 {
     match made {
         Ok(text) => match write_all(out, &text) {
