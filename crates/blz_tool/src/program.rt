@@ -69,6 +69,9 @@ pub fn run<F: Files, O: Orders, S: Sink, E: Sink>(
 
     ensures contents_stay { F.contents files.new ≡ F.contents files.old }
     ensures stamps_stay { F.stamps files.new ≡ F.stamps files.old }
+    ensures files_count { F.faults files.old ≤ F.faults files.new }
+    ensures out_count { S.faults out.old ≤ S.faults out.new }
+    ensures err_count { E.faults err.old ≤ E.faults err.new }
 {
     let made = made_of_words(alloc, words, files, orders);
     finish(&blz_tool(), made, out, err)
@@ -96,6 +99,7 @@ fn made_of_words<F: Files, O: Orders>(
         (FilesFail (map string_bytes words.now) (Rose (F.faults files.old) (F.faults files.new))) result }
     ensures contents_stay { F.contents files.new ≡ F.contents files.old }
     ensures stamps_stay { F.stamps files.new ≡ F.stamps files.old }
+    ensures count { F.faults files.old ≤ F.faults files.new }
 {
     match named_words(alloc, words) {
         Ok(given) => made_of_named(alloc, &given, files, orders),
@@ -113,6 +117,7 @@ fn made_of_named<F: Files, O: Orders>(
         (FailsNamed (map (λ w. w.now) given.now) (Rose (F.faults files.old) (F.faults files.new))) result }
     ensures contents_stay { F.contents files.new ≡ F.contents files.old }
     ensures stamps_stay { F.stamps files.new ≡ F.stamps files.old }
+    ensures count { F.faults files.old ≤ F.faults files.new }
 {
     match request_in(alloc, given) {
         Ok(Some(Request::Resolve(question))) => made_of_question(alloc, files, orders, &question),
@@ -143,6 +148,7 @@ fn made_of_question<F: Files, O: Orders>(
         (Rose (F.faults files.old) (F.faults files.new)) result }
     ensures contents_stay { F.contents files.new ≡ F.contents files.old }
     ensures stamps_stay { F.stamps files.new ≡ F.stamps files.old }
+    ensures count { F.faults files.old ≤ F.faults files.new }
 {
     match printed(alloc, files, orders, question) {
         Ok(text) => Ok(text),
@@ -163,6 +169,7 @@ fn printed<F: Files, O: Orders>(
         (Prints (F.contents files.old) (question_view question.now) (Broken e.kind))) }
     ensures contents_stay { F.contents files.new ≡ F.contents files.old }
     ensures stamps_stay { F.stamps files.new ≡ F.stamps files.old }
+    ensures count { F.faults files.old ≤ F.faults files.new }
 {
     let bundle = opened_bundle(alloc, files, question)?;
     answers_text(alloc, orders, &bundle, question)
@@ -180,6 +187,7 @@ fn opened_bundle<F: Files>(
         (Opens (F.contents files.old) question.now.path.now (dirs_of (question_view question.now)) (Broken e.kind))) }
     ensures contents_stay { F.contents files.new ≡ F.contents files.old }
     ensures stamps_stay { F.stamps files.new ≡ F.stamps files.old }
+    ensures count { F.faults files.old ≤ F.faults files.new }
 {
     match &question.dirs {
         Some(dirs) => ElfResolver::open_with_debug_dirs(alloc, files, question.path, dirs),

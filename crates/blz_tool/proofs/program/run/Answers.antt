@@ -17,7 +17,7 @@ returns-clause-caused g c =
     (FilesFail (map string_bytes c.args.words.now) (Rose (g.F.Files.faults c.args.files.now) (g.F.Files.faults c.made_of_words-made.new.files)))
     (Rose (g.S.Sink.faults c.args.out.now) (g.S.Sink.faults c.finish.new.out))
     (Rose (g.E.Sink.faults c.args.err.now) (g.E.Sink.faults c.finish.new.err)) (g.E.Sink.taken c.args.err.now) (g.E.Sink.taken c.finish.new.err)
-    _ tool_texts c.blz_tool.ensures c.made_of_words-made.ensures.made c.finish.ensures
+    _ tool_texts c.blz_tool.ensures c.made_of_words-made.ensures.made c.finish.ensures.ended
 
 pub returns-clause-complete : goal.returns-clause-complete
 returns-clause-complete g c contents is taken no_files no_out =
