@@ -1,5 +1,5 @@
 //! The files of the system.
-ghost use Rattle.std.specs.Prelude.{◌≤◌, ◌≢◌, Err, None, OnOk, vec_len};
+ghost use Rattle.std.specs.Prelude.{◌≡◌, ◌≤◌, ◌≢◌, Err, None, OnOk, vec_len};
 ghost use Rattle.blz_links.specs.FilesAnswers.{HasFilesCause};
 
 use blz_links::files::{Files, FilesFault, Stamp};
@@ -25,7 +25,9 @@ pub struct RealFiles<'r, R> {
 
 impl<'r, R: rt::Files> RealFiles<'r, R> {
     /// The files of this runtime.
-    pub fn new(rt: &'r R) -> RealFiles<'r, R> {
+    pub fn new(rt: &'r R) -> RealFiles<'r, R>
+        ensures { result.faults ≡ 0 }
+    {
         RealFiles { rt, faults: 0 }
     }
 

@@ -1,5 +1,5 @@
 //! A sink over a writer.
-ghost use Rattle.std.specs.Prelude.{None};
+ghost use Rattle.std.specs.Prelude.{◌≡◌, None};
 
 use super::{Sink, SinkFault};
 use std::io::Write;
@@ -13,7 +13,9 @@ pub struct RealSink<W> {
 
 impl<W: Write> RealSink<W> {
     /// A sink over this writer.
-    pub fn new(writer: W) -> RealSink<W> {
+    pub fn new(writer: W) -> RealSink<W>
+        ensures { result.faults ≡ 0 }
+    {
         RealSink { writer, faults: 0 }
     }
 }
