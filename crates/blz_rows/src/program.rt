@@ -62,6 +62,9 @@ pub fn run_rows<F: Files, O: Orders, S: Sink, E: Sink>(
 
     ensures contents_stay { F.contents files.new ≡ F.contents files.old }
     ensures stamps_stay { F.stamps files.new ≡ F.stamps files.old }
+    ensures files_count { F.faults files.old ≤ F.faults files.new }
+    ensures out_count { S.faults out.old ≤ S.faults out.new }
+    ensures err_count { E.faults err.old ≤ E.faults err.new }
 {
     let made = made_of_words(alloc, words, files, orders);
     finish(&blz_rows(), made, out, err)
@@ -78,6 +81,7 @@ fn made_of_words<F: Files, O: Orders>(
     ensures malformed { asked (map string_bytes words.now) ≡ None → result ≡ Err Outcome.Usage }
     ensures contents_stay { F.contents files.new ≡ F.contents files.old }
     ensures stamps_stay { F.stamps files.new ≡ F.stamps files.old }
+    ensures count { F.faults files.old ≤ F.faults files.new }
 {
     match Question::from_words(words) {
         Some(question) => made_of_question(alloc, files, orders, &question),
@@ -97,6 +101,7 @@ fn made_of_question<F: Files, O: Orders>(
         (Rose (F.faults files.old) (F.faults files.new)) result }
     ensures contents_stay { F.contents files.new ≡ F.contents files.old }
     ensures stamps_stay { F.stamps files.new ≡ F.stamps files.old }
+    ensures count { F.faults files.old ≤ F.faults files.new }
 {
     match printed(alloc, files, orders, question) {
         Ok(text) => Ok(text),
@@ -119,6 +124,7 @@ fn printed<F: Files, O: Orders>(
         (Prints (F.contents files.old) (question_view question.now) (Broken e.kind))) }
     ensures contents_stay { F.contents files.new ≡ F.contents files.old }
     ensures stamps_stay { F.stamps files.new ≡ F.stamps files.old }
+    ensures count { F.faults files.old ≤ F.faults files.new }
 {
     let bundle = ElfResolver::open(alloc, files, question.path)?;
     answer_text(alloc, orders, &bundle, question)
