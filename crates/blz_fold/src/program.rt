@@ -1,5 +1,5 @@
 //! The top call.
-ghost use Rattle.std.specs.Prelude.{◌≡◌, ◌⊎◌, ◌<◌, ◌^◌, Some, map, string_bytes};
+ghost use Rattle.std.specs.Prelude.{◌≡◌, ◌⊎◌, ◌<◌, ◌≤◌, ◌^◌, Some, map, string_bytes};
 ghost use Rattle.blz_program.specs.Outcomes.{line_for};
 ghost use Rattle.blz_program.specs.Programs.{texts_of};
 ghost use Rattle.blz_program.specs.Runs.{HasOutcome, IsCaused, IsMade, TellsLine, status_for};
@@ -56,6 +56,9 @@ pub fn run_fold<F: Files, O: Orders, S: Sink, E: Sink>(
 
     ensures contents_stay { F.contents files.new ≡ F.contents files.old }
     ensures stamps_stay { F.stamps files.new ≡ F.stamps files.old }
+    ensures files_count { F.faults files.old ≤ F.faults files.new }
+    ensures out_count { S.faults out.old ≤ S.faults out.new }
+    ensures err_count { E.faults err.old ≤ E.faults err.new }
 {
     let made = made_of_words(alloc, words, files, orders);
     finish(&blz_fold(), made, out, err)
@@ -100,6 +103,7 @@ fn made_of_words<F: Files, O: Orders>(
     ensures made { IsMade (Finds (map string_bytes words.now) (F.contents files.old)) (Rose (F.faults files.old) (F.faults files.new)) result }
     ensures contents_stay { F.contents files.new ≡ F.contents files.old }
     ensures stamps_stay { F.stamps files.new ≡ F.stamps files.old }
+    ensures count { F.faults files.old ≤ F.faults files.new }
 {
     match Question::from_words(words) {
         Some(question) => made_of_files(alloc, &question, files, orders),
@@ -116,6 +120,7 @@ fn made_of_files<F: Files, O: Orders>(
     ensures made { IsMade (FindsFolded (F.contents files.old) (asked_by question.now)) (Rose (F.faults files.old) (F.faults files.new)) result }
     ensures contents_stay { F.contents files.new ≡ F.contents files.old }
     ensures stamps_stay { F.stamps files.new ≡ F.stamps files.old }
+    ensures count { F.faults files.old ≤ F.faults files.new }
 {
     let bundle = match ElfResolver::open(alloc, files, question.image) {
         Ok(bundle) => bundle,
