@@ -33,9 +33,7 @@ fn another_build_id_or_none_is_refused_with_both(rt: HostRuntime) -> Result<(), 
 }
 
 #[test]
-fn the_link_of_the_debug_file_is_followed_and_not_that_of_the_image(
-    rt: HostRuntime,
-) -> Result<(), Fail> {
+fn the_debug_files_link_is_followed_and_not_the_images(rt: HostRuntime) -> Result<(), Fail> {
     let alloc = rt.alloc();
     let debug = sharing(alloc, "common")?;
     let checksum = debug_link_crc32(&debug);

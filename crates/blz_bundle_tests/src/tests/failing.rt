@@ -44,9 +44,7 @@ fn each_call_of_a_search_ends_opening_where_it_fails(rt: HostRuntime) -> Result<
 }
 
 #[test]
-fn each_call_of_a_search_for_a_shared_file_ends_opening_where_it_fails(
-    rt: HostRuntime,
-) -> Result<(), Fail> {
+fn each_call_for_a_shared_file_ends_opening_where_it_fails(rt: HostRuntime) -> Result<(), Fail> {
     let alloc = rt.alloc();
     // the path of the linker, two candidates by build id, two by name, the one that is there, its bytes
     for call in 3..10 {

@@ -20,9 +20,7 @@ fn the_debug_file_beside_an_image_is_found(rt: HostRuntime) -> Result<(), Fail> 
 }
 
 #[test]
-fn a_checksum_that_differs_ends_opening_and_no_later_file_is_tried(
-    rt: HostRuntime,
-) -> Result<(), Fail> {
+fn after_a_checksum_that_differs_no_later_file_is_tried(rt: HostRuntime) -> Result<(), Fail> {
     let alloc = rt.alloc();
     let mut files = holding(alloc, linked(alloc, "a.debug", DIGITS_CHECKSUM)?)?;
     files.put("/x/a.debug", Vec::new(alloc))?;
@@ -52,9 +50,7 @@ fn the_debug_file_is_found_by_the_build_id_of_the_image(rt: HostRuntime) -> Resu
 }
 
 #[test]
-fn debug_directories_that_are_handed_in_stand_in_place_of_the_default_ones(
-    rt: HostRuntime,
-) -> Result<(), Fail> {
+fn directories_that_are_handed_in_replace_the_default_ones(rt: HostRuntime) -> Result<(), Fail> {
     let alloc = rt.alloc();
     let mut files = holding(alloc, linked(alloc, "a.debug", DIGITS_CHECKSUM)?)?;
     files.put("/opt/debug/a.debug", bytes_of(alloc, b"123456789")?)?;

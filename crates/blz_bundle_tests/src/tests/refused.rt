@@ -34,9 +34,7 @@ fn compressed_links_are_unsupported(rt: HostRuntime) -> Result<(), Fail> {
 }
 
 #[test]
-fn a_broken_or_compressed_section_of_the_supplementary_file_is_refused(
-    rt: HostRuntime,
-) -> Result<(), Fail> {
+fn broken_or_compressed_supplementary_sections_are_refused(rt: HostRuntime) -> Result<(), Fail> {
     let alloc = rt.alloc();
     let broken = with_section(alloc, ".debug_sup", NO_FLAG)?;
     for file in [b"no image".as_slice(), broken.as_slice()] {

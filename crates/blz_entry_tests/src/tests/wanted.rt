@@ -70,9 +70,7 @@ fn same_values(rt: &impl Abort, alloc: Global, version: u16) -> Result<(), Fail>
 }
 
 #[test]
-fn wanted_attributes_are_those_of_the_entry_whatever_the_table_is_ready_for(
-    rt: HostRuntime,
-) -> Result<(), Fail> {
+fn wanted_attributes_are_alike_whatever_a_table_is_ready_for(rt: HostRuntime) -> Result<(), Fail> {
     same_values(&rt, rt.alloc(), 5)?;
     same_values(&rt, rt.alloc(), 4)
 }

@@ -17,9 +17,7 @@ const ARANGES: &[u8] = b"\x1c\0\0\0\x02\0\0\0\0\0\x08\0\0\0\0\0\x10\0\0\0\0\0\0\
       \x1c\0\0\0\x02\0\x0c\0\0\0\x08\0\0\0\0\0\x18\0\0\0\0\0\0\0\x18\0\0\0\0\0\0\0";
 
 #[test]
-fn a_unit_that_a_set_names_is_built_when_an_address_reaches_it(
-    rt: HostRuntime,
-) -> Result<(), Fail> {
+fn a_unit_of_a_set_is_built_when_an_address_reaches_it(rt: HostRuntime) -> Result<(), Fail> {
     let alloc = rt.alloc();
     let none = RelocationMap::new(alloc);
     let dwarf = file_of(INFO, ABBREV, ARANGES, &none);

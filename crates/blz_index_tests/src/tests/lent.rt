@@ -27,9 +27,7 @@ fn parts_are_lent_once_they_were_read(rt: HostRuntime) -> Result<(), Fail> {
 }
 
 #[test]
-fn a_function_that_is_not_listed_has_no_calls_and_a_unit_without_a_program_no_lines(
-    rt: HostRuntime,
-) -> Result<(), Fail> {
+fn no_program_has_no_lines_and_no_function_no_calls(rt: HostRuntime) -> Result<(), Fail> {
     let alloc = rt.alloc();
     let none = RelocationMap::new(alloc);
     let dwarf = file_of(INFO, ABBREV, ARANGES, &none);

@@ -23,9 +23,7 @@ fn dirs(alloc: Global, first: &str, second: &str) -> Result<Vec<String>, AllocEr
 }
 
 #[test]
-fn the_linkers_directory_is_looked_for_below_the_debug_directory(
-    rt: HostRuntime,
-) -> Result<(), Fail> {
+fn the_linkers_directory_is_tried_below_the_debug_directory(rt: HostRuntime) -> Result<(), Fail> {
     let alloc = rt.alloc();
     let dirs = vec![in alloc; String::from_str(alloc, "/usr/lib/debug/")?]?;
     let id = [0xbe, 0xef, 0xbe, 0xef];

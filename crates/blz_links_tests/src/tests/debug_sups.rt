@@ -18,9 +18,7 @@ fn answer(alloc: Global, bytes: &[u8]) -> Result<String, AllocError> {
 }
 
 #[test]
-fn the_supplementary_file_has_a_path_only_where_it_is_another_one(
-    rt: HostRuntime,
-) -> Result<(), Fail> {
+fn only_a_file_that_is_no_supplementary_one_has_a_path(rt: HostRuntime) -> Result<(), Fail> {
     let answers: [(&[u8], &str); 2] = [
         (b"\x05\0\0sup.debug\0\x02\xab\xcd", "5 sup.debug 2"),
         (b"\x05\0\x01\0\x02\xab\xcd", "5 no path 2"),

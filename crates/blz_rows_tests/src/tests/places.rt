@@ -68,9 +68,7 @@ fn places_are_lent_by_their_index(rt: HostRuntime) -> std::result::Result<(), Fa
 }
 
 #[test]
-fn the_rows_of_all_units_are_listed_in_their_order(
-    rt: HostRuntime,
-) -> std::result::Result<(), Fail> {
+fn rows_of_all_units_are_listed_in_their_order(rt: HostRuntime) -> std::result::Result<(), Fail> {
     let alloc = rt.alloc();
     let again = two_rows(alloc, ByteOrder::Little, 4, b"")?;
     let image = two_units(alloc, &again)?;
@@ -91,9 +89,7 @@ fn broken_lines_of_a_later_unit_are_met(rt: HostRuntime) -> std::result::Result<
 }
 
 #[test]
-fn a_row_whose_file_is_not_there_is_refused_also_where_another_file_is_asked(
-    rt: HostRuntime,
-) -> std::result::Result<(), Fail> {
+fn a_row_of_no_file_is_refused_whatever_is_asked(rt: HostRuntime) -> std::result::Result<(), Fail> {
     let alloc = rt.alloc();
     // set_file 9
     let lines = two_rows(alloc, ByteOrder::Little, 4, &[4, 9])?;

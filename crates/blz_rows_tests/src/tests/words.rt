@@ -35,9 +35,7 @@ fn a_place_has_a_name_and_a_line(rt: HostRuntime) -> Result<(), Fail> {
 }
 
 #[test]
-fn two_words_are_the_image_and_the_place_and_three_begin_with_the_option(
-    rt: HostRuntime,
-) -> Result<(), Fail> {
+fn three_words_begin_with_the_option_and_two_do_not(rt: HostRuntime) -> Result<(), Fail> {
     let alloc = rt.alloc();
     let mut files = holding(alloc, one_unit(alloc)?)?;
     let mut out = MemorySink::with_room(alloc, 100, 100)?;

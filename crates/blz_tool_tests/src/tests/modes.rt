@@ -59,9 +59,7 @@ fn debug_files_are_looked_for_in_the_default_directories(rt: HostRuntime) -> Res
 }
 
 #[test]
-fn directories_that_are_given_stand_in_place_of_the_default_ones(
-    rt: HostRuntime,
-) -> Result<(), Fail> {
+fn directories_that_are_given_replace_the_default_ones(rt: HostRuntime) -> Result<(), Fail> {
     let alloc = rt.alloc();
     let mut files = linked(alloc)?;
     for dirs in ["", ":", "/e", "/e:/f"] {

@@ -78,9 +78,7 @@ fn is_as_expected(found: &ResolvedSym<'_>) -> bool {
 }
 
 #[test]
-fn the_package_has_the_function_and_the_main_file_line_and_language(
-    rt: HostRuntime,
-) -> Result<(), Fail> {
+fn the_package_has_the_function_and_not_its_line_and_language(rt: HostRuntime) -> Result<(), Fail> {
     let alloc = rt.alloc();
     for order in [ByteOrder::Little, ByteOrder::Big] {
         let image = skeleton(alloc, order, 7)?;
