@@ -1,5 +1,5 @@
 //! Entries one after the other.
-use super::small::{header, no_sections, section};
+use super::small::{entries_at, header, no_sections, section};
 use blz_entry::{Abbreviations, AttrValue, Entries, Sections, UnitHeader};
 use blz_moves::RelocationMap;
 use std::test::Fail;
@@ -7,16 +7,9 @@ use std::test::Fail;
 #[test]
 fn attributes_are_read_one_by_one_or_passed_over(rt: HostRuntime) -> Result<(), Fail> {
     let moves = RelocationMap::new(rt.alloc());
-    let sections = Sections {
-        info: section(b"\x07\x2a\x07\x2b\0", &moves),
-        ..no_sections(&moves)
-    };
+    let info = b"\x07\x2a\x07\x2b\0";
     let abbreviations = Abbreviations::parse(rt.alloc(), b"\x07\x2e\x01\x03\x0b\0\0\0", 0)?;
-    let unit = UnitHeader {
-        end: 5,
-        ..header(5)
-    };
-    let mut entries = Entries::new(sections, unit, &abbreviations, 0)?;
+    let mut entries = entries_at(info, &moves, &abbreviations, 0)?;
     let first = entries.next_entry()?.ok_or("an entry")?;
     assert_eq!(rt; (first.depth, first.code, first.tag), (0, 7, 0x2e));
     let spec = *entries.pending().first().ok_or("an attribute")?;
@@ -27,7 +20,7 @@ fn attributes_are_read_one_by_one_or_passed_over(rt: HostRuntime) -> Result<(), 
     let zero = entries.next_entry()?.ok_or("a zero")?;
     assert_eq!(rt; (zero.depth, zero.code), (2, 0));
     assert!(rt; entries.next_entry()?.is_none());
-    assert!(rt; Entries::new(sections, unit, &abbreviations, 6).is_err());
+    assert!(rt; entries_at(info, &moves, &abbreviations, 6).is_err());
     Ok(())
 }
 

@@ -1,8 +1,6 @@
 //! The values of forms (DWARF 5 section 7.5.6).
-use super::small::{header, no_sections, section};
-use blz_entry::{
-    Abbreviations, AttrValue, Entries, Section, Sections, StrPart, StrPlace, UnitHeader, form_value,
-};
+use super::small::{entries_at, section};
+use blz_entry::{Abbreviations, AttrValue, Section, StrPart, StrPlace, form_value};
 use blz_model::ByteOrder;
 use blz_moves::RelocationMap;
 use std::alloc::Global;
@@ -123,18 +121,10 @@ fn an_indirect_form_has_the_value_of_the_form_that_stands_there(rt: HostRuntime)
 #[test]
 fn an_implicit_constant_is_the_number_of_the_abbreviation(rt: HostRuntime) -> Result<(), Fail> {
     let moves = RelocationMap::new(rt.alloc());
-    let sections = Sections {
-        info: section(b"\x01\x01", &moves),
-        ..no_sections(&moves)
-    };
     // two attributes, the first with an implicit constant of -2, and the second with one of 5
     let table = b"\x01\x34\0\x3a\x21\x7e\x3b\x21\x05\0\0\0";
     let abbreviations = Abbreviations::parse(rt.alloc(), table, 0)?;
-    let unit = UnitHeader {
-        end: 2,
-        ..header(5)
-    };
-    let mut entries = Entries::new(sections, unit, &abbreviations, 0)?;
+    let mut entries = entries_at(b"\x01\x01", &moves, &abbreviations, 0)?;
     entries.next_entry()?.ok_or("an entry")?;
     let first = *entries.pending().first().ok_or("an attribute")?;
     assert_eq!(rt; entries.read_attribute(first)?, AttrValue::Signed(-2));

@@ -77,13 +77,18 @@ fn an_address_is_found_by_its_index(rt: HostRuntime) -> Result<(), Fail> {
     Ok(())
 }
 
+// sections of which all but the lists of ranges are empty
+fn lists_alone<'s, 'b>(rnglists: &'b [u8], moves: &'s RelocationMap) -> Sections<'s, 'b> {
+    Sections {
+        rnglists: section(rnglists, moves),
+        ..no_sections(moves)
+    }
+}
+
 #[test]
 fn a_list_of_ranges_is_found_by_its_index(rt: HostRuntime) -> Result<(), Fail> {
     let moves = RelocationMap::new(rt.alloc());
-    let sections = Sections {
-        rnglists: section(b"\0\0\0\0\x08\0\0\0", &moves),
-        ..no_sections(&moves)
-    };
+    let sections = lists_alone(b"\0\0\0\0\x08\0\0\0", &moves);
     let found = attr_ranges_offset(&sections, &header(5), &root(0), AttrValue::RangeIndex(0))?;
     assert_eq!(rt; found, Some(12));
     Ok(())
@@ -92,10 +97,7 @@ fn a_list_of_ranges_is_found_by_its_index(rt: HostRuntime) -> Result<(), Fail> {
 #[test]
 fn a_list_past_the_greatest_offset_is_named_and_has_no_value(rt: HostRuntime) -> Result<(), Fail> {
     let moves = RelocationMap::new(rt.alloc());
-    let sections = Sections {
-        rnglists: section(b"\0\0\0\0\xff\xff\xff\xff\xff\xff\xff\xff", &moves),
-        ..no_sections(&moves)
-    };
+    let sections = lists_alone(b"\0\0\0\0\xff\xff\xff\xff\xff\xff\xff\xff", &moves);
     let wide = UnitHeader {
         wide: true,
         ..header(5)

@@ -1,7 +1,10 @@
 //! Small sections and units.
 ghost use Rattle.std.specs.Prelude.{◌≡◌};
 
-use blz_entry::{RangeAttributes, Section, Sections, UnitHeader, UnitKind, UnitRoot};
+use blz_entry::{
+    Abbreviations, Entries, RangeAttributes, Section, Sections, UnitHeader, UnitKind, UnitRoot,
+};
+use blz_error::Result;
 use blz_model::ByteOrder;
 use blz_moves::RelocationMap;
 
@@ -50,6 +53,24 @@ pub fn header(version: u16) -> UnitHeader {
         abbrev: 0,
         id: 0,
     }
+}
+
+/// The entries from a place on, in a unit of version 5 that has nothing but entries.
+pub fn entries_at<'s, 'b>(
+    info: &'b [u8],
+    moves: &'s RelocationMap,
+    abbreviations: &'s Abbreviations,
+    at: usize,
+) -> Result<Entries<'s, 'b>> {
+    let sections = Sections {
+        info: section(info, moves),
+        ..no_sections(moves)
+    };
+    let unit = UnitHeader {
+        end: info.len(),
+        ..header(5)
+    };
+    Entries::new(sections, unit, abbreviations, at)
 }
 
 /// A root that tells where ranges count from, and where addresses and lists by their index begin.

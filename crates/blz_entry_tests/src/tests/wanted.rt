@@ -1,8 +1,6 @@
 //! The attributes of an entry that tell what a function or an inlined call is.
-use super::small::{header, no_sections, section};
-use blz_entry::{
-    Abbreviations, AttrValue, Encoding, Entries, Passing, Sections, StrPart, StrPlace, UnitHeader,
-};
+use super::small::entries_at;
+use blz_entry::{Abbreviations, AttrValue, Encoding, Entries, Passing, StrPart, StrPlace};
 use blz_moves::RelocationMap;
 use std::alloc::Global;
 use std::process::Abort;
@@ -44,21 +42,13 @@ fn told(start: usize) -> [(u64, AttrValue); 4] {
 // both entries by a table that is read for one encoding
 fn same_values(rt: &impl Abort, alloc: Global, version: u16) -> Result<(), Fail> {
     let moves = RelocationMap::new(alloc);
-    let sections = Sections {
-        info: section(INFO, &moves),
-        ..no_sections(&moves)
-    };
     let encoding = Encoding {
         version,
         wide: false,
         address_size: 8,
     };
     let abbreviations = Abbreviations::parse_for(alloc, TABLE, 0, encoding)?;
-    let unit = UnitHeader {
-        end: 44,
-        ..header(5)
-    };
-    let mut entries = Entries::new(sections, unit, &abbreviations, 0)?;
+    let mut entries = entries_at(INFO, &moves, &abbreviations, 0)?;
     for place in [0, 22] {
         let entry = entries.next_entry()?.ok_or("an entry")?;
         assert_eq!(rt; entry.place, place);
@@ -78,16 +68,8 @@ fn wanted_attributes_are_alike_whatever_a_table_is_ready_for(rt: HostRuntime) ->
 #[test]
 fn an_entry_of_which_some_was_read_is_passed_over(rt: HostRuntime) -> Result<(), Fail> {
     let moves = RelocationMap::new(rt.alloc());
-    let sections = Sections {
-        info: section(INFO, &moves),
-        ..no_sections(&moves)
-    };
     let abbreviations = Abbreviations::parse(rt.alloc(), TABLE, 0)?;
-    let unit = UnitHeader {
-        end: 44,
-        ..header(5)
-    };
-    let mut entries = Entries::new(sections, unit, &abbreviations, 0)?;
+    let mut entries = entries_at(INFO, &moves, &abbreviations, 0)?;
     entries.next_entry()?.ok_or("an entry")?;
     entries.next_wanted()?.ok_or("a name")?;
     entries.next_wanted()?.ok_or("an address")?;
@@ -108,17 +90,9 @@ const FUNCTIONS: &[u8] = b"\x01a\0\x01b\0\x03\0\0\0\0\x01c\0\x02d\0\0\x10\0\0\0\
 #[test]
 fn functions_without_addresses_and_references_are_passed_over(rt: HostRuntime) -> Result<(), Fail> {
     let moves = RelocationMap::new(rt.alloc());
-    let sections = Sections {
-        info: section(FUNCTIONS, &moves),
-        ..no_sections(&moves)
-    };
     let abbreviations = Abbreviations::parse(rt.alloc(), KINDS, 0)?;
-    let unit = UnitHeader {
-        end: 25,
-        ..header(5)
-    };
     for (from, place) in [(0, 6), (11, 14)] {
-        let mut entries = Entries::new(sections, unit, &abbreviations, from)?;
+        let mut entries = entries_at(FUNCTIONS, &moves, &abbreviations, from)?;
         entries.pass_over(Passing::Unplaced, 0x2e);
         let entry = entries.next_entry()?.ok_or("a function")?;
         assert_eq!(rt; entry.place, place);

@@ -3,6 +3,7 @@ use crate::tests::message;
 use blz_bytes::ByteOrder;
 use blz_links::parse_debug_sup;
 use std::alloc::{AllocError, Global};
+use std::process::Abort;
 use std::test::Fail;
 
 // why the bytes are refused, or the version, the path and the number of bytes of the checksum
@@ -17,16 +18,21 @@ fn answer(alloc: Global, bytes: &[u8]) -> Result<String, AllocError> {
     }
 }
 
+// each of some bytes has its answer
+fn assert_answers(rt: &impl Abort, alloc: Global, answers: &[(&[u8], &str)]) -> Result<(), Fail> {
+    for (bytes, text) in answers {
+        assert_eq!(rt; answer(alloc, bytes)?.as_str(), *text);
+    }
+    Ok(())
+}
+
 #[test]
 fn only_a_file_that_is_no_supplementary_one_has_a_path(rt: HostRuntime) -> Result<(), Fail> {
     let answers: [(&[u8], &str); 2] = [
         (b"\x05\0\0sup.debug\0\x02\xab\xcd", "5 sup.debug 2"),
         (b"\x05\0\x01\0\x02\xab\xcd", "5 no path 2"),
     ];
-    for (bytes, text) in answers {
-        assert_eq!(rt; answer(rt.alloc(), bytes)?.as_str(), text);
-    }
-    Ok(())
+    assert_answers(&rt, rt.alloc(), &answers)
 }
 
 #[test]
@@ -47,10 +53,7 @@ fn each_cut_says_what_is_missing(rt: HostRuntime) -> Result<(), Fail> {
         (b"\x05\0\0x\0\x80", size),
         (b"\x05\0\0x\0\x2001234567890123456789", sum),
     ];
-    for (bytes, text) in answers {
-        assert_eq!(rt; answer(rt.alloc(), bytes)?.as_str(), text);
-    }
-    Ok(())
+    assert_answers(&rt, rt.alloc(), &answers)
 }
 
 #[test]
@@ -68,8 +71,5 @@ fn a_path_has_to_go_with_the_flag(rt: HostRuntime) -> Result<(), Fail> {
             "invalid data: link target is not text",
         ),
     ];
-    for (bytes, text) in answers {
-        assert_eq!(rt; answer(rt.alloc(), bytes)?.as_str(), text);
-    }
-    Ok(())
+    assert_answers(&rt, rt.alloc(), &answers)
 }

@@ -16,13 +16,9 @@ fn the_link_of_an_image_is_read_in_its_order(rt: HostRuntime) -> Result<(), Fail
         .section(".gnu_debuglink", 1, link.as_slice())?
         .bytes()?;
     let mut parser = ElfParser::from_mem(alloc, image.as_slice(), None);
-    match read_debug_link(&mut parser) {
-        Ok(Some(link)) => {
-            assert_eq!(rt; link.file, "a.debug");
-            assert_eq!(rt; link.checksum, 7);
-        },
-        _ => assert!(rt; false),
-    }
+    let link = read_debug_link(&mut parser)?.ok_or("a link")?;
+    assert_eq!(rt; link.file, "a.debug");
+    assert_eq!(rt; link.checksum, 7);
     Ok(())
 }
 
@@ -32,13 +28,9 @@ fn an_altlink_is_read(rt: HostRuntime) -> Result<(), Fail> {
     let link = debug_altlink(alloc, "/sup.debug", b"build id")?;
     let image = with_section(alloc, ".gnu_debugaltlink", &link)?;
     let mut parser = ElfParser::from_mem(alloc, image.as_slice(), None);
-    match read_debug_altlink(&mut parser) {
-        Ok(Some(link)) => {
-            assert_eq!(rt; link.path, "/sup.debug");
-            assert!(rt; link.build_id == b"build id".as_slice());
-        },
-        _ => assert!(rt; false),
-    }
+    let link = read_debug_altlink(&mut parser)?.ok_or("a link")?;
+    assert_eq!(rt; link.path, "/sup.debug");
+    assert!(rt; link.build_id == b"build id".as_slice());
     Ok(())
 }
 
@@ -48,14 +40,10 @@ fn a_supplementary_file_says_that_it_is_one(rt: HostRuntime) -> Result<(), Fail>
     let sup = debug_sup(alloc, ByteOrder::Little, "", b"sum")?;
     let image = with_section(alloc, ".debug_sup", &sup)?;
     let mut parser = ElfParser::from_mem(alloc, image.as_slice(), None);
-    match read_debug_sup(&mut parser) {
-        Ok(Some(sup)) => {
-            assert!(rt; sup.is_supplementary);
-            assert!(rt; sup.path.is_none());
-            assert!(rt; sup.checksum == b"sum".as_slice());
-        },
-        _ => assert!(rt; false),
-    }
+    let sup = read_debug_sup(&mut parser)?.ok_or("what the file says")?;
+    assert!(rt; sup.is_supplementary);
+    assert!(rt; sup.path.is_none());
+    assert!(rt; sup.checksum == b"sum".as_slice());
     Ok(())
 }
 
