@@ -1,5 +1,5 @@
 //! Small sections and units.
-ghost use Rattle.std.specs.Prelude.{◌≡◌};
+ghost use Rattle.std.specs.Prelude.{◌≡◌, [], IfOk};
 
 use blz_entry::{
     Abbreviations, Entries, RangeAttributes, Section, Sections, UnitHeader, UnitKind, UnitRoot,
@@ -61,7 +61,9 @@ pub fn entries_at<'s, 'b>(
     moves: &'s RelocationMap,
     abbreviations: &'s Abbreviations,
     at: usize,
-) -> Result<Entries<'s, 'b>> {
+) -> Result<Entries<'s, 'b>>
+    ensures { IfOk result (λ e. e.pending ≡ []) }
+{
     let sections = Sections {
         info: section(info, moves),
         ..no_sections(moves)
