@@ -198,27 +198,38 @@ impl<'a> Image<'a> {
         let mut layout = Layout::new(self.alloc, self.class, self.order, count)?;
         let names = self.section_names()?;
         layout.add(&Section::new(".shstrtab", STRINGS, names.bytes()))?;
-        let entry_size = self.class.symbol_size() as u64;
         let mut strings = 3;
         if !self.symbols.is_empty() {
-            let table = self.table(&self.symbols)?;
-            let records = table.records.bytes();
-            let section = Section::new(".symtab", SYMBOLS, records).linked(strings, 1);
-            layout.add(&section.of_entries(entry_size))?;
-            layout.add(&Section::new(".strtab", STRINGS, table.names.bytes()))?;
+            let symtab = Section::new(".symtab", SYMBOLS, b"").linked(strings, 1);
+            self.add_table(&mut layout, &self.symbols, symtab, ".strtab")?;
             strings = 5;
         }
         if !self.dynamic_symbols.is_empty() {
-            let table = self.table(&self.dynamic_symbols)?;
-            let records = table.records.bytes();
-            let section = Section::new(".dynsym", DYNAMIC_SYMBOLS, records).linked(strings, 1);
-            layout.add(&section.of_entries(entry_size))?;
-            layout.add(&Section::new(".dynstr", STRINGS, table.names.bytes()))?;
+            let dynsym = Section::new(".dynsym", DYNAMIC_SYMBOLS, b"").linked(strings, 1);
+            self.add_table(&mut layout, &self.dynamic_symbols, dynsym, ".dynstr")?;
         }
         for section in &self.sections {
             layout.add(section)?;
         }
         Ok(layout)
+    }
+
+    // a section of symbols, and behind it the one of their names
+    fn add_table(
+        &self,
+        layout: &mut Layout,
+        symbols: &[Symbol<'a>],
+        section: Section<'_>,
+        names: &str,
+    ) -> Result<(), AllocError> {
+        let table = self.table(symbols)?;
+        let records = Section {
+            entry_size: self.class.symbol_size() as u64,
+            bytes: table.records.bytes(),
+            ..section
+        };
+        layout.add(&records)?;
+        layout.add(&Section::new(names, STRINGS, table.names.bytes()))
     }
 
     // the records of some symbols behind the null symbol, and their names

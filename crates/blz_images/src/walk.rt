@@ -64,22 +64,33 @@ pub fn realistic_walk(alloc: Global, order: ByteOrder) -> Result<Vec<u8>, AllocE
         .bytes()
 }
 
-// `main`, and `square` inlined into it
-fn c_unit(entries: &mut DebugInfo) -> Result<(), AllocError> {
+// the root of a unit, whose name is a text by its index, and whose ranges are a list by its index
+fn open_unit(
+    entries: &mut DebugInfo,
+    name: u64,
+    language: Attribute<'_>,
+    lines_at: u32,
+    ranges: u64,
+) -> Result<(), AllocError> {
     entries.open(
         DW_TAG_COMPILE_UNIT,
         &[
-            Attribute::text_at(DW_AT_NAME, 0),
+            Attribute::text_at(DW_AT_NAME, name),
             Attribute::text_at(DW_AT_COMP_DIR, 1),
-            // DW_LANG_C11
-            Attribute::data1(DW_AT_LANGUAGE, 0x1d),
-            Attribute::section_offset(DW_AT_STMT_LIST, 0),
+            language,
+            Attribute::section_offset(DW_AT_STMT_LIST, lines_at),
             Attribute::section_offset(DW_AT_STR_OFFSETS_BASE, INDEX_BASE),
             Attribute::section_offset(DW_AT_ADDR_BASE, INDEX_BASE),
             Attribute::section_offset(DW_AT_RNGLISTS_BASE, RANGE_LISTS_BASE),
-            Attribute::ranges_at(DW_AT_RANGES, 0),
+            Attribute::ranges_at(DW_AT_RANGES, ranges),
         ],
-    )?;
+    )
+}
+
+// `main`, and `square` inlined into it
+fn c_unit(entries: &mut DebugInfo) -> Result<(), AllocError> {
+    // DW_LANG_C11
+    open_unit(entries, 0, Attribute::data1(DW_AT_LANGUAGE, 0x1d), 0, 0)?;
     let square = entries.place();
     // DW_INL_inlined
     let inlined = Attribute::data1(DW_AT_INLINE, 1);
@@ -113,20 +124,9 @@ fn c_unit(entries: &mut DebugInfo) -> Result<(), AllocError> {
 
 // a function with a linkage name alone
 fn rust_unit(entries: &mut DebugInfo, lines_at: u32) -> Result<(), AllocError> {
-    entries.open(
-        DW_TAG_COMPILE_UNIT,
-        &[
-            Attribute::text_at(DW_AT_NAME, 4),
-            Attribute::text_at(DW_AT_COMP_DIR, 1),
-            // DW_LANG_Rust
-            Attribute::data2(DW_AT_LANGUAGE, 0x1c),
-            Attribute::section_offset(DW_AT_STMT_LIST, lines_at),
-            Attribute::section_offset(DW_AT_STR_OFFSETS_BASE, INDEX_BASE),
-            Attribute::section_offset(DW_AT_ADDR_BASE, INDEX_BASE),
-            Attribute::section_offset(DW_AT_RNGLISTS_BASE, RANGE_LISTS_BASE),
-            Attribute::ranges_at(DW_AT_RANGES, 1),
-        ],
-    )?;
+    // DW_LANG_Rust
+    let language = Attribute::data2(DW_AT_LANGUAGE, 0x1c);
+    open_unit(entries, 4, language, lines_at, 1)?;
     entries.entry(
         DW_TAG_SUBPROGRAM,
         &[

@@ -62,25 +62,24 @@ impl Writer {
         self.raw(&[number])
     }
 
-    pub fn u16(&mut self, number: u16) -> Result<(), AllocError> {
+    // a number as it is spelled in the order of the file
+    fn in_order(&mut self, little: &[u8], big: &[u8]) -> Result<(), AllocError> {
         match self.order {
-            ByteOrder::Little => self.raw(&number.to_le_bytes()),
-            ByteOrder::Big => self.raw(&number.to_be_bytes()),
+            ByteOrder::Little => self.raw(little),
+            ByteOrder::Big => self.raw(big),
         }
+    }
+
+    pub fn u16(&mut self, number: u16) -> Result<(), AllocError> {
+        self.in_order(&number.to_le_bytes(), &number.to_be_bytes())
     }
 
     pub fn u32(&mut self, number: u32) -> Result<(), AllocError> {
-        match self.order {
-            ByteOrder::Little => self.raw(&number.to_le_bytes()),
-            ByteOrder::Big => self.raw(&number.to_be_bytes()),
-        }
+        self.in_order(&number.to_le_bytes(), &number.to_be_bytes())
     }
 
     pub fn u64(&mut self, number: u64) -> Result<(), AllocError> {
-        match self.order {
-            ByteOrder::Little => self.raw(&number.to_le_bytes()),
-            ByteOrder::Big => self.raw(&number.to_be_bytes()),
-        }
+        self.in_order(&number.to_le_bytes(), &number.to_be_bytes())
     }
 
     /// An address or an offset, as wide as the class has them; only the lower half is kept of one that is too wide.
