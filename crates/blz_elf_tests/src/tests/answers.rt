@@ -7,6 +7,8 @@ use blz_images::{
     ByteOrder, Class, Image, last_addresses, nested_functions, no_sections,
     sizeless_dynamic_symbol, undefined_symbol_inside,
 };
+use std::alloc::Global;
+use std::process::Abort;
 
 #[test]
 fn answers_the_largest_symbol_that_covers_the_address(rt: HostRuntime) -> Result<()> {
@@ -38,43 +40,46 @@ fn answers_the_largest_symbol_that_covers_the_address(rt: HostRuntime) -> Result
 
 #[test]
 fn the_last_address_has_a_symbol_that_ends_past_it(rt: HostRuntime) -> Result<()> {
-    let alloc = rt.alloc();
-    let image = last_addresses(alloc)?;
-    let answer = found(alloc, &image, u64::MAX)?;
-    assert!(rt; answer.0 == "S");
-    assert!(rt; answer.1 == Some(32));
+    let image = last_addresses(rt.alloc())?;
+    let (name, size) = found(rt.alloc(), &image, u64::MAX)?;
+    assert!(rt; name == "S" && size == Some(32));
+    Ok(())
+}
+
+// each of some addresses has this name
+fn assert_found(rt: &impl Abort, alloc: Global, image: &[u8], names: &[(u64, &str)]) -> Result<()> {
+    for (addr, name) in names {
+        assert!(rt; found(alloc, image, *addr)?.0 == *name, "at {addr}");
+    }
     Ok(())
 }
 
 #[test]
 fn an_undefined_symbol_hides_the_one_around_it(rt: HostRuntime) -> Result<()> {
-    let alloc = rt.alloc();
-    let image = undefined_symbol_inside(alloc)?;
-    let answer = found(alloc, &image, 30)?;
-    assert!(rt; answer.0 == "unknown address");
-    let answer = found(alloc, &image, 19)?;
-    assert!(rt; answer.0 == "A");
-    Ok(())
+    let image = undefined_symbol_inside(rt.alloc())?;
+    assert_found(
+        &rt,
+        rt.alloc(),
+        &image,
+        &[(30, "unknown address"), (19, "A")],
+    )
 }
 
 #[test]
 fn an_image_without_symbols_has_none(rt: HostRuntime) -> Result<()> {
-    let alloc = rt.alloc();
-    let empty = no_sections(alloc)?;
-    let answer = found(alloc, &empty, 0)?;
-    assert!(rt; answer.0 == "no symbols");
-    Ok(())
+    let empty = no_sections(rt.alloc())?;
+    assert_found(&rt, rt.alloc(), &empty, &[(0, "no symbols")])
 }
 
 #[test]
 fn a_dynamic_symbol_without_a_size_covers_its_value_alone(rt: HostRuntime) -> Result<()> {
-    let alloc = rt.alloc();
-    let image = sizeless_dynamic_symbol(alloc)?;
-    let answer = found(alloc, &image, 0x90)?;
-    assert!(rt; answer.0 == "unknown address");
-    let answer = found(alloc, &image, 0x40)?;
-    assert!(rt; answer.0 == "S");
-    Ok(())
+    let image = sizeless_dynamic_symbol(rt.alloc())?;
+    assert_found(
+        &rt,
+        rt.alloc(),
+        &image,
+        &[(0x90, "unknown address"), (0x40, "S")],
+    )
 }
 
 #[test]

@@ -4,17 +4,19 @@ ghost use Rattle.std.specs.Prelude.{◌≡◌};
 use blz_bytes::{AsTheyStand, ByStdSort};
 use blz_elf::{Collect, ElfParser, FindAddrOpts, Flow, SymInfo, SymInfos, SymType, Visit};
 use blz_error::Result;
-use blz_images::Image;
+use blz_images::{Image, with_nested_functions};
+use std::alloc::{AllocError, Global};
 use std::test::Fail;
+
+// A, B in it, and the dynamic symbol D at this address
+fn three_symbols(alloc: Global, dynamic: u64) -> std::result::Result<Vec<u8>, AllocError> {
+    with_nested_functions(Image::elf64(alloc).dynamic_symbol("D", dynamic, 8)?)
+}
 
 #[test]
 fn lists_the_symbols_of_a_name(rt: HostRuntime) -> Result<()> {
     let alloc = rt.alloc();
-    let image = Image::elf64(alloc)
-        .symbol("A", 0, 100)?
-        .symbol("B", 10, 10)?
-        .dynamic_symbol("D", 0x40, 8)?
-        .bytes()?;
+    let image = three_symbols(alloc, 0x40)?;
     let mut parser = ElfParser::from_mem(alloc, &image, Some("a.elf"));
     parser.cache(alloc, &mut AsTheyStand)?;
     for (name, addr, size) in [("A", 0u64, 100u64), ("B", 10, 10)] {
@@ -33,11 +35,7 @@ fn lists_the_symbols_of_a_name(rt: HostRuntime) -> Result<()> {
 #[test]
 fn shows_symbols_until_the_visitor_breaks(rt: HostRuntime) -> Result<()> {
     let alloc = rt.alloc();
-    let image = Image::elf64(alloc)
-        .symbol("A", 0, 100)?
-        .symbol("B", 10, 10)?
-        .dynamic_symbol("D", 0x140, 8)?
-        .bytes()?;
+    let image = three_symbols(alloc, 0x140)?;
     let mut parser = ElfParser::from_mem(alloc, &image, None);
     for (stop_after, count) in [(None, 3usize), (Some(1usize), 1)] {
         let mut collect = Collect::new(alloc, stop_after);
