@@ -10,7 +10,7 @@ mod vanishing;
 
 use blz_bundle::{Bundle, Companion, OwnedBundle};
 use blz_error::{Error, ErrorKind, Result};
-use blz_images::{ByteOrder, debug_link, debug_sup, with_section};
+use blz_images::{ByteOrder, debug_link, debug_sup, with_build_id, with_section};
 use blz_links::MemoryFiles;
 use std::alloc::{AllocError, Global};
 
@@ -39,6 +39,13 @@ fn is_at(companion: Option<Companion<'_>>, path: &str, image: &[u8]) -> bool {
         Some(companion) => companion.module == Some(path) && companion.image == image,
         None => false,
     }
+}
+
+// whether opening finds the shared file of the build id at a path
+fn opens_with_common(alloc: Global, files: &mut MemoryFiles, path: &str) -> Result<bool> {
+    let opened = open(alloc, files)?;
+    let common = with_build_id(alloc, b"12345678")?;
+    Ok(is_at(opened.bundle().supplementary, path, &common))
 }
 
 fn stands_alone(bundle: &Bundle<'_>) -> bool {

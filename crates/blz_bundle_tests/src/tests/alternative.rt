@@ -1,5 +1,5 @@
 //! The file that debug files share, by its build id.
-use super::{differs, holding, is_at, open, open_lone, open_with, stands_alone};
+use super::{differs, holding, is_at, open_lone, open_with, opens_with_common, stands_alone};
 use blz_images::{ByteOrder, Image, debug_altlink, debug_link, with_build_id, with_section};
 use blz_links::debug_link_crc32;
 use std::alloc::{AllocError, Global};
@@ -45,9 +45,7 @@ fn the_debug_files_link_is_followed_and_not_the_images(rt: HostRuntime) -> Resul
     files.put("/x/d/a.debug", debug)?;
     files.put("/x/d/common", with_build_id(alloc, b"12345678")?)?;
     files.put("/y/other", with_build_id(alloc, b"87654321")?)?;
-    let opened = open(alloc, &mut files)?;
-    let common = with_build_id(alloc, b"12345678")?;
-    assert!(rt; is_at(opened.bundle().supplementary, "/x/d/common", &common));
+    assert!(rt; opens_with_common(alloc, &mut files, "/x/d/common")?);
     Ok(())
 }
 

@@ -1,5 +1,5 @@
 //! The file that debug files share, by its checksum.
-use super::{differs, holding, is_at, open, open_lone, open_with, stands_alone, sup};
+use super::{differs, holding, is_at, open_lone, open_with, opens_with_common, stands_alone, sup};
 use blz_images::{ByteOrder, Image, debug_altlink, debug_sup, with_build_id};
 use std::alloc::{AllocError, Global};
 use std::test::Fail;
@@ -30,9 +30,7 @@ fn an_alternative_file_comes_before_the_supplementary_one(rt: HostRuntime) -> Re
     let mut files = holding(alloc, with_both_links(alloc)?)?;
     files.put("/x/a.sup", sup(alloc, "", b"sum")?)?;
     files.put("/x/common", with_build_id(alloc, b"12345678")?)?;
-    let opened = open(alloc, &mut files)?;
-    let common = with_build_id(alloc, b"12345678")?;
-    assert!(rt; is_at(opened.bundle().supplementary, "/x/common", &common));
+    assert!(rt; opens_with_common(alloc, &mut files, "/x/common")?);
     Ok(())
 }
 
