@@ -24,29 +24,22 @@ alike_is = names_match nat_eq Decides-eqb
 abbrev pub same_key : ℕ × ℕ → ℕ × ℕ → Bool
 same_key x y = nat_eq x.0 y.0 && nat_eq x.1 y.1
 
+-- a name that is unlike each of some stands nowhere among them
+elsewhere : (n : List ℕ) (ms : List (List ℕ)) (k : ℕ) → AllByRecursion (λ m. alike n m ≡ false) ms → k < length ms → n ≡ get_or ms k [] → ⊥
+elsewhere n [] k all lt e = absurd (omega (arith, lt))
+elsewhere n (m ∷ ms) zero all lt e = true_false (sym ((alike_is n m).1 e) ∙ all.0)
+  where
+    true_false : true ≡ false → ⊥
+    true_false h = cc
+elsewhere n (m ∷ ms) (suc k) all lt e = elsewhere n ms k all.1 (omega (arith, lt)) e
+
 -- names that differ stand at one index each
 pub distinct_index : (names : List (List ℕ)) → IsDistinct alike names → (i j : ℕ) → i < length names → j < length names → get_or names i [] ≡ get_or names j [] → i ≡ j
 unfolding IsDistinct
 distinct_index [] apart i j li lj same = absurd (omega (arith, li))
 distinct_index (n ∷ ns) apart zero zero li lj same = refl
-distinct_index (n ∷ ns) apart zero (suc j) li lj same = absurd (elsewhere ns j apart.0 (omega (arith, lj)) same)
-  where
-    elsewhere : (ms : List (List ℕ)) (k : ℕ) → AllByRecursion (λ m. alike n m ≡ false) ms → k < length ms → n ≡ get_or ms k [] → ⊥
-    elsewhere [] k all lt e = absurd (omega (arith, lt))
-    elsewhere (m ∷ ms) zero all lt e = true_false (sym ((alike_is n m).1 e) ∙ all.0)
-      where
-        true_false : true ≡ false → ⊥
-        true_false h = cc
-    elsewhere (m ∷ ms) (suc k) all lt e = elsewhere ms k all.1 (omega (arith, lt)) e
-distinct_index (n ∷ ns) apart (suc i) zero li lj same = absurd (elsewhere ns i apart.0 (omega (arith, li)) (sym same))
-  where
-    elsewhere : (ms : List (List ℕ)) (k : ℕ) → AllByRecursion (λ m. alike n m ≡ false) ms → k < length ms → n ≡ get_or ms k [] → ⊥
-    elsewhere [] k all lt e = absurd (omega (arith, lt))
-    elsewhere (m ∷ ms) zero all lt e = true_false (sym ((alike_is n m).1 e) ∙ all.0)
-      where
-        true_false : true ≡ false → ⊥
-        true_false h = cc
-    elsewhere (m ∷ ms) (suc k) all lt e = elsewhere ms k all.1 (omega (arith, lt)) e
+distinct_index (n ∷ ns) apart zero (suc j) li lj same = absurd (elsewhere n ns j apart.0 (omega (arith, lj)) same)
+distinct_index (n ∷ ns) apart (suc i) zero li lj same = absurd (elsewhere n ns i apart.0 (omega (arith, li)) (sym same))
 distinct_index (n ∷ ns) apart (suc i) (suc j) li lj same = ap suc (distinct_index ns apart.1 i j (omega (arith, li)) (omega (arith, lj)) same)
 
 longer_is_some : (xs : List ℕ) (x : ℕ) → xs ++ x ∷ [] ≡ [] → ⊥
