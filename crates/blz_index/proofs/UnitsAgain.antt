@@ -1,10 +1,12 @@
 -- Units that a call has asked fit the same file.
 use Rattle.std.proofs.Common.{◌≡◌, Some, refl, sym, ap, ◌∙◌}
 use Rattle.blz_index.specs.declared.units.Units.{Units}
-use Rattle.blz_units.specs.BuiltUnits.{Files}
+use Rattle.blz_units.specs.BuiltUnits.{Files, files_view}
+use Rattle.blz_units.specs.declared.caches.Caches.{Caches}
+use Rattle.blz_units.specs.declared.dwarf.Dwarf.{Dwarf}
 use Rattle.blz_reader.specs.Growing.{Told, UnitsGrowTo}
 use Rattle.blz_units.specs.KeptParts.{AllFit}
-use Rattle.blz_index.specs.UnitsWarm.{units_table, UnitsFit}
+use Rattle.blz_index.specs.UnitsWarm.{units_table, CanBeAsked, Leaves, UnitsFit}
 use Rattle.blz_reader.proofs.UnitsFits.{full_stays}
 
 -- The table stays, and what is kept grew and fits: so the units fit.
@@ -16,3 +18,14 @@ fit_on f told old new fits table prepared kept grows =
       caches = rw same kept;
       full = λ e k. full_stays told old.caches.units.items new.caches.units.items k (fits.caches.units.same ∙ sym kept.units.same) grows (fits.full (rw prepared at e) k);
     }
+
+-- So a question whose caches grew and fit leaves the units as it has to.
+pub leaves_more : (told : Told) (d : Dwarf) (u : Units) (more : Caches) → CanBeAsked d u → AllFit (files_view d) (units_table u) more → UnitsGrowTo told u.caches.units.items more.units.items → Leaves told d u (record u { caches = more })
+leaves_more told d u more asked kept grows = record {
+  asked = record {
+    readable = asked.readable;
+    fits = fit_on (files_view d) told u (record u { caches = more }) asked.fits refl refl kept grows;
+  };
+  prepared = refl;
+  grows = record { table = refl; announced = refl; units = grows };
+}

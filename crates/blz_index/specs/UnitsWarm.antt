@@ -8,7 +8,8 @@ use Rattle.blz_line.specs.UnitLines.{OrderedLines}
 use Rattle.blz_functions.specs.declared.functions.Function.{Function}
 use Rattle.blz_units.specs.declared.caches.UnitCaches.{UnitCaches}
 use Rattle.blz_index.specs.declared.units.Units.{Units}
-use Rattle.blz_units.specs.BuiltUnits.{Files}
+use Rattle.blz_units.specs.BuiltUnits.{Files, files_view, IsReadable}
+use Rattle.blz_units.specs.declared.dwarf.Dwarf.{Dwarf}
 use Rattle.blz_ranges.specs.Groups.{AreApart}
 use Rattle.blz_reader.specs.Growing.{Told, UnitsGrowTo}
 use Rattle.blz_units.specs.KeptParts.{AllFit, AllFull, functions_at, lines_at, calls_at}
@@ -82,6 +83,11 @@ pub record UnitsFit (f : Files) (u : Units) : Type 0 where
   pub caches : AllFit f (units_table u) u.caches
   pub full : u.prepared ≡ true → AllFull u.caches.units.items
 
+-- The units are those of files that can be read.
+pub record CanBeAsked (d : Dwarf) (u : Units) : Type 0 where
+  pub readable : IsReadable d
+  pub fits : UnitsFit (files_view d) u
+
 -- ---- what a call may add
 
 -- The table stays. Lists are made once, and where places are told, their orders are accepted exactly where those pass the
@@ -90,6 +96,12 @@ pub record UnitsGrow (told : Told) (old new : Units) : Type 0 where
   pub table : units_table new ≡ units_table old
   pub announced : announced_ordered new ≡ announced_ordered old
   pub units : UnitsGrowTo told old.caches.units.items new.caches.units.items
+
+-- What a question leaves: units that can be asked as before, which may hold more.
+pub record Leaves (told : Told) (d : Dwarf) (old new : Units) : Type 0 where
+  pub asked : CanBeAsked d new
+  pub prepared : units_prepared new ≡ units_prepared old
+  pub grows : UnitsGrow told old new
 
 -- nothing is kept yet
 pub record AreCold (u : Units) : Type 0 where

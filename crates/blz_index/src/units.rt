@@ -4,7 +4,7 @@ ghost use Rattle.std.specs.Option.{option_map};
 ghost use Rattle.blz_model.specs.Part.{Gives, Exactly};
 ghost use Rattle.blz_info.specs.Marks.{or_invalid};
 ghost use Rattle.blz_line.specs.Lookups.{location_view};
-ghost use Rattle.blz_units.specs.BuiltUnits.{Files, files_view, IsReadable};
+ghost use Rattle.blz_units.specs.BuiltUnits.{files_view, IsReadable};
 ghost use Rattle.blz_reader.specs.Growing.{Told};
 ghost use Rattle.blz_ranges.specs.Keyed.{IsAccepted, begin_key};
 ghost use Rattle.blz_ranges.specs.Owned.{items_of};
@@ -12,7 +12,7 @@ ghost use Rattle.blz_functions.specs.References.{unit_at};
 ghost use Rattle.blz_units.specs.UnitAnswers.{unit_language, function_at};
 ghost use Rattle.blz_units.specs.UnitSites.{location_at, inlined_at};
 ghost use Rattle.blz_units.specs.UnitTables.{units_of};
-ghost use Rattle.blz_index.specs.UnitsWarm.{units_table, announced_ordered, units_prepared, functions_kept, kept_function, UnitsFit, UnitsGrow, AreCold, LooksFew};
+ghost use Rattle.blz_index.specs.UnitsWarm.{units_table, announced_ordered, units_prepared, functions_kept, kept_function, CanBeAsked, Leaves, UnitsFit, UnitsGrow, AreCold};
 
 mod find;
 mod lend;
@@ -71,13 +71,10 @@ impl Units {
     /// The language of a unit, which stands in the unit itself also where its functions stand in a package. InvalidDwarf
     /// exactly where the unit cannot be built.
     pub fn language(&mut self, alloc: Global, dwarf: &Dwarf<'_, '_>, unit: usize) -> Result<SrcLang>
-        requires readable { IsReadable dwarf.now }
-        requires fits { UnitsFit (files_view dwarf.now) self.old }
+        requires asked { CanBeAsked dwarf.now self.old }
         requires there { unit < length (units_table self.old).kept }
         ensures value { Gives (λ l. l) result (or_invalid (unit_language (files_view dwarf.now) (units_table self.old) unit)) }
-        ensures fits { UnitsFit (files_view dwarf.now) self.new }
-        ensures prepared { units_prepared self.new ≡ units_prepared self.old }
-        ensures grows { (told : Told) → UnitsGrow told self.old self.new }
+        ensures leaves { (told : Told) → Leaves told dwarf.now self.old self.new }
     {
         let reader = Reader {
             alloc,
@@ -97,13 +94,10 @@ impl Units {
         dwarf: &Dwarf<'_, '_>,
         addr: u64,
     ) -> Result<Option<(usize, usize)>>
-        requires readable { IsReadable dwarf.now }
-        requires fits { UnitsFit (files_view dwarf.now) self.old }
+        requires asked { CanBeAsked dwarf.now self.old }
         ensures value { Gives (λ r. r) result (or_invalid (function_at (files_view dwarf.now) (units_table self.old) addr)) }
         ensures there { IfOk result (λ r. IfSome r (λ r. functions_kept self.new r.0 ≡ true)) }
-        ensures fits { UnitsFit (files_view dwarf.now) self.new }
-        ensures prepared { units_prepared self.new ≡ units_prepared self.old }
-        ensures grows { UnitsGrow O.pair_places self.old self.new }
+        ensures leaves { Leaves O.pair_places dwarf.now self.old self.new }
     {
         let reader = Reader {
             alloc,
@@ -123,12 +117,9 @@ impl Units {
         dwarf: &Dwarf<'_, 'b>,
         addr: u64,
     ) -> Result<Option<Location<'b>>>
-        requires readable { IsReadable dwarf.now }
-        requires fits { UnitsFit (files_view dwarf.now) self.old }
+        requires asked { CanBeAsked dwarf.now self.old }
         ensures value { Gives (λ o. option_map location_view o) result (location_at dwarf.now.texts (files_view dwarf.now) (units_table self.old) addr) }
-        ensures fits { UnitsFit (files_view dwarf.now) self.new }
-        ensures prepared { units_prepared self.new ≡ units_prepared self.old }
-        ensures grows { UnitsGrow O.pair_places self.old self.new }
+        ensures leaves { Leaves O.pair_places dwarf.now self.old self.new }
     {
         let reader = Reader {
             alloc,
@@ -150,13 +141,10 @@ impl Units {
         unit: usize,
         function: usize,
     ) -> Result<InlinedSites<'b>>
-        requires readable { IsReadable dwarf.now }
-        requires fits { UnitsFit (files_view dwarf.now) self.old }
+        requires asked { CanBeAsked dwarf.now self.old }
         requires there { unit < length (units_table self.old).kept }
         ensures value { Gives (λ s. s) result (inlined_at dwarf.now.texts (files_view dwarf.now) (units_table self.old) addr unit function) }
-        ensures fits { UnitsFit (files_view dwarf.now) self.new }
-        ensures prepared { units_prepared self.new ≡ units_prepared self.old }
-        ensures grows { UnitsGrow O.pair_places self.old self.new }
+        ensures leaves { Leaves O.pair_places dwarf.now self.old self.new }
     {
         let reader = Reader {
             alloc,
@@ -185,8 +173,7 @@ impl Units {
         orders: &mut O,
         dwarf: &Dwarf<'_, '_>,
     ) -> std::result::Result<(), AllocError>
-        requires readable { IsReadable dwarf.now }
-        requires fits { UnitsFit (files_view dwarf.now) self.old }
+        requires asked { CanBeAsked dwarf.now self.old }
         ensures prepared { IfOk result (λ _. units_prepared self.new ≡ true) }
         ensures refused { IfErr result (λ _. units_prepared self.new ≡ units_prepared self.old) }
         ensures fits { UnitsFit (files_view dwarf.now) self.new }

@@ -1,8 +1,6 @@
 -- What a reader keeps of its units over calls on them.
-use Rattle.std.proofs.Common.{◌≡◌}
-use Rattle.blz_units.specs.BuiltUnits.{files_view, IsReadable}
 use Rattle.blz_reader.specs.Growing.{Told}
-use Rattle.blz_index.specs.UnitsWarm.{units_prepared, UnitsFit, UnitsGrow}
+use Rattle.blz_index.specs.UnitsWarm.{Leaves}
 use Rattle.blz_index.specs.declared.units.Units.{Units}
 use Rattle.blz_resolver.specs.Reading.{Reads, Keeps}
 use Rattle.blz_resolver.specs.declared.book_reader.BookReader.{BookReader}
@@ -11,8 +9,8 @@ use Rattle.blz_resolver.proofs.UnitsKept.{grows_stay, stay_same, stay_on}
 pub keeps_same : (r : BookReader) (u : Units) → Reads r u → Keeps r u u
 keeps_same r u reads = record { reads = reads; stay = stay_same u }
 
-pub keeps_by : (told : Told) (r : BookReader) (old new : Units) → IsReadable r.dwarf → UnitsFit (files_view r.dwarf) new → UnitsGrow told old new → units_prepared new ≡ units_prepared old → Keeps r old new
-keeps_by told r old new readable fits grows same = record { reads = record { readable = readable; fits = fits }; stay = grows_stay told old new grows same }
+pub keeps_by : (told : Told) (r : BookReader) (old new : Units) → Leaves told r.dwarf old new → Keeps r old new
+keeps_by told r old new leaves = record { reads = leaves.asked; stay = grows_stay told old new leaves.grows leaves.prepared }
 
 pub keeps_on : (r : BookReader) (a b c : Units) → Keeps r a b → Keeps r b c → Keeps r a c
 keeps_on r a b c first next = record { reads = next.reads; stay = stay_on a b c first.stay next.stay }

@@ -1,7 +1,7 @@
 -- The book that is read of a bundle by its units, and what stays of them over a call.
 use Rattle.std.specs.Prelude.{◌≡◌, ℕ, true}
-use Rattle.blz_units.specs.BuiltUnits.{files_view, IsReadable}
-use Rattle.blz_index.specs.UnitsWarm.{units_table, announced_ordered, units_prepared, functions_kept, functions_ordered, lines_kept, UnitsFit}
+use Rattle.blz_units.specs.BuiltUnits.{files_view}
+use Rattle.blz_index.specs.UnitsWarm.{units_table, announced_ordered, units_prepared, functions_kept, functions_ordered, lines_kept, CanBeAsked}
 use Rattle.blz_index.specs.declared.units.Units.{Units}
 use Rattle.blz_resolver.specs.Books.{Book}
 use Rattle.blz_bundle.specs.BundleViews.{bundle_view}
@@ -11,9 +11,8 @@ abbrev pub book_of : BookReader → Units → Book
 book_of r u = record { images = bundle_view r.bundle; files = files_view r.dwarf; table = units_table u }
 
 -- The units are those of the files.
-pub record Reads (r : BookReader) (u : Units) : Type 0 where
-  pub readable : IsReadable r.dwarf
-  pub fits : UnitsFit (files_view r.dwarf) u
+abbrev pub Reads : BookReader → Units → Type 0
+Reads r u = CanBeAsked r.dwarf u
 
 -- a unit's functions that are kept stay, with the fact whether their order was accepted
 pub record FunctionsStay (k : ℕ) (old new : Units) : Type 0 where

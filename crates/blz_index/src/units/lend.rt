@@ -4,11 +4,11 @@ ghost use Rattle.std.specs.Option.{option_map};
 ghost use Rattle.blz_model.specs.Part.{Gives, Exactly};
 ghost use Rattle.blz_info.specs.Marks.{or_invalid};
 ghost use Rattle.blz_line.specs.UnitLines.{OrderedLines};
-ghost use Rattle.blz_units.specs.BuiltUnits.{Files, files_view, IsReadable};
+ghost use Rattle.blz_units.specs.BuiltUnits.{Files, files_view};
 ghost use Rattle.blz_units.specs.KeptAnswers.{Repeats, kept_part, calls_listed, calls_told, value_in};
 ghost use Rattle.blz_units.specs.KeptParts.{lists_view, calls_view};
 ghost use Rattle.blz_units.specs.UnitAnswers.{unit_functions, unit_lines, function_calls};
-ghost use Rattle.blz_index.specs.UnitsWarm.{units_table, lines_kept, units_prepared, functions_cache, lines_cache, calls_cache, calls_kept, UnitsFit, UnitsGrow};
+ghost use Rattle.blz_index.specs.UnitsWarm.{units_table, lines_kept, functions_cache, lines_cache, calls_cache, calls_kept, CanBeAsked, Leaves, UnitsFit};
 
 use crate::units::Units;
 use blz_bytes::Orders;
@@ -39,8 +39,7 @@ impl Units {
         dwarf: &Dwarf<'_, '_>,
         unit: usize,
     ) -> Result<&Functions>
-        requires readable { IsReadable dwarf.now }
-        requires fits { UnitsFit (files_view dwarf.now) self.old }
+        requires asked { CanBeAsked dwarf.now self.old }
         requires there { unit < length (units_table self.old).kept }
         ensures { Gives (λ x. lists_view x.now) result (or_invalid (unit_functions (files_view dwarf.now) (units_table self.old) unit)) }
     {
@@ -60,13 +59,10 @@ impl Units {
         dwarf: &Dwarf<'_, '_>,
         unit: usize,
     ) -> std::result::Result<(), AllocError>
-        requires readable { IsReadable dwarf.now }
-        requires fits { UnitsFit (files_view dwarf.now) self.old }
+        requires asked { CanBeAsked dwarf.now self.old }
         requires there { unit < length (units_table self.old).kept }
         ensures there { IfOk result (λ _. lines_kept self.new unit ≡ true) }
-        ensures fits { UnitsFit (files_view dwarf.now) self.new }
-        ensures prepared { units_prepared self.new ≡ units_prepared self.old }
-        ensures grows { UnitsGrow O.pair_places self.old self.new }
+        ensures leaves { Leaves O.pair_places dwarf.now self.old self.new }
     {
         let reader = Reader {
             alloc,
@@ -100,8 +96,7 @@ impl Units {
         dwarf: &Dwarf<'_, '_>,
         unit: usize,
     ) -> Result<Option<&Lines>>
-        requires readable { IsReadable dwarf.now }
-        requires fits { UnitsFit (files_view dwarf.now) self.old }
+        requires asked { CanBeAsked dwarf.now self.old }
         requires there { unit < length (units_table self.old).kept }
         ensures { Gives (λ o. option_map (λ l. l.now.table) o) result (or_invalid (unit_lines (files_view dwarf.now) (units_table self.old) unit)) }
     {
@@ -119,13 +114,10 @@ impl Units {
         unit: usize,
         function: usize,
     ) -> Result<()>
-        requires readable { IsReadable dwarf.now }
-        requires fits { UnitsFit (files_view dwarf.now) self.old }
+        requires asked { CanBeAsked dwarf.now self.old }
         ensures value { Gives (λ _. calls_told (calls_cache self.new unit function)) result (or_invalid (calls_listed (function_calls (files_view dwarf.now) (units_table self.old) unit function))) }
         ensures there { IfOk result (λ _. calls_kept self.new unit function ≡ true) }
-        ensures fits { UnitsFit (files_view dwarf.now) self.new }
-        ensures prepared { units_prepared self.new ≡ units_prepared self.old }
-        ensures grows { UnitsGrow O.pair_places self.old self.new }
+        ensures leaves { Leaves O.pair_places dwarf.now self.old self.new }
     {
         let reader = Reader {
             alloc,
@@ -154,8 +146,7 @@ impl Units {
         unit: usize,
         function: usize,
     ) -> Result<&InlinedFunctions>
-        requires readable { IsReadable dwarf.now }
-        requires fits { UnitsFit (files_view dwarf.now) self.old }
+        requires asked { CanBeAsked dwarf.now self.old }
         requires there { unit < length (units_table self.old).kept }
         ensures { Gives (λ x. calls_view x.now) result (or_invalid (function_calls (files_view dwarf.now) (units_table self.old) unit function)) }
     {

@@ -2,12 +2,12 @@
 ghost use Rattle.std.specs.Prelude.{◌≡◌, true, false, option_map, IfOk};
 ghost use Rattle.blz_model.specs.Part.{Gives};
 ghost use Rattle.blz_info.specs.Marks.{or_invalid};
-ghost use Rattle.blz_units.specs.BuiltUnits.{files_view, IsReadable};
+ghost use Rattle.blz_units.specs.BuiltUnits.{files_view};
 ghost use Rattle.blz_units.specs.KeptParts.{functions_at};
 ghost use Rattle.blz_reader.specs.ShownFunctions.{ShowsUnits, all_shown};
 ghost use Rattle.blz_units.specs.UnitAnswers.{unit_functions, functions_named, all_functions};
 ghost use Rattle.blz_reader.specs.UnitNames.{listed, list_in};
-ghost use Rattle.blz_index.specs.UnitsWarm.{units_table, units_prepared, functions_kept, UnitsFit, UnitsGrow, kept_list, AllKept};
+ghost use Rattle.blz_index.specs.UnitsWarm.{units_table, functions_kept, CanBeAsked, Leaves, kept_list, AllKept};
 
 use crate::units::Units;
 use blz_bytes::Orders;
@@ -43,13 +43,10 @@ impl Units {
         dwarf: &Dwarf<'_, '_>,
         unit: usize,
     ) -> Result<()>
-        requires readable { IsReadable dwarf.now }
-        requires fits { UnitsFit (files_view dwarf.now) self.old }
+        requires asked { CanBeAsked dwarf.now self.old }
         ensures value { Gives (λ _. kept_list self.new unit) result (or_invalid (listed (unit_functions (files_view dwarf.now) (units_table self.old) unit))) }
         ensures there { IfOk result (λ _. functions_kept self.new unit ≡ true) }
-        ensures fits { UnitsFit (files_view dwarf.now) self.new }
-        ensures prepared { units_prepared self.new ≡ units_prepared self.old }
-        ensures grows { UnitsGrow O.pair_places self.old self.new }
+        ensures leaves { Leaves O.pair_places dwarf.now self.old self.new }
     {
         let reader = Reader {
             alloc,
@@ -75,13 +72,10 @@ impl Units {
         dwarf: &Dwarf<'_, '_>,
         name: &str,
     ) -> Result<Vec<(usize, usize)>>
-        requires readable { IsReadable dwarf.now }
-        requires fits { UnitsFit (files_view dwarf.now) self.old }
+        requires asked { CanBeAsked dwarf.now self.old }
         ensures value { Gives (λ v. v.items) result (or_invalid (functions_named dwarf.now.texts (files_view dwarf.now) (units_table self.old) name.now)) }
         ensures there { IfOk result (λ v. AllKept self.new v.items) }
-        ensures fits { UnitsFit (files_view dwarf.now) self.new }
-        ensures prepared { units_prepared self.new ≡ units_prepared self.old }
-        ensures grows { UnitsGrow O.pair_places self.old self.new }
+        ensures leaves { Leaves O.pair_places dwarf.now self.old self.new }
     {
         let reader = Reader {
             alloc,
@@ -101,13 +95,10 @@ impl Units {
         dwarf: &Dwarf<'_, '_>,
         visit: &mut W,
     ) -> Result<()>
-        requires readable { IsReadable dwarf.now }
-        requires fits { UnitsFit (files_view dwarf.now) self.old }
+        requires asked { CanBeAsked dwarf.now self.old }
         requires goes_on { W.stopped visit.old ≡ false }
         ensures shows { ShowsUnits (all_functions (files_view dwarf.now) (units_table self.old)) (all_shown (files_view dwarf.now) (units_table self.old)) (W.shown visit.old) (W.shown visit.new) (W.stopped visit.new) result }
-        ensures fits { UnitsFit (files_view dwarf.now) self.new }
-        ensures prepared { units_prepared self.new ≡ units_prepared self.old }
-        ensures grows { UnitsGrow O.pair_places self.old self.new }
+        ensures leaves { Leaves O.pair_places dwarf.now self.old self.new }
     {
         let reader = Reader {
             alloc,

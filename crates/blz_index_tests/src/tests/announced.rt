@@ -1,9 +1,13 @@
 //! The units of a file, and the addresses that they announce.
+ghost use Rattle.std.specs.Prelude.{◌<◌};
+ghost use Rattle.blz_units.specs.BuiltUnits.{IsReadable};
+
 use super::small::{file_of, refusal};
 use blz_bytes::AsTheyStand;
 use blz_error::ErrorKind;
-use blz_index::Units;
+use blz_index::{Dwarf, Units};
 use blz_moves::RelocationMap;
+use std::alloc::Global;
 use std::test::Fail;
 
 // two units of version 4: the root of the first has the code 1, that of the second the code 2
@@ -31,19 +35,29 @@ fn a_unit_of_a_set_is_built_when_an_address_reaches_it(rt: HostRuntime) -> Resul
     Ok(())
 }
 
+// why one of two units does not tell its language, where it does not
+fn refused_language(
+    alloc: Global,
+    dwarf: &Dwarf<'_, '_>,
+    unit: usize,
+) -> Result<Option<ErrorKind>, Fail>
+    requires readable { IsReadable dwarf.now }
+    requires two { unit < 2 }
+{
+    let mut units = Units::parse(alloc, &mut AsTheyStand, dwarf)?;
+    if units.len() != 2 {
+        return Err(Fail::from("not two units"));
+    }
+    Ok(refusal(units.language(alloc, dwarf, unit)))
+}
+
 #[test]
 fn a_unit_without_its_abbreviations_cannot_be_built(rt: HostRuntime) -> Result<(), Fail> {
     let alloc = rt.alloc();
     let none = RelocationMap::new(alloc);
     let dwarf = file_of(INFO, ABBREV, ARANGES, &none);
-    let mut units = Units::parse(alloc, &mut AsTheyStand, &dwarf)?;
-    if units.len() != 2 {
-        assert!(rt; false);
-        return Ok(());
-    }
-    assert!(rt; units.language(alloc, &dwarf, 0).is_ok());
-    let second = units.language(alloc, &dwarf, 1);
-    assert!(rt; refusal(second) == Some(ErrorKind::InvalidDwarf));
+    assert!(rt; refused_language(alloc, &dwarf, 0)?.is_none());
+    assert!(rt; refused_language(alloc, &dwarf, 1)? == Some(ErrorKind::InvalidDwarf));
     Ok(())
 }
 

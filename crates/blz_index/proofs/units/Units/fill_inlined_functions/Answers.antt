@@ -1,10 +1,5 @@
-use Rattle.std.proofs.Common.{refl}
-use Rattle.blz_units.specs.BuiltUnits.{files_view}
-use Rattle.blz_index.proofs.UnitsAgain.{fit_on}
+use Rattle.blz_index.proofs.UnitsAgain.{leaves_more}
 use Rattle.blz_index.proofs.units.Units.fill_inlined_functions.Goals as goal
 
-pub returns-clause-fits : goal.returns-clause-fits
-returns-clause-fits g c =
-    let u = c.args.self.now in
-    let f = files_view c.args.dwarf.now in
-    fit_on f g.O.Orders.pair_places u _ c.requires.fits refl refl c.list_calls.ensures.fits c.list_calls.ensures.grows
+pub returns-clause-leaves : goal.returns-clause-leaves
+returns-clause-leaves g c = leaves_more _ _ _ _ c.requires.asked c.list_calls.ensures.fits c.list_calls.ensures.grows
