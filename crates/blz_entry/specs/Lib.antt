@@ -2,5 +2,6 @@ pub mod Folds
 pub mod StringPlaces
 pub mod AddressIndexes
 pub mod RangeLists
+pub mod RangeTails
 pub mod Roots
 pub mod AddressSets

@@ -4,6 +4,7 @@
 mod addresses;
 mod aranges;
 mod range_list;
+mod range_tail;
 mod ranges;
 mod root;
 mod strings;
@@ -17,6 +18,7 @@ pub use blz_info::{
     list_unit, offset_at,
 };
 pub use blz_ranges::Span;
+pub use range_tail::RangeTail;
 pub use ranges::{RangeAttributes, attr_ranges_offset};
 pub use root::UnitRoot;
 pub use strings::{attr_string, supplementary_string};

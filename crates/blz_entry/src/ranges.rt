@@ -5,7 +5,8 @@ ghost use Rattle.blz_info.specs.Marks.{or_invalid};
 ghost use Rattle.blz_entry.specs.RangeLists.{range_offset, held_offset, answered_offset, with_low, with_high, range_step, sized, bounds_of, not_empty, ranges_of, joined, Appends};
 
 use crate::addresses::value_address;
-use crate::range_list::{append_list, put};
+use crate::range_list::put;
+use crate::range_tail::append_list;
 use crate::root::UnitRoot;
 use blz_constants::dwarf;
 use blz_error::Result;
