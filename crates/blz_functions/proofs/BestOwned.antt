@@ -1,5 +1,5 @@
 -- Ranges that can be left out, since equal ones stand before them.
-use Rattle.std.proofs.Common.{◌≡◌, ℕ, suc, ◌+◌, true, false, ltb, List, [], ◌∷◌, ◌++◌, Option, Some, None, option_map, refl, sym, ap, ◌∙◌, arith, inl, inr}
+use Rattle.std.proofs.Common.{◌≡◌, ℕ, suc, ◌+◌, true, false, ltb, List, [], ◌∷◌, ◌++◌, Option, Some, None, option_map, append_assoc, refl, sym, ap, ◌∙◌, arith, inl, inr}
 use Rattle.std.specs.List.{slice_get}
 use Rattle.std.proofs.lemmas.Bool.{cases_Bool, ltb-true, ltb-false, lt-ltb, le-ltb}
 use Rattle.blz_ranges.specs.declared.span.Span.{Span}
@@ -164,3 +164,32 @@ never_best_again spans list n addr owner =
     let x = best_owned list addr in
     let y = best_owned (own_all n spans) addr in
     rw (best_appended list (own_all n spans) addr, best_of_all owner n spans addr) (better_better x y (option_map (owned_by owner) y) ∙ ap (λ (o : Option (Owned Span)). better_owned x o) (same_again owner y))
+
+-- of no ranges none is the best
+pub never_best_none : (list : List (Owned Span)) → AreNeverBest [] list
+unfolding best_owned
+never_best_none list addr owner = better_none (best_owned list addr)
+
+pub own_appended : (n : ℕ) (front back : List Span) → own_all n (front ++ back) ≡ own_all n front ++ own_all n back
+own_appended n [] back = refl
+own_appended n (s ∷ front) back = ap (λ (l : List (Owned Span)). record { item = s; owner = n } ∷ l) (own_appended n front back)
+
+pub never_best_both : (front back : List Span) (list : List (Owned Span)) → AreNeverBest front list → AreNeverBest back list → AreNeverBest (front ++ back) list
+never_best_both front back list h k addr owner =
+    let x = best_owned list addr in
+    let y = best_owned (own_all owner front) addr in
+    let z = best_owned (own_all owner back) addr in
+    rw (own_appended owner front back, best_appended (own_all owner front) (own_all owner back) addr)
+    (sym (better_better x y z) ∙ (ap (λ (o : Option (Owned Span)). better_owned o z) (h addr owner) ∙ k addr owner))
+
+-- those at the end of a list too
+pub never_best_end : (front back : List Span) (list : List (Owned Span)) (n : ℕ) → AreNeverBest back (list ++ own_all n (front ++ back))
+never_best_end front back list n =
+    rw (own_appended n front back, ← (append_assoc list (own_all n front) (own_all n back))) (never_best_again back (list ++ own_all n front) n)
+
+-- ranges of which the last are never the best
+pub answers_with : (kept all : List (Owned Span)) (front back : List Span) (n owner : ℕ) → owner ≡ n → AnswersAs kept all → AreNeverBest back kept → AnswersAs (kept ++ own_all n front) (all ++ own_all owner (front ++ back))
+answers_with kept all front back n owner same h never =
+    let new = own_all n front in
+    let more : AnswersAs (kept ++ new) ((all ++ new) ++ own_all n back) = answers_without (kept ++ new) (all ++ new) back n (answers_more kept all new h) (never_best_more back kept new never) in
+    rw (same, own_appended n front back, ← (append_assoc all new (own_all n back))) more

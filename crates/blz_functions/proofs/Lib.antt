@@ -16,4 +16,5 @@ pub mod CallEntry
 pub mod UnplacedEntries
 pub mod PassedEntries
 pub mod BestOwned
+pub mod ReadLists
 pub mod SearchedRanges

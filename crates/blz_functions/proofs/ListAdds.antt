@@ -1,8 +1,6 @@
 -- One function more in the lists of a unit, or one call more in those of a function.
-use Rattle.std.proofs.Common.{◌≡◌, ℕ, Bool, true, false, List, [], ◌∷◌, ◌++◌, length, map, Option, Some, None, refl, sym, ap, ◌∙◌, arith}
+use Rattle.std.proofs.Common.{◌≡◌, ℕ, Bool, List, [], ◌∷◌, ◌++◌, length, map, Option, Some, None, refl, sym, ap, ◌∙◌}
 use Rattle.std.specs.Prelude.{nat_lt}
-use Rattle.std.proofs.lemmas.Bool.{ltb-true, ltb-false}
-use Rattle.std.proofs.lemmas.List.{append-nil}
 use Rattle.blz_model.specs.Reads.{◌>>=◌}
 use Rattle.blz_entry.specs.RangeLists.{appended}
 use Rattle.blz_ranges.specs.declared.span.Span.{Span}
@@ -13,7 +11,8 @@ use Rattle.blz_functions.specs.declared.inlined_functions.InlinedFunction.{Inlin
 use Rattle.blz_functions.specs.CallTree.{CallLists, call_by, call_added}
 use Rattle.blz_functions.specs.Chain.{call_range}
 use Rattle.blz_ranges.specs.Groups.{grouped}
-use Rattle.blz_functions.specs.FunctionList.{Lists, function_by, with_ranges, lists_added}
+use Rattle.blz_functions.specs.FunctionList.{Lists, lists_added}
+use Rattle.blz_functions.specs.SearchedFunctions.{with_front}
 use Rattle.blz_functions.specs.Leaves.{UnitParts, ranges_in}
 use Rattle.blz_ranges.specs.Owned.{Owned, owned, own_all, filled_up}
 use Rattle.blz_ranges.proofs.OwnedItems.{owned_more}
@@ -43,41 +42,14 @@ appended_by (Some spans) old new some h = record { spans = spans; is = refl; new
 abbrev lists_by : List Function → List (Owned Span) → Lists
 lists_by functions ranges = record { functions = functions; ranges = ranges }
 
-no_spans : (spans : List Span) → nat_lt 0 (length spans) ≡ false → spans ≡ []
-no_spans [] h = refl
-no_spans (s ∷ rest) h = absurd (let k = ltb-false 0 (length (s ∷ rest)) h in omega arith)
-
-something : (functions : List Function) (old spans : List Span) (owners : List ℕ) (f : Function) → nat_lt 0 (length spans) ≡ true → length old ≡ length owners
-    → with_ranges (record { functions = functions; ranges = owned old owners }) f spans ≡ record { functions = functions ++ f ∷ []; ranges = owned (old ++ spans) (filled_up owners (length functions) (length (old ++ spans))) }
-something functions old [] owners f h e = absurd (let k = ltb-true 0 (length {A = Span} []) h in omega arith)
-something functions old (s ∷ rest) owners f h e = ap (λ (r : List (Owned Span)). lists_by (functions ++ f ∷ []) r) (sym (owned_more old (s ∷ rest) owners (length functions) (length (old ++ s ∷ rest)) e refl))
-
-pub added_none : (u : UnitParts) (functions : List Function) (old new : List Span) (owners : List ℕ) (place : ℕ) (d : Description) (some : Bool) → Appended (ranges_in u d.ranges) old new some → some ≡ false
-    → lists_added u (record { functions = functions; ranges = owned old owners }) place d ≡ Some (record { functions = functions; ranges = owned new owners })
-unfolding lists_added
-added_none u functions old new owners place d some a e =
-    let n : nat_lt 0 (length a.spans) ≡ false = sym a.flag ∙ e in
-    let z : a.spans ≡ [] = no_spans a.spans n in
-    let w : new ≡ old = a.new_is ∙ (ap (λ (l : List Span). old ++ l) z ∙ append-nil old) in
-    rw (a.is, z, w) refl
-
-pub added_some : (u : UnitParts) (functions : List Function) (old new : List Span) (owners : List ℕ) (place : ℕ) (d : Description) (some : Bool) → Appended (ranges_in u d.ranges) old new some → some ≡ true → length old ≡ length owners
-    → lists_added u (record { functions = functions; ranges = owned old owners }) place d ≡ Some (record { functions = functions ++ function_by place d ∷ []; ranges = owned new (filled_up owners (length functions) (length new)) })
-unfolding lists_added
-added_some u functions old new owners place d some a e len =
-    let n : nat_lt 0 (length a.spans) ≡ true = sym a.flag ∙ e in
-    rw (a.is, a.new_is) (ap (λ (l : Lists). Some l) (something functions old a.spans owners (function_by place d) n len))
+-- the ranges of one function more behind the others
+pub front_more : (functions : List Function) (old new read : List Span) (owners : List ℕ) (f : Function) → new ≡ old ++ read → length old ≡ length owners
+    → record { functions = functions ++ f ∷ []; ranges = owned new (filled_up owners (length functions) (length new)) } ≡ with_front (record { functions = functions; ranges = owned old owners }) f read
+front_more functions old new read owners f is len = rw is (ap (λ (r : List (Owned Span)). lists_by (functions ++ f ∷ []) r) (owned_more old read owners (length functions) (length (old ++ read)) len refl))
 
 pub added_fails : (u : UnitParts) (l : Lists) (place : ℕ) (d : Description) → ranges_in u d.ranges ≡ None → lists_added u l place d ≡ None
 unfolding lists_added
 added_fails u l place d h = rw h refl
-
--- the numbers of the ranges and of their owners stay the same
-pub lengths_stay : (o : Option (List Span)) (old new : List Span) (owners : List ℕ) (some : Bool) → Appended o old new some → some ≡ false → length old ≡ length owners → length new ≡ length owners
-lengths_stay o old new owners some a e len =
-    let z : a.spans ≡ [] = no_spans a.spans (sym a.flag ∙ e) in
-    let w : new ≡ old = a.new_is ∙ (ap (λ (l : List Span). old ++ l) z ∙ append-nil old) in
-    ap length w ∙ len
 
 -- ---- calls
 

@@ -3,9 +3,11 @@ use Rattle.std.specs.Prelude.{ℕ, List, Option, option_map}
 use Rattle.blz_info.specs.Abbrevs.{Abbrev}
 use Rattle.blz_info.specs.Contents.{Contents}
 use Rattle.blz_entry.specs.RangeLists.{range_step, ranges_of}
+use Rattle.blz_entry.specs.RangeTails.{tail_spans, tail_step}
 use Rattle.blz_entry.specs.StringPlaces.{string_of}
 use Rattle.blz_info.specs.Walks.{Source, source_of}
 use Rattle.blz_entry.specs.declared.ranges.RangeAttributes.{RangeAttributes}
+use Rattle.blz_entry.specs.declared.range_tail.RangeTail.{RangeTail}
 use Rattle.blz_entry.specs.declared.root.UnitRoot.{UnitRoot}
 use Rattle.blz_info.specs.declared.section.Section.{Section}
 use Rattle.blz_info.specs.declared.section.Sections.{Sections}
@@ -52,6 +54,14 @@ range_step_in u r a = range_step (lying u.sections) u.header u.root r a
 
 unfoldable pub ranges_in : UnitParts → RangeAttributes → Option (List Span)
 ranges_in u r = ranges_of r (lying u.sections) u.header u.root
+
+-- the ranges of a list from one of its entries on
+abbrev pub spans_behind : UnitParts → RangeTail → Option (List Span)
+spans_behind u tail = tail_spans (lying u.sections) u.header u.root tail
+
+-- the range of an entry of a list, and the list behind it
+abbrev pub entry_behind : UnitParts → RangeTail → Option (Option (Option Span × RangeTail))
+entry_behind u tail = tail_step (lying u.sections) u.header u.root tail
 
 abbrev pub source_in : UnitParts → Source
 source_in u = source_of (lying u.sections) u.header u.table

@@ -9,4 +9,5 @@ pub mod CallTree
 pub mod CallWalk
 pub mod FunctionRanges
 pub mod BestOwned
+pub mod ReadLists
 pub mod SearchedFunctions

@@ -1,21 +1,20 @@
--- The functions of a unit as they are asked, and the ranges that are searched for them: those of a list that several
--- functions name stand once.
-use Rattle.std.specs.Prelude.{◌≡◌, ℕ, Bool, List, [], ◌∷◌, ◌++◌, length, Option, Some, None, Result, Ok, Err, nat_lt, IfSome}
-use Rattle.std.specs.BTreeMap.{BTreeMap, get, Updates}
-use Rattle.std.specs.Ordering.{nat_cmp}
+-- The functions of a unit as they are asked, and the ranges that are searched for them: those of an entry of a list stand
+-- once, however many functions name a list that it belongs to.
+use Rattle.std.specs.Prelude.{◌≡◌, ℕ, List, [], ◌∷◌, ◌++◌, length, Option, Some, Result, Ok, Err}
 use Rattle.blz_error.specs.Fault.{Fault}
 use Rattle.blz_model.specs.Part.{Fails}
 use Rattle.blz_model.specs.Reads.{◌>>=◌}
 use Rattle.blz_info.specs.Marks.{or_invalid}
-use Rattle.blz_entry.specs.declared.ranges.RangeAttributes.{RangeAttributes}
 use Rattle.blz_ranges.specs.declared.span.Span.{Span}
-use Rattle.blz_functions.specs.BestOwned.{AnswersAs, AreNeverBest}
-use Rattle.blz_ranges.specs.Owned.{Owned}
+use Rattle.blz_functions.specs.BestOwned.{AnswersAs}
+use Rattle.blz_ranges.specs.Owned.{Owned, own_all}
 use Rattle.blz_ranges.specs.Ranges.{best_owner}
 use Rattle.blz_functions.specs.declared.functions.Function.{Function}
 use Rattle.blz_functions.specs.Describing.{Refer}
 use Rattle.blz_functions.specs.FunctionList.{Lists, unit_lists}
-use Rattle.blz_functions.specs.Leaves.{UnitParts, ranges_in}
+use Rattle.blz_functions.specs.Leaves.{UnitParts}
+use Rattle.blz_functions.specs.ReadLists.{AreRead}
+use Rattle.blz_functions.specs.declared.read_lists.ReadLists.{ReadLists}
 
 -- the functions of a unit, and the number of the one that an address has
 pub record AskedFunctions : Type 0 where
@@ -35,33 +34,15 @@ functions_asked refer u = unit_lists refer u >>= λ l. Some (asked_of l)
 
 -- ---- while a unit is read
 
--- the lists with a function whose ranges are not put among those that are searched
-abbrev pub with_function : Lists → Function → Lists
-with_function l f = record { functions = l.functions ++ f ∷ []; ranges = l.ranges }
-
--- of the lists of ranges that were read, by their offsets, whether each tells a range
-
--- what is kept of the list at an offset
-abbrev pub list_kept : BTreeMap ℕ Bool → Option ℕ → Option Bool
-list_kept lists None = None
-list_kept lists (Some offset) = get nat_cmp lists offset
-
-abbrev pub KeepsList : BTreeMap ℕ Bool → BTreeMap ℕ Bool → Option ℕ → Bool → Type 0
-KeepsList old new None some = new ≡ old
-KeepsList old new (Some offset) some = Updates nat_cmp old new offset (Some some)
-
--- The ranges of whoever names the list at an offset: equal ones stand among those that are searched.
-pub record IsListRead (u : UnitParts) (ranges : List (Owned Span)) (offset : ℕ) (some : Bool) : Type 0 where
-  pub spans : List Span
-  pub is : (r : RangeAttributes) → r.ranges_offset ≡ Some offset → ranges_in u r ≡ Some spans
-  pub never_best : AreNeverBest spans ranges
-  pub flag : some ≡ nat_lt 0 (length spans)
+-- the lists with a function of whose ranges the first are put among those that are searched
+abbrev pub with_front : Lists → Function → List Span → Lists
+with_front l f front = record { functions = l.functions ++ f ∷ []; ranges = l.ranges ++ own_all (length l.functions) front }
 
 -- The ranges that are searched give the same functions as all ranges do.
-pub record AreSearched (u : UnitParts) (some : Lists) (lists : BTreeMap ℕ Bool) (all : Lists) : Type 0 where
+pub record AreSearched (u : UnitParts) (some : Lists) (lists : ReadLists) (all : Lists) : Type 0 where
   pub functions : some.functions ≡ all.functions
   pub answers : AnswersAs some.ranges all.ranges
-  pub read : (offset : ℕ) → IfSome (get nat_cmp lists offset) (IsListRead u some.ranges offset)
+  pub read : AreRead u some.ranges lists
 
 -- ---- what calls give
 
@@ -75,6 +56,14 @@ abbrev pub GivesAs : {X Y : Type 0} → (X → Y → Type 0) → Result X Fault 
 GivesAs Fits (Ok x) o = IsGiven (Fits x) o
 GivesAs Fits (Err e) o = Fails e.kind (or_invalid o)
 
+-- What is searched for some functions, a call makes what is searched for those with what it adds.
+abbrev pub AddsSearched : UnitParts → Lists → ReadLists → ReadLists → Result Lists Fault → (Lists → Option Lists) → Type 0
+AddsSearched u some old new result added = (all : Lists) → AreSearched u some old all → GivesAs (λ l m. AreSearched u l new m) result (added all)
+
 -- the functions behind an entry, and the place of the next one
-abbrev pub IsMet : UnitParts → Lists → BTreeMap ℕ Bool → Lists × ℕ → ℕ → Type 0
+abbrev pub IsMet : UnitParts → Lists → ReadLists → Lists × ℕ → ℕ → Type 0
 IsMet u some lists p next = AreSearched u some lists p.0 × (p.1 ≡ next)
+
+-- the same with the place of the next entry
+abbrev pub MeetsSearched : UnitParts → Lists → ReadLists → ReadLists → ℕ → Result Lists Fault → (Lists → Option (Lists × ℕ)) → Type 0
+MeetsSearched u some old new next result met = (all : Lists) → AreSearched u some old all → GivesAs (λ l p. IsMet u l new p next) result (met all)

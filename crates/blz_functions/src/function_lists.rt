@@ -1,31 +1,30 @@
 //! The functions among the entries of a unit.
-ghost use Rattle.std.specs.Prelude.{◌≡◌, [], ◌≤◌, map, IfOk, OnOk};
-ghost use Rattle.std.specs.BTreeMap.{BTreeMap};
+ghost use Rattle.std.specs.Prelude.{◌≡◌, [], ◌≤◌, map, IfOk};
 ghost use Rattle.blz_model.specs.Part.{Gives};
 ghost use Rattle.blz_info.specs.Marks.{or_invalid};
 ghost use Rattle.blz_functions.specs.Describing.{specs_of};
-ghost use Rattle.blz_functions.specs.FunctionList.{Lists, is_function_tag, function_by, lists_added, function_added, no_lists, entry_met};
+ghost use Rattle.blz_functions.specs.FunctionList.{is_function_tag, function_by, lists_added, function_added, no_lists, entry_met};
 ghost use Rattle.blz_ranges.specs.Keyed.{IsAccepted, begin_key};
 ghost use Rattle.blz_functions.specs.Leaves.{source_in};
 ghost use Rattle.blz_functions.specs.Opened.{open_view, CanBeOpened};
 ghost use Rattle.blz_ranges.specs.Owned.{items_of};
-ghost use Rattle.blz_functions.specs.SearchedFunctions.{AreSearched, GivesAs, IsMet, KeepsList, list_kept, with_function, functions_asked, asked_of};
+ghost use Rattle.blz_functions.specs.SearchedFunctions.{AddsSearched, MeetsSearched, functions_asked, asked_of};
 
 use crate::description::Description;
 use crate::functions::{Function, Functions};
 use crate::links::Links;
 use crate::open_unit::OpenUnit;
+use crate::read_lists::ReadLists;
 use blz_bytes::Orders;
 use blz_constants::dwarf;
 use blz_entry::{Entries, Entry, Passing, Span};
 use blz_error::Result;
 use blz_ranges::own;
 use std::alloc::{AllocError, Global};
-use std::collections::BTreeMap;
 use std::marker::Model;
 
-/// Functions, and their ranges with the number of the function of each. A list of ranges that several functions name is
-/// read once, and its ranges stand here for the first of them alone, which is the one that each address of them has.
+/// Functions, and their ranges with the number of the function of each. Of the lists of ranges that functions name each
+/// entry is read once, and its range stands here for the first of them alone, which is the one that each address of it has.
 #[derive(Drop)]
 pub struct FunctionLists {
     functions: Vec<Function>,
@@ -62,30 +61,6 @@ fn function_by(place: usize, description: &Description) -> Function
     }
 }
 
-/// Whether a list of ranges tells one, where there is a list and it was read.
-fn kept_list(lists: &BTreeMap<u64, bool>, offset: Option<u64>) -> Option<bool>
-    ensures { result ≡ list_kept lists.now offset }
-{
-    match offset {
-        Some(offset) => lists.get(&offset).copied(),
-        None => None,
-    }
-}
-
-/// Keeps whether a list of ranges tells one, where there is a list.
-fn keep_list(
-    lists: &mut BTreeMap<u64, bool>,
-    offset: Option<u64>,
-    some: bool,
-) -> std::result::Result<(), AllocError>
-    ensures { OnOk result (KeepsList lists.old lists.new offset some) }
-{
-    if let Some(offset) = offset {
-        lists.insert(offset, some)?;
-    }
-    Ok(())
-}
-
 impl FunctionLists {
     fn new(alloc: Global) -> FunctionLists
         ensures { result ≡ no_lists }
@@ -97,44 +72,22 @@ impl FunctionLists {
         }
     }
 
-    /// The lists with one more function, whose list of ranges was read before and tells one.
-    fn with_known(
-        self,
-        place: usize,
-        description: &Description,
-    ) -> std::result::Result<FunctionLists, AllocError>
-        ensures { IfOk result (λ l. l ≡ with_function self (function_by place description.now)) }
-    {
-        let FunctionLists {
-            mut functions,
-            spans,
-            owners,
-        } = self;
-        functions.push(function_by(place, description))?;
-        Ok(FunctionLists {
-            functions,
-            spans,
-            owners,
-        })
-    }
-
-    /// The lists with one more function, where it has a range; its ranges are read.
-    fn with_new(
+    /// The lists with one more function, where it has a range.
+    fn with(
         self,
         unit: &OpenUnit<'_, '_>,
-        lists: &mut BTreeMap<u64, bool>,
+        lists: &mut ReadLists,
         place: usize,
         description: &Description,
     ) -> Result<FunctionLists>
-        ensures { (all : Lists) → AreSearched (open_view unit.now) self lists.old all → GivesAs (λ l m. AreSearched (open_view unit.now) l lists.new m) result (lists_added (open_view unit.now) all place description.now) }
+        ensures { AddsSearched (open_view unit.now) self lists.old lists.new result (λ all. lists_added (open_view unit.now) all place description.now) }
     {
         let FunctionLists {
             mut functions,
             mut spans,
             mut owners,
         } = self;
-        let some = unit.append_ranges(&description.ranges, &mut spans)?;
-        keep_list(lists, description.ranges.ranges_offset, some)?;
+        let some = lists.append(unit, &description.ranges, &mut spans)?;
         if !some {
             return Ok(FunctionLists {
                 functions,
@@ -151,33 +104,16 @@ impl FunctionLists {
         })
     }
 
-    /// The lists with one more function, where it has a range.
-    fn with(
-        self,
-        unit: &OpenUnit<'_, '_>,
-        lists: &mut BTreeMap<u64, bool>,
-        place: usize,
-        description: &Description,
-    ) -> Result<FunctionLists>
-        ensures { (all : Lists) → AreSearched (open_view unit.now) self lists.old all → GivesAs (λ l m. AreSearched (open_view unit.now) l lists.new m) result (lists_added (open_view unit.now) all place description.now) }
-    {
-        match kept_list(lists, description.ranges.ranges_offset) {
-            Some(true) => Ok(self.with_known(place, description)?),
-            Some(false) => Ok(self),
-            None => self.with_new(unit, lists, place, description),
-        }
-    }
-
     /// The lists with the function that an entry is, if it is one.
     #[inline(always)]
     fn with_described(
         self,
         unit: &OpenUnit<'_, '_>,
-        lists: &mut BTreeMap<u64, bool>,
+        lists: &mut ReadLists,
         place: usize,
         description: &Option<Description>,
     ) -> Result<FunctionLists>
-        ensures { (all : Lists) → AreSearched (open_view unit.now) self lists.old all → GivesAs (λ l m. AreSearched (open_view unit.now) l lists.new m) result (function_added (open_view unit.now) all place description.now) }
+        ensures { AddsSearched (open_view unit.now) self lists.old lists.new result (λ all. function_added (open_view unit.now) all place description.now) }
     {
         match description {
             Some(description) => self.with(unit, lists, place, description),
@@ -191,13 +127,13 @@ impl FunctionLists {
         self,
         unit: &OpenUnit<'_, '_>,
         links: &mut F,
-        lists: &mut BTreeMap<u64, bool>,
+        lists: &mut ReadLists,
         entries: &mut Entries<'_, '_>,
         entry: &Entry,
     ) -> Result<FunctionLists>
         requires source { entries.old.source ≡ source_in (open_view unit.now) }
         requires met { entries.old.pending ≡ specs_of (open_view unit.now) entry.now.code }
-        ensures value { (all : Lists) → AreSearched (open_view unit.now) self lists.old all → GivesAs (λ l p. IsMet (open_view unit.now) l lists.new p entries.new.place) result (entry_met (F.refer (F.linkage links.old)) (open_view unit.now) all entry.now entries.old) }
+        ensures value { MeetsSearched (open_view unit.now) self lists.old lists.new entries.new.place result (λ all. entry_met (F.refer (F.linkage links.old)) (open_view unit.now) all entry.now entries.old) }
         ensures pending { IfOk result (λ _. entries.new.pending ≡ []) }
         ensures source { entries.new.source ≡ entries.old.source }
         ensures depth { entries.new.depth ≡ entries.old.depth }
@@ -224,7 +160,7 @@ impl FunctionLists {
     {
         let mut entries = unit.entries(unit.header.entries)?;
         let mut functions = FunctionLists::new(alloc);
-        let mut lists = BTreeMap::new(alloc);
+        let mut lists = ReadLists::new(alloc);
         loop {
             entries.pass_over(Passing::Unplaced, dwarf::DW_TAG_subprogram);
             let entry = match entries.next_entry() {

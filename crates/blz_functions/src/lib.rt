@@ -10,6 +10,7 @@ pub mod laws;
 mod levels;
 mod links;
 mod open_unit;
+mod read_lists;
 mod referred;
 
 pub use call_lists::CallLists;

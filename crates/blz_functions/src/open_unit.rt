@@ -4,13 +4,14 @@ ghost use Rattle.blz_error.specs.declared.kind.ErrorKind.TheVariants.{InvalidDwa
 ghost use Rattle.blz_model.specs.Part.{Exactly, Good, Broken};
 ghost use Rattle.blz_info.specs.Marks.{or_invalid};
 ghost use Rattle.blz_entry.specs.RangeLists.{Appends};
+ghost use Rattle.blz_entry.specs.RangeTails.{list_tail};
 ghost use Rattle.blz_info.specs.Walks.{walk_from};
-ghost use Rattle.blz_functions.specs.Leaves.{string_in, range_step_in, ranges_in, source_in};
+ghost use Rattle.blz_functions.specs.Leaves.{entry_behind, string_in, range_step_in, ranges_in, source_in};
 ghost use Rattle.blz_functions.specs.Opened.{open_view, CanBeOpened};
 
 use blz_entry::{
-    Abbreviations, AttrValue, Entries, RangeAttributes, Sections, Span, StrPlace, UnitHeader,
-    UnitRoot, attr_string,
+    Abbreviations, AttrValue, Entries, RangeAttributes, RangeTail, Sections, Span, StrPlace,
+    UnitHeader, UnitRoot, attr_string,
 };
 use blz_error::Result;
 
@@ -57,5 +58,20 @@ impl<'s, 'b> OpenUnit<'s, 'b> {
         ensures { Appends (ranges_in (open_view self.now) ranges.now) out.old.items result out.new.items }
     {
         ranges.for_each_range(&self.sections, &self.header, &self.root, out)
+    }
+
+    /// The list of ranges at an offset.
+    pub(crate) fn ranges_at(&self, offset: u64) -> RangeTail
+        ensures { result ≡ list_tail self.now.root offset }
+    {
+        RangeTail::at(&self.root, offset)
+    }
+
+    /// The range of the entry that a list begins with, where it tells one, and the list behind it; None where the list
+    /// ends. InvalidDwarf exactly where the entry is not whole or not known.
+    pub(crate) fn next_range(&self, list: RangeTail) -> Result<Option<(Option<Span>, RangeTail)>>
+        ensures { Exactly (λ n. n) result (or_invalid (entry_behind (open_view self.now) list)) }
+    {
+        list.next(&self.sections, &self.header, &self.root)
     }
 }

@@ -1,0 +1,190 @@
+-- Lists of ranges that were read, and one more of them.
+use Rattle.std.proofs.Common.{◌≡◌, ℕ, ◌+◌, ◌-◌, ◌≤◌, Bool, true, false, List, [], ◌∷◌, ◌++◌, length, take, drop, Option, Some, None, refl, sym, ap, subst, ◌∙◌, arith, inl, inr}
+use Rattle.std.specs.Prelude.{IfSome, Result, Ok, Err, nat_lt, ◌||◌}
+use Rattle.std.specs.BTreeMap.{BTreeMap, get, IsEmpty, Updates}
+use Rattle.std.specs.List.{All}
+use Rattle.std.specs.Option.{option_to_list}
+use Rattle.std.specs.Ordering.{is_eq, nat_cmp}
+use Rattle.std.specs.declared.cmp.Ordering.{Ordering}
+use Rattle.std.specs.declared.cmp.Ordering.TheVariants.{Less, Equal, Greater}
+use Rattle.std.proofs.lemmas.Bool.{cases_Bool, ltb-true, ltb-false, lt-ltb, le-ltb}
+use Rattle.std.proofs.lemmas.List.{append-nil, drop-append-le, drop-drop, length-append, length-drop, length-take, take-append-drop}
+use Rattle.std.proofs.lemmas.List.Elements.{All-push, All-weaker}
+use Rattle.std.proofs.lemmas.Map.Lookups.{CmpEqualImpliesEq, exact_pairs, exact_unsigned}
+use Rattle.std.proofs.Math.Seq.{drop-length}
+use Rattle.blz_error.specs.Fault.{Fault}
+use Rattle.blz_entry.specs.RangeLists.{Appends, joined, ranges_of}
+use Rattle.blz_entry.specs.RangeTails.{list_tail}
+use Rattle.blz_entry.specs.declared.range_tail.RangeTail.{RangeTail}
+use Rattle.blz_entry.specs.declared.ranges.RangeAttributes.{RangeAttributes}
+use Rattle.blz_entry.proofs.RangeSteps.{joined_more, list_is_tail, tail_more, tail_none, tail_over}
+use Rattle.blz_ranges.specs.Owned.{Owned, own_all}
+use Rattle.blz_ranges.specs.declared.span.Span.{Span}
+use Rattle.blz_functions.specs.BestOwned.{AreNeverBest}
+use Rattle.blz_functions.specs.Leaves.{UnitParts, entry_behind, lying, ranges_in, spans_behind}
+use Rattle.blz_functions.specs.ReadLists.{AppendedTo, ArePassed, AreRead, IsAppended, IsPassed, IsRead, key_cmp, passed_entry}
+use Rattle.blz_functions.specs.declared.read_lists.PassedEntry.{PassedEntry}
+use Rattle.blz_functions.specs.declared.read_lists.ReadLists.{ReadLists}
+use Rattle.blz_functions.proofs.BestOwned.{never_best_both, never_best_end, never_best_more, never_best_none}
+use Rattle.blz_functions.proofs.ListAdds.{appended_by}
+
+-- ---- what is kept in a map
+
+pub if_empty : {K V : Type 0} (cmp : K → K → Ordering) (m : BTreeMap K V) (P : K → V → Type 0) → IsEmpty m → (at : K) → IfSome (get cmp m at) (P at)
+if_empty cmp m P e at = let none : get cmp m at ≡ None = rw e refl in rw none tt
+
+is_equal : (o : Ordering) → is_eq o ≡ true → o ≡ Equal
+is_equal Less e = absurd cc
+is_equal Equal e = refl
+is_equal Greater e = absurd cc
+
+-- one more of which the same holds
+pub more_kept : {K V : Type 0} (cmp : K → K → Ordering) → CmpEqualImpliesEq cmp → (old new : BTreeMap K V) (key : K) (v : V) (P : K → V → Type 0) → Updates cmp old new key (Some v) → P key v → ((at : K) → IfSome (get cmp old at) (P at)) → (at : K) → IfSome (get cmp new at) (P at)
+more_kept cmp exact old new key v P u here told at = elim (cases_Bool (is_eq (cmp key at))) [
+  | inl same ↦
+      let e = exact key at (is_equal (cmp key at) same) in
+      rw (u.0 at, same) (subst (λ k. P k v) e here)
+  | inr other ↦ rw (u.0 at, other) (told at)
+]
+
+pub if_mapped : {V : Type 0} (o : Option V) (P Q : V → Type 0) → ((v : V) → P v → Q v) → IfSome o P → IfSome o Q
+if_mapped None P Q f h = tt
+if_mapped (Some v) P Q f h = f v h
+
+-- ---- lists that were read
+
+pub keys_apart : CmpEqualImpliesEq key_cmp
+keys_apart = exact_pairs nat_cmp nat_cmp exact_unsigned exact_unsigned
+
+pub one_read : (u : UnitParts) (ranges : List (Owned Span)) (old new : ReadLists) (tail : RangeTail) (some : Bool) → Updates key_cmp old.tell new.tell (tail.place, tail.base) (Some some) → IsRead u ranges tail some → AreRead u ranges old → AreRead u ranges new
+one_read u ranges old new tail some keeps is told = more_kept key_cmp keys_apart old.tell new.tell (tail.place, tail.base) some (λ (key : ℕ × ℕ) b. IsRead u ranges (record { place = key.0; base = key.1 }) b) keeps is told
+
+list_more : (u : UnitParts) (ranges new : List (Owned Span)) (tail : RangeTail) (some : Bool) → IsRead u ranges tail some → IsRead u (ranges ++ new) tail some
+list_more u ranges new tail some h = record { spans = h.spans; is = h.is; never_best = never_best_more h.spans ranges new h.never_best; flag = h.flag }
+
+pub lists_more : (u : UnitParts) (ranges new : List (Owned Span)) (lists : ReadLists) → AreRead u ranges lists → AreRead u (ranges ++ new) lists
+lists_more u ranges new lists told key =
+    let tail : RangeTail = record { place = key.0; base = key.1 } in
+    if_mapped (get key_cmp lists.tell key) (IsRead u ranges tail) (IsRead u (ranges ++ new) tail) (λ b h. list_more u ranges new tail b h) (told key)
+
+-- ---- while a list is read
+
+-- a list that has no ranges
+pub nothing_read : (u : UnitParts) (ranges : List (Owned Span)) (tail : RangeTail) → entry_behind u tail ≡ Some None → IsRead u ranges tail false
+nothing_read u ranges tail e = record { spans = []; is = tail_over (lying u.sections) u.header u.root tail e; never_best = never_best_none ranges; flag = refl }
+
+joined_nil : (o : Option (List Span)) → o ≡ joined [] o
+joined_nil None = refl
+joined_nil (Some xs) = refl
+
+-- the list from an entry on, of which nothing is passed yet
+pub passed_here : (u : UnitParts) (first : ℕ) (out : List Span) (tail : RangeTail) → first ≤ length out → IsPassed u first out tail (passed_entry tail (length out))
+passed_here u first out tail le = record { above = le; within = omega arith; spans = rw (drop-length out) (joined_nil (spans_behind u tail)) }
+
+-- one entry more
+pub passed_more : (u : UnitParts) (first : ℕ) (out new : List Span) (rest next : RangeTail) (span : Option Span) (p : PassedEntry) → new ≡ out ++ option_to_list span → entry_behind u rest ≡ Some (Some (span, next)) → IsPassed u first out rest p → IsPassed u first new next p
+passed_more u first out new rest next span p put e h =
+    let more = tail_more (lying u.sections) u.header u.root rest next span e in
+    let xs = option_to_list span in
+    record {
+      above = h.above;
+      within = rw put (let k = length-append out xs in let w = h.within in omega arith);
+      spans = rw (put, drop-append-le p.before out xs h.within) (h.spans ∙ (ap (λ (o : Option (List Span)). joined (drop p.before out) o) more ∙ joined_more (drop p.before out) xs (spans_behind u next)));
+    }
+
+pub each_more : (u : UnitParts) (first : ℕ) (out new : List Span) (rest next : RangeTail) (span : Option Span) (passed more : List PassedEntry) → new ≡ out ++ option_to_list span → more ≡ passed ++ passed_entry rest (length out) ∷ [] → entry_behind u rest ≡ Some (Some (span, next)) → first ≤ length out
+    → All (IsPassed u first out rest) passed → All (IsPassed u first new next) more
+each_more u first out new rest next span passed more put one e le h =
+    let P = IsPassed u first new next in
+    let step = λ (p : PassedEntry) (k : IsPassed u first out rest p). passed_more u first out new rest next span p put e k in
+    rw one (All-push P passed (passed_entry rest (length out)) (All-weaker (IsPassed u first out rest) P step passed h) (step (passed_entry rest (length out)) (passed_here u first out rest le)))
+
+-- ---- a list behind which the rest is known
+
+some_joined : (o : Option (List Span)) (xs known : List Span) → o ≡ Some known → joined xs o ≡ Some (xs ++ known)
+some_joined o xs known e = rw e refl
+
+flag_of : (before : ℕ) (out known : List Span) (some : Bool) → before ≤ length out → some ≡ nat_lt 0 (length known) → (some || nat_lt before (length out)) ≡ nat_lt 0 (length (drop before out ++ known))
+flag_of before out known some le e =
+    let k = length-append (drop before out) known in
+    let d = length-drop before out in
+    elim (cases_Bool (nat_lt 0 (length known))) [
+      | inl t ↦ rw (e, t, lt-ltb 0 (length (drop before out ++ known)) (let p = ltb-true 0 (length known) t in omega arith)) refl
+      | inr f ↦ elim (cases_Bool (nat_lt before (length out))) [
+        | inl t ↦ rw (e, f, t, lt-ltb 0 (length (drop before out ++ known)) (let p = ltb-true before (length out) t in omega arith)) refl
+        | inr g ↦ rw (e, f, g, le-ltb 0 (length (drop before out ++ known)) (let p = ltb-false 0 (length known) f in let q = ltb-false before (length out) g in omega arith)) refl
+      ]
+    ]
+
+end_of : (first before : ℕ) (out : List Span) → first ≤ before → drop first out ≡ take (before - first) (drop first out) ++ drop before out
+end_of first before out le =
+    let n = before - first in
+    let same : drop n (drop first out) ≡ drop before out = drop-drop n first out ∙ ap (λ (k : ℕ). drop k out) (omega arith) in
+    sym (take-append-drop n (drop first out)) ∙ ap (λ (l : List Span). take n (drop first out) ++ l) same
+
+-- once the ranges that were put are searched, the list from an entry on is read
+pub passed_read : (u : UnitParts) (ranges : List (Owned Span)) (first owner : ℕ) (out : List Span) (rest : RangeTail) (some : Bool) (p : PassedEntry) → IsPassed u first out rest p → IsRead u ranges rest some → IsRead u (ranges ++ own_all owner (drop first out)) p.tail (some || nat_lt p.before (length out))
+passed_read u ranges first owner out rest some p h k =
+    let back = drop p.before out in
+    let front = take (p.before - first) (drop first out) in
+    let whole : drop first out ≡ front ++ back = end_of first p.before out h.above in
+    let ended : AreNeverBest back (ranges ++ own_all owner (drop first out)) = subst (λ (l : List Span). AreNeverBest back (ranges ++ own_all owner l)) (sym whole) (never_best_end front back ranges owner) in
+    record {
+      spans = back ++ k.spans;
+      is = h.spans ∙ some_joined (spans_behind u rest) back k.spans k.is;
+      never_best = never_best_both back k.spans (ranges ++ own_all owner (drop first out)) ended (never_best_more k.spans ranges (own_all owner (drop first out)) k.never_best);
+      flag = flag_of p.before out k.spans some h.within k.flag;
+    }
+
+-- the whole list
+pub appended_read : (u : UnitParts) (ranges : List (Owned Span)) (lists : ReadLists) (tail : RangeTail) (old new : List Span) (passed : List PassedEntry) (some : Bool) → ArePassed u ranges tail old new passed some → take (length old) new ≡ old
+    → ((owner : ℕ) → AreRead u (ranges ++ own_all owner (drop (length old) new)) lists) → IsAppended u ranges lists (spans_behind u tail) old new (some || nat_lt (length old) (length new))
+appended_read u ranges lists tail old new passed some h front are_read = record {
+  read = drop (length old) new;
+  known = h.known.spans;
+  is = h.whole.spans ∙ some_joined (spans_behind u h.rest) (drop (length old) new) h.known.spans h.known.is;
+  new_is = sym (take-append-drop (length old) new) ∙ ap (λ (l : List Span). l ++ drop (length old) new) front;
+  never_best = h.known.never_best;
+  flag = flag_of (length old) new h.known.spans some h.whole.within h.known.flag;
+  are_read = are_read;
+}
+
+-- where there is no list, all ranges are put
+pub appended_all : (u : UnitParts) (ranges : List (Owned Span)) (lists : ReadLists) (o : Option (List Span)) (old new spans : List Span) (some : Bool) → o ≡ Some spans → new ≡ old ++ spans → some ≡ nat_lt 0 (length spans) → AreRead u ranges lists → IsAppended u ranges lists o old new some
+appended_all u ranges lists o old new spans some is new_is flag told = record {
+  read = spans;
+  known = [];
+  is = rw (append-nil spans) is;
+  new_is = new_is;
+  never_best = never_best_none ranges;
+  flag = rw (append-nil spans) flag;
+  are_read = λ owner. lists_more u ranges (own_all owner spans) lists told;
+}
+
+-- the ranges of whoever names the list at an offset
+pub list_in : (u : UnitParts) (r : RangeAttributes) (offset : ℕ) → r.ranges_offset ≡ Some offset → ranges_in u r ≡ spans_behind u (list_tail u.root offset)
+unfolding ranges_in ranges_of
+list_in u r offset at = rw at (list_is_tail (lying u.sections) u.header u.root offset)
+
+-- of each entry that was passed
+pub each_read : (u : UnitParts) (ranges : List (Owned Span)) (lists : ReadLists) (tail : RangeTail) (old new : List Span) (passed given : List PassedEntry) (end owner : ℕ) (some : Bool) → ArePassed u ranges tail old new passed some → given ≡ passed → end ≡ length new
+    → All (λ (p : PassedEntry). IsRead u (ranges ++ own_all owner (drop (length old) new)) p.tail (some || nat_lt p.before end)) given
+each_read u ranges lists tail old new passed given end owner some h same count =
+    let R = ranges ++ own_all owner (drop (length old) new) in
+    rw (same, count) (All-weaker (IsPassed u (length old) new h.rest) (λ (p : PassedEntry). IsRead u R p.tail (some || nat_lt p.before (length new))) (λ p k. passed_read u ranges (length old) owner new h.rest some p k h.known) passed h.each)
+
+-- a list of which an entry is broken
+pub passed_fails : (u : UnitParts) (first before : ℕ) (out : List Span) (list rest : RangeTail) → IsPassed u first out rest (passed_entry list before) → entry_behind u rest ≡ None → spans_behind u list ≡ None
+passed_fails u first before out list rest h none =
+    h.spans ∙ ap (λ (o : Option (List Span)). joined (drop before out) o) (tail_none (lying u.sections) u.header u.root rest none)
+
+-- what a call that appends all ranges tells
+pub all_appended : (u : UnitParts) (ranges : List (Owned Span)) (lists : ReadLists) (o : Option (List Span)) (old new : List Span) (r : Result Bool Fault) → Appends o old r new → AreRead u ranges lists → AppendedTo u ranges lists o old new r
+all_appended u ranges lists o old new (Ok some) h told =
+    let a = appended_by o old new some h in
+    appended_all u ranges lists o old new a.spans some a.is a.new_is a.flag told
+all_appended u ranges lists o old new (Err e) h told = h.0
+
+-- what stands in front fits
+pub front_fits : (n : ℕ) (old new : List Span) → take n new ≡ old → length old ≤ length new
+front_fits n old new e = let k = ap length e in let t = length-take n new in omega arith

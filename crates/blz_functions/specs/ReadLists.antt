@@ -1,0 +1,74 @@
+-- Lists of ranges that were read, and what of one more list is read.
+use Rattle.std.specs.Prelude.{◌≡◌, ℕ, ◌≤◌, Bool, List, ◌++◌, length, drop, Option, Some, Result, Ok, Err, nat_lt, IfSome}
+use Rattle.std.specs.BTreeMap.{get}
+use Rattle.std.specs.List.{All}
+use Rattle.std.specs.Ordering.{nat_cmp, ordering_then}
+use Rattle.std.specs.declared.cmp.Ordering.{Ordering}
+use Rattle.blz_error.specs.Fault.{Fault}
+use Rattle.blz_model.specs.Part.{Fails}
+use Rattle.blz_info.specs.Marks.{or_invalid}
+use Rattle.blz_entry.specs.RangeLists.{joined}
+use Rattle.blz_entry.specs.declared.range_tail.RangeTail.{RangeTail}
+use Rattle.blz_ranges.specs.Owned.{Owned, own_all}
+use Rattle.blz_ranges.specs.declared.span.Span.{Span}
+use Rattle.blz_functions.specs.BestOwned.{AreNeverBest}
+use Rattle.blz_functions.specs.Leaves.{UnitParts, spans_behind}
+use Rattle.blz_functions.specs.declared.read_lists.PassedEntry.{PassedEntry}
+use Rattle.blz_functions.specs.declared.read_lists.ReadLists.{ReadLists}
+
+-- the order of the lists in a map: by their places, and at one place by their bases
+abbrev pub key_cmp : ℕ × ℕ → ℕ × ℕ → Ordering
+key_cmp x y = ordering_then (nat_cmp x.0 y.0) (nat_cmp x.1 y.1)
+
+-- Ranges equal to those of a list stand among those that are searched, and it is known whether it has one.
+pub record IsRead (u : UnitParts) (ranges : List (Owned Span)) (tail : RangeTail) (some : Bool) : Type 0 where
+  pub spans : List Span
+  pub is : spans_behind u tail ≡ Some spans
+  pub never_best : AreNeverBest spans ranges
+  pub flag : some ≡ nat_lt 0 (length spans)
+
+abbrev pub AreRead : UnitParts → List (Owned Span) → ReadLists → Type 0
+AreRead u ranges lists = (key : ℕ × ℕ) → IfSome (get key_cmp lists.tell key) (IsRead u ranges (record { place = key.0; base = key.1 }))
+
+-- ---- while a list is read
+
+abbrev pub passed_entry : RangeTail → ℕ → PassedEntry
+passed_entry tail before = record { tail = tail; before = before }
+
+-- The list from an entry on has the ranges that were put since, and then those of a rest.
+pub record IsPassed (u : UnitParts) (first : ℕ) (out : List Span) (rest : RangeTail) (p : PassedEntry) : Type 0 where
+  pub above : first ≤ p.before
+  pub within : p.before ≤ length out
+  pub spans : spans_behind u p.tail ≡ joined (drop p.before out) (spans_behind u rest)
+
+-- A list was read up to a rest that was read before, or that has no ranges.
+pub record ArePassed (u : UnitParts) (ranges : List (Owned Span)) (list : RangeTail) (old new : List Span) (passed : List PassedEntry) (some : Bool) : Type 0 where
+  pub rest : RangeTail
+  pub known : IsRead u ranges rest some
+  pub whole : IsPassed u (length old) new rest (passed_entry list (length old))
+  pub each : All (IsPassed u (length old) new rest) passed
+
+abbrev pub PassedTo : UnitParts → List (Owned Span) → RangeTail → List Span → List Span → List PassedEntry → Result Bool Fault → Type 0
+PassedTo u ranges list old new passed (Ok some) = ArePassed u ranges list old new passed some
+PassedTo u ranges list old new passed (Err e) = Fails e.kind (or_invalid (spans_behind u list))
+
+abbrev pub PassesTo : UnitParts → ReadLists → RangeTail → List Span → List Span → List PassedEntry → Result Bool Fault → Type 0
+PassesTo u lists list old new passed result = (ranges : List (Owned Span)) → AreRead u ranges lists → PassedTo u ranges list old new passed result
+
+-- Of the ranges of a list the first are put behind others, and equal ones of the rest stand among those that are searched;
+-- so do those of all lists that were read, once the first are searched.
+pub record IsAppended (u : UnitParts) (ranges : List (Owned Span)) (lists : ReadLists) (spans : Option (List Span)) (old new : List Span) (some : Bool) : Type 0 where
+  pub read : List Span
+  pub known : List Span
+  pub is : spans ≡ Some (read ++ known)
+  pub new_is : new ≡ old ++ read
+  pub never_best : AreNeverBest known ranges
+  pub flag : some ≡ nat_lt 0 (length (read ++ known))
+  pub are_read : (owner : ℕ) → AreRead u (ranges ++ own_all owner read) lists
+
+abbrev pub AppendedTo : UnitParts → List (Owned Span) → ReadLists → Option (List Span) → List Span → List Span → Result Bool Fault → Type 0
+AppendedTo u ranges lists spans old new (Ok some) = IsAppended u ranges lists spans old new some
+AppendedTo u ranges lists spans old new (Err e) = Fails e.kind (or_invalid spans)
+
+abbrev pub AppendsRead : UnitParts → ReadLists → ReadLists → Option (List Span) → List Span → List Span → Result Bool Fault → Type 0
+AppendsRead u before behind spans old new result = (ranges : List (Owned Span)) → AreRead u ranges before → AppendedTo u ranges behind spans old new result
