@@ -1,5 +1,5 @@
 -- Lists of ranges that were read, and one more of them.
-use Rattle.std.proofs.Common.{◌≡◌, ℕ, ◌+◌, ◌-◌, ◌≤◌, Bool, true, false, List, [], ◌∷◌, ◌++◌, length, take, drop, Option, Some, None, refl, sym, ap, subst, ◌∙◌, arith, inl, inr}
+use Rattle.std.proofs.Common.{◌≡◌, ℕ, ◌-◌, ◌≤◌, Bool, true, false, List, [], ◌∷◌, ◌++◌, length, take, drop, Option, Some, None, refl, sym, ap, subst, ◌∙◌, arith, inl, inr}
 use Rattle.std.specs.Prelude.{IfSome, Result, Ok, Err, nat_lt, ◌||◌}
 use Rattle.std.specs.BTreeMap.{BTreeMap, get, IsEmpty, Updates}
 use Rattle.std.specs.List.{All}
@@ -22,7 +22,7 @@ use Rattle.blz_ranges.specs.Owned.{Owned, own_all}
 use Rattle.blz_ranges.specs.declared.span.Span.{Span}
 use Rattle.blz_functions.specs.BestOwned.{AreNeverBest}
 use Rattle.blz_functions.specs.Leaves.{UnitParts, entry_behind, lying, ranges_in, spans_behind}
-use Rattle.blz_functions.specs.ReadLists.{AppendedTo, ArePassed, AreRead, IsAppended, IsPassed, IsRead, key_cmp, passed_entry}
+use Rattle.blz_functions.specs.ReadLists.{AppendedTo, ArePassed, AreRead, IsAppended, IsKept, IsPassed, IsRead, key_cmp, passed_entry}
 use Rattle.blz_functions.specs.declared.read_lists.PassedEntry.{PassedEntry}
 use Rattle.blz_functions.specs.declared.read_lists.ReadLists.{ReadLists}
 use Rattle.blz_functions.proofs.BestOwned.{never_best_both, never_best_end, never_best_more, never_best_none}
@@ -123,7 +123,7 @@ end_of first before out le =
     sym (take-append-drop n (drop first out)) ∙ ap (λ (l : List Span). take n (drop first out) ++ l) same
 
 -- once the ranges that were put are searched, the list from an entry on is read
-pub passed_read : (u : UnitParts) (ranges : List (Owned Span)) (first owner : ℕ) (out : List Span) (rest : RangeTail) (some : Bool) (p : PassedEntry) → IsPassed u first out rest p → IsRead u ranges rest some → IsRead u (ranges ++ own_all owner (drop first out)) p.tail (some || nat_lt p.before (length out))
+pub passed_read : (u : UnitParts) (ranges : List (Owned Span)) (first owner : ℕ) (out : List Span) (rest : RangeTail) (some : Bool) (p : PassedEntry) → IsPassed u first out rest p → IsRead u ranges rest some → IsKept u (ranges ++ own_all owner (drop first out)) (length out) some p
 passed_read u ranges first owner out rest some p h k =
     let back = drop p.before out in
     let front = take (p.before - first) (drop first out) in
@@ -168,10 +168,10 @@ list_in u r offset at = rw at (list_is_tail (lying u.sections) u.header u.root o
 
 -- of each entry that was passed
 pub each_read : (u : UnitParts) (ranges : List (Owned Span)) (lists : ReadLists) (tail : RangeTail) (old new : List Span) (passed given : List PassedEntry) (end owner : ℕ) (some : Bool) → ArePassed u ranges tail old new passed some → given ≡ passed → end ≡ length new
-    → All (λ (p : PassedEntry). IsRead u (ranges ++ own_all owner (drop (length old) new)) p.tail (some || nat_lt p.before end)) given
+    → All (IsKept u (ranges ++ own_all owner (drop (length old) new)) end some) given
 each_read u ranges lists tail old new passed given end owner some h same count =
     let R = ranges ++ own_all owner (drop (length old) new) in
-    rw (same, count) (All-weaker (IsPassed u (length old) new h.rest) (λ (p : PassedEntry). IsRead u R p.tail (some || nat_lt p.before (length new))) (λ p k. passed_read u ranges (length old) owner new h.rest some p k h.known) passed h.each)
+    rw (same, count) (All-weaker (IsPassed u (length old) new h.rest) (IsKept u R (length new) some) (λ p k. passed_read u ranges (length old) owner new h.rest some p k h.known) passed h.each)
 
 -- a list of which an entry is broken
 pub passed_fails : (u : UnitParts) (first before : ℕ) (out : List Span) (list rest : RangeTail) → IsPassed u first out rest (passed_entry list before) → entry_behind u rest ≡ None → spans_behind u list ≡ None

@@ -1,5 +1,5 @@
 -- Lists of ranges that were read, and what of one more list is read.
-use Rattle.std.specs.Prelude.{◌≡◌, ℕ, ◌≤◌, Bool, List, ◌++◌, length, drop, Option, Some, Result, Ok, Err, nat_lt, IfSome}
+use Rattle.std.specs.Prelude.{◌≡◌, ℕ, ◌≤◌, Bool, List, ◌++◌, length, drop, Option, Some, Result, Ok, Err, nat_lt, ◌||◌, IfSome}
 use Rattle.std.specs.BTreeMap.{get}
 use Rattle.std.specs.List.{All}
 use Rattle.std.specs.Ordering.{nat_cmp, ordering_then}
@@ -30,6 +30,10 @@ pub record IsRead (u : UnitParts) (ranges : List (Owned Span)) (tail : RangeTail
 abbrev pub AreRead : UnitParts → List (Owned Span) → ReadLists → Type 0
 AreRead u ranges lists = (key : ℕ × ℕ) → IfSome (get key_cmp lists.tell key) (IsRead u ranges (record { place = key.0; base = key.1 }))
 
+-- What is known of lists stays known, with more where it holds.
+abbrev pub KeepsRead : ReadLists → ReadLists → (UnitParts → List (Owned Span) → Type 0) → Type 0
+KeepsRead old new More = (u : UnitParts) (ranges : List (Owned Span)) → More u ranges → AreRead u ranges old → AreRead u ranges new
+
 -- ---- while a list is read
 
 abbrev pub passed_entry : RangeTail → ℕ → PassedEntry
@@ -40,6 +44,10 @@ pub record IsPassed (u : UnitParts) (first : ℕ) (out : List Span) (rest : Rang
   pub above : first ≤ p.before
   pub within : p.before ≤ length out
   pub spans : spans_behind u p.tail ≡ joined (drop p.before out) (spans_behind u rest)
+
+-- The list from an entry on is read, with the ranges that were put since, up to a number of them, and those of a rest.
+abbrev pub IsKept : UnitParts → List (Owned Span) → ℕ → Bool → PassedEntry → Type 0
+IsKept u ranges end some p = IsRead u ranges p.tail (some || nat_lt p.before end)
 
 -- A list was read up to a rest that was read before, or that has no ranges.
 pub record ArePassed (u : UnitParts) (ranges : List (Owned Span)) (list : RangeTail) (old new : List Span) (passed : List PassedEntry) (some : Bool) : Type 0 where

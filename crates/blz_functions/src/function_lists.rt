@@ -24,7 +24,7 @@ use std::alloc::{AllocError, Global};
 use std::marker::Model;
 
 /// Functions, and their ranges with the number of the function of each. Of the lists of ranges that functions name each
-/// entry is read once, and its range stands here for the first of them alone, which is the one that each address of it has.
+/// entry is read once, and its range stands here for the first of them alone, which is the one that its addresses have.
 #[derive(Drop)]
 pub struct FunctionLists {
     functions: Vec<Function>,

@@ -1,5 +1,5 @@
 //! Lists of ranges that were read: none of their entries is read again.
-ghost use Rattle.std.specs.Prelude.{◌≡◌, ◌++◌, ◌∷◌, [], List, IfSome, IfOk, OnOk, false, length, take, vec_len, ◌||◌, nat_lt};
+ghost use Rattle.std.specs.Prelude.{◌≡◌, ◌++◌, ◌∷◌, [], List, IfSome, IfOk, OnOk, false, length, take, vec_len};
 ghost use Rattle.std.specs.List.{All};
 ghost use Rattle.std.specs.Option.{option_to_list};
 ghost use Rattle.blz_ranges.specs.declared.span.Span.{Span};
@@ -7,7 +7,7 @@ ghost use Rattle.blz_ranges.specs.Owned.{Owned};
 ghost use Rattle.blz_entry.specs.RangeTails.{list_tail};
 ghost use Rattle.blz_functions.specs.Leaves.{UnitParts, ranges_in, spans_behind};
 ghost use Rattle.blz_functions.specs.Opened.{open_view};
-ghost use Rattle.blz_functions.specs.ReadLists.{AppendsRead, AreRead, IsRead, passed_entry, PassesTo};
+ghost use Rattle.blz_functions.specs.ReadLists.{AppendsRead, AreRead, IsKept, IsRead, KeepsRead, passed_entry, PassesTo};
 
 use crate::open_unit::OpenUnit;
 use blz_entry::{RangeAttributes, RangeTail, Span};
@@ -22,8 +22,8 @@ struct PassedEntry {
     before: usize,
 }
 
-/// The lists of ranges that were read, by where they begin and by what offsets are added to there, and whether each tells a
-/// range. A list that begins within another one is read with it.
+/// The lists of ranges that were read, by where they begin and by what offsets are added to there, and whether each tells
+/// a range. A list that begins within another one is read with it.
 #[derive(Drop)]
 pub struct ReadLists {
     alloc: Global,
@@ -66,21 +66,21 @@ impl ReadLists {
     }
 
     fn keep(&mut self, tail: RangeTail, some: bool) -> std::result::Result<(), AllocError>
-        ensures { OnOk result ((u : UnitParts) (ranges : List (Owned Span)) → IsRead u ranges tail some → AreRead u ranges self.old → AreRead u ranges self.new) }
+        ensures { OnOk result (KeepsRead self.old self.new (λ u ranges. IsRead u ranges tail some)) }
     {
         self.tell.insert((tail.place, tail.base), some)?;
         Ok(())
     }
 
-    /// Keeps of each entry that was passed whether a range stands there or behind it, up to a number of them, or in what
-    /// follows.
+    /// Keeps of each entry that was passed whether its list tells a range: one of those that were put since, up to a
+    /// number of ranges, or one of what was read before.
     fn keep_passed(
         &mut self,
         passed: &[PassedEntry],
         end: usize,
         some: bool,
     ) -> std::result::Result<(), AllocError>
-        ensures { OnOk result ((u : UnitParts) (ranges : List (Owned Span)) → All (λ p. IsRead u ranges p.tail (some || nat_lt p.before end)) passed.now → AreRead u ranges self.old → AreRead u ranges self.new) }
+        ensures { OnOk result (KeepsRead self.old self.new (λ u ranges. All (IsKept u ranges end some) passed.now)) }
     {
         for entry in passed {
             self.keep(entry.tail, some || entry.before < end)?;
@@ -88,8 +88,8 @@ impl ReadLists {
         Ok(())
     }
 
-    /// Passes the entries of a list up to one that was read before, and appends their ranges. Says whether what was read
-    /// before tells a range.
+    /// Passes the entries of a list up to one that was read before, and appends their ranges. Says whether what was
+    /// read before tells a range.
     fn pass(
         &self,
         unit: &OpenUnit<'_, '_>,
@@ -129,8 +129,8 @@ impl ReadLists {
         Ok(some || before < out.len())
     }
 
-    /// Appends the ranges that attributes tell, without those of a list that were read before, and says whether there was
-    /// one, read before or not.
+    /// Appends the ranges that attributes tell, without those of a list that were read before, and says whether there
+    /// was one, read before or not.
     pub(crate) fn append(
         &mut self,
         unit: &OpenUnit<'_, '_>,
