@@ -48,6 +48,17 @@ def one_unit(shapes, *below, size=0x10000, **parts):
     return dwarf(shapes, unit(entry(shapes, ROOT, BASE, size) + b"".join(below) + b"\0"), **parts)
 
 
+def lined_root():
+    return root([*RANGE, LINES])
+
+
+def one_lined_unit(shapes, *below, size=0x10000, **parts):
+    """The same with one row for all of its addresses, without which no inlined call is asked; its root is lined_root()."""
+    rows = set_address(BASE) + SET_FILE_0 + COPY + advance(size) + END_SEQUENCE
+    first = entry(shapes, ROOT, BASE, size, 0)
+    return dwarf(shapes, unit(first + b"".join(below) + b"\0"), line=plain_program(rows), **parts)
+
+
 def scattered(count, size):
     """Addresses all over a stretch, without a repeat where it is long enough."""
     return [BASE + (k * 40503) % size for k in range(count)]

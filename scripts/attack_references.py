@@ -62,13 +62,12 @@ def chains_of_entries_of_many_names(n):
 
 def calls_of_an_entry_of_many_names(n, functions, addresses):
     """Inlined calls that refer to one entry, in a unit with a row, without which they are not asked."""
-    shapes = {ROOT: root([*RANGE, LINES]), OUTER: subprogram([(DW_AT_NAME, DW_FORM_STRING), *RANGE], 1),
+    shapes = {ROOT: lined_root(), OUTER: subprogram([(DW_AT_NAME, DW_FORM_STRING), *RANGE], 1),
               CALL: Abbreviation(DW_TAG_INLINED_SUBROUTINE, 0, [*RANGE, REFERENCE]),
               TARGET: subprogram([TEXT] * 4 * n + [(DW_AT_NAME, DW_FORM_STRING)])}
-    first = entry(shapes, ROOT, BASE, 4 * n, 0)
-    below = entry(shapes, TARGET, *["f"] * (4 * n + 1)) + functions(shapes, ENTRIES_AT + len(first))
-    rows = set_address(BASE) + SET_FILE_0 + COPY + advance(4 * n) + END_SEQUENCE
-    return Attack(dwarf(shapes, unit(first + below + b"\0"), line=plain_program(rows)), addresses)
+    at = ENTRIES_AT + len(entry(shapes, ROOT, 0, 0, 0))
+    below = entry(shapes, TARGET, *["f"] * (4 * n + 1)) + functions(shapes, at)
+    return Attack(one_lined_unit(shapes, below, size=4 * n), addresses)
 
 
 @shape

@@ -4,55 +4,6 @@ import struct
 
 from attack_parts import *  # noqa: F403
 
-# ---- range lists
-
-
-def pairs(count):
-    return b"".join(offset_pair(4 * k, 4 * k + 1) for k in range(count))
-
-
-def with_list(shapes, functions, lists):
-    data, first = range_lists(lists + b"\0")
-    return one_unit(shapes, *functions(first), rnglists=data)
-
-
-@shape
-def one_range_list_of_functions(n):
-    shapes = {ROOT: root(), FUNCTION: subprogram(RANGES)}
-    return Attack(with_list(shapes, lambda at: [entry(shapes, FUNCTION, at)] * n, pairs(n)), [BASE + 1])
-
-
-@shape
-def one_range_list_of_calls(n):
-    shapes = {ROOT: root(), OUTER: subprogram(RANGE, 1), CALL: Abbreviation(DW_TAG_INLINED_SUBROUTINE, 0, RANGES)}
-
-    def functions(at):
-        return [entry(shapes, OUTER, BASE, 0x10000)] + [entry(shapes, CALL, at)] * n + [b"\0"]
-
-    return Attack(with_list(shapes, functions, pairs(n)), [BASE + 1])
-
-
-@shape
-def tails_of_a_range_list(n):
-    shapes = {ROOT: root(), FUNCTION: subprogram(RANGES)}
-    size = len(offset_pair(BASE, BASE + 1))
-    lists = b"".join(offset_pair(BASE + k, BASE + k + 1) for k in range(n))
-    return Attack(with_list(shapes, lambda at: [entry(shapes, FUNCTION, at + size * k) for k in range(n)], lists), [BASE + 1])
-
-
-@shape
-def one_range_list_without_ranges(n):
-    shapes = {ROOT: root(), FUNCTION: subprogram(RANGES)}
-    return Attack(with_list(shapes, lambda at: [entry(shapes, FUNCTION, at)] * n, offset_pair(1, 1) * n), [BASE + 1])
-
-
-@shape
-def one_range_list_of_units(n):
-    shapes = {ROOT: root(RANGES, 0)}
-    data, first = range_lists(pairs(n) + b"\0")
-    return Attack(dwarf(shapes, unit(entry(shapes, ROOT, first)) * n, rnglists=data), [0])
-
-
 # ---- attributes without bytes
 
 
@@ -80,7 +31,8 @@ def units_of_many_flags(n):
     return Attack(dwarf(shapes, unit(entry(shapes, ROOT)) * (n // 6 + 1)), [0])
 
 
-import attack_references  # noqa: E402,F401  its shapes stand here in the list
+import attack_ranges  # noqa: E402,F401  its shapes stand here in the list
+import attack_references  # noqa: E402,F401  and its own
 
 # ---- units that share a table or a program
 
@@ -210,9 +162,9 @@ def functions_in_one_another(n):
 
 
 def ranged_calls(ranges, addresses):
-    shapes = {ROOT: root(), OUTER: subprogram(RANGE, 1), CALL: Abbreviation(DW_TAG_INLINED_SUBROUTINE, 0, RANGE)}
+    shapes = {ROOT: lined_root(), OUTER: subprogram(RANGE, 1), CALL: Abbreviation(DW_TAG_INLINED_SUBROUTINE, 0, RANGE)}
     below = entry(shapes, OUTER, BASE, 0x10000) + b"".join(entry(shapes, CALL, *span) for span in ranges) + b"\0"
-    return Attack(one_unit(shapes, below), addresses)
+    return Attack(one_lined_unit(shapes, below), addresses)
 
 
 @shape
@@ -227,17 +179,17 @@ def calls_side_by_side(n):
 
 @shape
 def calls_in_one_another(n):
-    shapes = {ROOT: root(), OUTER: subprogram(RANGE, 1), CALL: Abbreviation(DW_TAG_INLINED_SUBROUTINE, 1, RANGE)}
+    shapes = {ROOT: lined_root(), OUTER: subprogram(RANGE, 1), CALL: Abbreviation(DW_TAG_INLINED_SUBROUTINE, 1, RANGE)}
     below = entry(shapes, OUTER, BASE, 0x10000)
     below += b"".join(entry(shapes, CALL, BASE, 0x10000 - k) for k in range(n)) + b"\0" * (n + 1)
-    return Attack(one_unit(shapes, below), [BASE])
+    return Attack(one_lined_unit(shapes, below), [BASE])
 
 
 @shape
 def blocks_in_one_another(n):
-    shapes = {ROOT: root(), OUTER: subprogram(RANGE, 1), CALL: Abbreviation(DW_TAG_LEXICAL_BLOCK, 1, [])}
+    shapes = {ROOT: lined_root(), OUTER: subprogram(RANGE, 1), CALL: Abbreviation(DW_TAG_LEXICAL_BLOCK, 1, [])}
     below = entry(shapes, OUTER, BASE, 0x10000) + bytes([CALL]) * 4 * n + b"\0" * (4 * n + 1)
-    return Attack(one_unit(shapes, below), [BASE])
+    return Attack(one_lined_unit(shapes, below), [BASE])
 
 
 @shape

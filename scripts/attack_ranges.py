@@ -1,0 +1,112 @@
+"""Shapes of images in which many entries name lists of ranges that share their entries."""
+import struct
+
+from attack_parts import *  # noqa: F403
+
+
+def pairs(count):
+    return b"".join(offset_pair(4 * k, 4 * k + 1) for k in range(count))
+
+
+def with_list(shapes, functions, lists):
+    data, first = range_lists(lists + b"\0")
+    return one_unit(shapes, *functions(first), rnglists=data)
+
+
+def functions_of_tails(lists, offsets):
+    """A function for each of some offsets within a list."""
+    shapes = {ROOT: root(), FUNCTION: subprogram(RANGES)}
+    return Attack(with_list(shapes, lambda at: [entry(shapes, FUNCTION, at + offset) for offset in offsets], lists), [BASE + 1])
+
+
+@shape
+def one_range_list_of_functions(n):
+    return functions_of_tails(pairs(n), [0] * n)
+
+
+@shape
+def one_range_list_of_calls(n):
+    shapes = {ROOT: lined_root(), OUTER: subprogram(RANGE, 1), CALL: Abbreviation(DW_TAG_INLINED_SUBROUTINE, 0, RANGES)}
+    data, first = range_lists(pairs(n) + b"\0")
+    below = entry(shapes, OUTER, BASE, 0x10000) + entry(shapes, CALL, first) * n + b"\0"
+    return Attack(one_lined_unit(shapes, below, rnglists=data), [BASE + 1])
+
+
+@shape
+def one_range_list_without_ranges(n):
+    return functions_of_tails(offset_pair(1, 1) * n, [0] * n)
+
+
+@shape
+def one_range_list_of_units(n):
+    shapes = {ROOT: root(RANGES, 0)}
+    data, first = range_lists(pairs(n) + b"\0")
+    return Attack(dwarf(shapes, unit(entry(shapes, ROOT, first)) * n, rnglists=data), [0])
+
+
+# ---- lists that begin within one another
+
+
+def pairs_of_a_size(count):
+    return [offset_pair(BASE + k, BASE + k + 1) for k in range(count)]
+
+
+def begins_of(parts):
+    """Where each of some parts begins."""
+    begins, at = [], 0
+    for part in parts:
+        begins.append(at)
+        at += len(part)
+    return begins
+
+
+def based(address):
+    return bytes([DW_RLE_BASE_ADDRESS]) + struct.pack("<Q", address)
+
+
+@shape
+def tails_of_a_range_list(n):
+    lists = pairs_of_a_size(n)
+    return functions_of_tails(b"".join(lists), begins_of(lists))
+
+
+@shape
+def tails_of_a_range_list_the_shortest_first(n):
+    lists = pairs_of_a_size(n)
+    return functions_of_tails(b"".join(lists), reversed(begins_of(lists)))
+
+
+@shape
+def tails_of_a_range_list_without_ranges(n):
+    lists = [offset_pair(1, 1)] * n
+    return functions_of_tails(b"".join(lists), begins_of(lists))
+
+
+@shape
+def tails_at_each_byte_of_a_range_list(n):
+    # from each byte on it is a list of ranges of 7 addresses, but for the last, which have none
+    return functions_of_tails(bytes([DW_RLE_START_LENGTH]) * n + bytes(10), range(n))
+
+
+@shape
+def tails_of_a_range_list_with_bases(n):
+    # each range with its base before it; half of the lists begin behind that
+    lists = [part for k in range(n) for part in (based(BASE + 4 * k), offset_pair(1, 2))]
+    return functions_of_tails(b"".join(lists), begins_of(lists))
+
+
+@shape
+def tails_of_a_range_list_behind_bases(n):
+    # a list is read behind each of two bases in turn, from one entry earlier each time
+    bases, lists = [based(BASE + k) for k in range(n)], pairs_of_a_size(n)
+    begins = begins_of(bases + lists)
+    in_turn = [begin for pair in zip(begins[:n], begins[n:]) for begin in reversed(pair)]
+    return functions_of_tails(b"".join(bases + lists), reversed(in_turn))
+
+
+@shape
+def tails_of_a_range_list_each_behind_its_base(n):
+    # each range ends with the bytes of a base of its own, from which on the ranges behind it are a list of their own
+    begin = DW_RLE_BASE_ADDRESS << 56
+    lists = [bytes([DW_RLE_START_END]) + struct.pack("<QQ", begin, begin + 1 + k) for k in range(n)]
+    return functions_of_tails(b"".join(lists), [at + 8 for at in begins_of(lists)])
