@@ -23,8 +23,8 @@ use blz_ranges::own;
 use std::alloc::{AllocError, Global};
 use std::marker::Model;
 
-/// Functions, and their ranges with the number of the function of each. Of the lists of ranges that functions name each
-/// entry is read once, and its range stands here for the first of them alone, which is the one that its addresses have.
+/// Functions, and their ranges with the number of the function of each. What several lists of ranges share is read once,
+/// and its ranges stand here for the first function that names one, which is the one that their addresses have.
 #[derive(Drop)]
 pub struct FunctionLists {
     functions: Vec<Function>,

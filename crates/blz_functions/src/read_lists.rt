@@ -1,4 +1,4 @@
-//! Lists of ranges that were read: none of their entries is read again.
+//! Lists of ranges that were read: what follows one of their entries is not read again with the same base.
 ghost use Rattle.std.specs.Prelude.{◌≡◌, ◌++◌, ◌∷◌, [], List, IfSome, IfOk, OnOk, false, length, take, vec_len};
 ghost use Rattle.std.specs.List.{All};
 ghost use Rattle.std.specs.Option.{option_to_list};
