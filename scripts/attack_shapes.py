@@ -19,6 +19,43 @@ def bare_functions_of_many_empty_names(n):
     return Attack(one_unit(shapes, bytes([FUNCTION]) * 2 * n), [BASE])
 
 
+# what a description reads
+TELLING = [DW_AT_NAME, DW_AT_LOW_PC, DW_AT_HIGH_PC, DW_AT_ABSTRACT_ORIGIN, DW_AT_SPECIFICATION, DW_AT_RANGES,
+           DW_AT_CALL_FILE, DW_AT_CALL_LINE, DW_AT_CALL_COLUMN]
+
+
+def constants(names, n):
+    """n attributes of some names in turn, with numbers that stand in the abbreviation."""
+    return [(names[k % len(names)], DW_FORM_IMPLICIT_CONST, k % 64) for k in range(n)]
+
+
+@shape
+def bare_functions_of_many_constants(n):
+    shapes = {ROOT: root(), FUNCTION: subprogram(constants(TELLING, n))}
+    return Attack(one_unit(shapes, bytes([FUNCTION]) * 2 * n), [BASE])
+
+
+@shape
+def bare_calls_of_many_lines(n):
+    shapes = {ROOT: root([*RANGE, LINES]), OUTER: subprogram([(DW_AT_NAME, DW_FORM_STRING), *RANGE], 1),
+              CALL: Abbreviation(DW_TAG_INLINED_SUBROUTINE, 0, constants([DW_AT_CALL_LINE, DW_AT_CALL_FILE], n))}
+    below = entry(shapes, OUTER, "o", BASE, 4 * n) + bytes([CALL]) * 2 * n + b"\0"
+    rows = set_address(BASE) + SET_FILE_0 + COPY + advance(4 * n) + END_SEQUENCE
+    return Attack(dwarf(shapes, unit(entry(shapes, ROOT, BASE, 4 * n, 0) + below + b"\0"), line=plain_program(rows)), [BASE + 1])
+
+
+@shape
+def units_of_many_empty_names(n):
+    shapes = {ROOT: root([EMPTY_NAME] * n, 0)}
+    return Attack(dwarf(shapes, unit(entry(shapes, ROOT)) * (n // 6 + 1)), [0])
+
+
+@shape
+def units_of_many_languages(n):
+    shapes = {ROOT: root(constants([DW_AT_LANGUAGE], n), 0)}
+    return Attack(dwarf(shapes, unit(entry(shapes, ROOT)) * (n // 6 + 1)), [0])
+
+
 @shape
 def variables_of_many_flags(n):
     shapes = {ROOT: root(), FUNCTION: Abbreviation(DW_TAG_VARIABLE, 0, [FLAG] * n)}

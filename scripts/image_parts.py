@@ -22,6 +22,8 @@ DW_FORM_ADDR, DW_FORM_DATA2, DW_FORM_DATA4, DW_FORM_STRING, DW_FORM_DATA1 = 0x01
 DW_FORM_STRP, DW_FORM_REF_ADDR, DW_FORM_REF4, DW_FORM_SEC_OFFSET = 0x0E, 0x10, 0x13, 0x17
 DW_FORM_FLAG_PRESENT, DW_FORM_LINE_STRP = 0x19, 0x1F
 DW_RLE_END_OF_LIST, DW_RLE_OFFSET_PAIR, DW_RLE_BASE_ADDRESS, DW_RLE_START_END, DW_RLE_START_LENGTH = 0, 4, 5, 6, 7
+DW_FORM_FLAG_PRESENT, DW_FORM_LINE_STRP, DW_FORM_IMPLICIT_CONST = 0x19, 0x1F, 0x21
+DW_RLE_END_OF_LIST, DW_RLE_OFFSET_PAIR, DW_RLE_BASE_ADDRESS, DW_RLE_START_LENGTH = 0, 4, 5, 7
 DW_LANG_C11, DW_LANG_RUST = 0x1D, 0x1C
 DW_LNCT_PATH, DW_LNCT_DIRECTORY_INDEX = 1, 2
 DW_SECT_INFO, DW_SECT_ABBREV = 1, 3
@@ -65,11 +67,11 @@ def strings(names):
 class Abbreviation(NamedTuple):
     tag: int
     has_children: int
-    attributes: list  # pairs of a name and a form
+    attributes: list  # pairs of a name and a form, and a number from 0 to 63 behind DW_FORM_implicit_const
 
 
 def abbreviation(code, shape):
-    pairs = b"".join(uleb(name) + uleb(form) for name, form in shape.attributes)
+    pairs = b"".join(uleb(number) for attribute in shape.attributes for number in attribute)
     return uleb(code) + uleb(shape.tag) + bytes([shape.has_children]) + pairs + b"\0\0"
 
 
@@ -81,7 +83,7 @@ def abbreviations(shapes):
 def entry(shapes, code, *values):
     """An entry of an abbreviation; attributes without bytes take no value."""
     data = uleb(code)
-    forms = [form for _, form in shapes[code].attributes if form != DW_FORM_FLAG_PRESENT]
+    forms = [form for _, form, *_ in shapes[code].attributes if form not in (DW_FORM_FLAG_PRESENT, DW_FORM_IMPLICIT_CONST)]
     for form, value in zip(forms, values, strict=True):
         data += text(value) if form == DW_FORM_STRING else struct.pack(FORMATS[form], value)
     return data

@@ -4,6 +4,7 @@ pub mod Lying
 pub mod Broken
 pub mod MetEntries
 pub mod FunctionSteps
+pub mod IgnoredAttributes
 pub mod DescriptionSteps
 pub mod Binds
 pub mod ListAdds

@@ -1,8 +1,10 @@
 //! Where the references of a unit lead.
-ghost use Rattle.std.specs.Prelude.{◌≡◌};
+ghost use Rattle.std.specs.Prelude.{◌≡◌, false, Some, None};
 ghost use Rattle.blz_model.specs.Part.{Gives};
 ghost use Rattle.blz_info.specs.Marks.{or_invalid};
+ghost use Rattle.blz_info.specs.declared.value.AttrValue.{AttrValue};
 ghost use Rattle.blz_functions.specs.Describing.{Refer};
+ghost use Rattle.blz_functions.specs.References.{refers};
 
 use blz_entry::{AttrValue, StrPlace};
 use blz_error::Result;
@@ -21,4 +23,7 @@ pub trait Links {
     fn follow(&mut self, value: AttrValue) -> Result<Option<StrPlace>>
         ensures name { Gives (λ n. n) result (or_invalid (refer (linkage self.old) value)) }
         ensures same { linkage self.new ≡ linkage self.old };
+
+    /// A value that refers to no entry leads to no name.
+    ghost leads_nowhere: { (among : Among) (v : AttrValue) → refers v ≡ false → refer among v ≡ Some None };
 }

@@ -3,6 +3,7 @@ pub mod Sizes
 pub mod Together
 pub mod RunSteps
 pub mod RunsMade
+pub mod BareValues
 pub mod WantedSteps
 pub mod SameEncoding
 pub mod AttributeSteps

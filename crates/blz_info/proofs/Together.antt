@@ -20,7 +20,7 @@ look : {A : Type 0} (o : Option A) → (o ≡ None) ⊎ ((x : A) × (o ≡ Some 
 look None = inl refl
 look (Some x) = inr (x, refl)
 
-some_is : {A : Type 0} {x y : A} → Some x ≡ Some y → x ≡ y
+pub some_is : {A : Type 0} {x y : A} → Some x ≡ Some y → x ≡ y
 some_is h = cc
 
 then_none : (bytes : List ℕ) (o : Option ℕ) → (o >>= λ place. over 0 bytes place) ≡ o

@@ -1,12 +1,12 @@
 -- The attributes of an abbreviation in runs: some whose bytes are fixed, and one behind them that is looked at.
-use Rattle.std.specs.Prelude.{◌≡◌, ℕ, ◌+◌, ◌≤◌, Bool, true, false, ◌&&◌, ◌||◌, List, [], ◌∷◌, length, take, drop, slice_get, Option, Some, None, IfSome, ◌==◌, if◌then◌else◌}
+use Rattle.std.specs.Prelude.{◌≡◌, ℕ, ◌+◌, ◌≤◌, Bool, true, false, ◌&&◌, ◌||◌, List, [], ◌∷◌, ◌++◌, length, take, drop, slice_get, Option, Some, None, IfSome, ◌==◌, if◌then◌else◌}
 use Rattle.blz_constants.specs.declared.dwarf.TheConstants as dwarf
 use Rattle.blz_model.specs.Reads.{Read, ◌>>=◌}
 use Rattle.blz_info.specs.Attributes.{form_for, attribute}
 use Rattle.blz_info.specs.Contents.{Contents}
 use Rattle.blz_info.specs.Forms.{value_by}
 use Rattle.blz_info.specs.Sizes.{over, behind_form, behind, attribute_size, size_together}
-use Rattle.blz_info.specs.Wanted.{is_wanted, any_placing}
+use Rattle.blz_info.specs.Wanted.{tells, any_placing}
 use Rattle.blz_info.specs.declared.abbreviations.AttrSpec.{AttrSpec}
 use Rattle.blz_info.specs.declared.encoding.Encoding.{Encoding}
 use Rattle.blz_info.specs.declared.form.Form.{Form}
@@ -16,13 +16,13 @@ use Rattle.blz_info.specs.declared.runs.Runs.{Runs}
 use Rattle.blz_info.specs.declared.text.StrBase.{StrBase}
 use Rattle.blz_info.specs.declared.value.AttrValue.{AttrValue}
 
--- where attributes are read, an attribute that is wanted
-abbrev pub wants : Bool → AttrSpec → Bool
-wants reading a = reading && is_wanted a.name
+-- where attributes are read, an attribute before others that tells something
+abbrev pub wants : Bool → AttrSpec → List AttrSpec → Bool
+wants reading a behind = reading && tells a behind
 
--- the bytes of an attribute that is passed over with its neighbours
+-- the bytes of an attribute that is passed over with its neighbours, where it is not wanted
 abbrev pub skipped_size : Bool → AttrSpec → Encoding → Option ℕ
-skipped_size reading a e = if wants reading a then None else attribute_size a e
+skipped_size wanted a e = if wanted then None else attribute_size a e
 
 -- how the form of an attribute is read, where the table of forms tells
 abbrev pub form_at : AttrSpec → Encoding → Option Form
@@ -46,26 +46,28 @@ passed_by (r ∷ rest) tail e s at = do
   next ← behind_by r.form r.spec e s start
   passed_by rest tail e s next
 
-abbrev pub any_wanted : Bool → List AttrSpec → Bool
-any_wanted reading [] = false
-any_wanted reading (a ∷ rest) = wants reading a || any_wanted reading rest
+-- one of some attributes before others is wanted
+abbrev pub any_wanted : Bool → List AttrSpec → List AttrSpec → Bool
+any_wanted reading [] behind = false
+any_wanted reading (a ∷ rest) behind = wants reading a (rest ++ behind) || any_wanted reading rest behind
 
--- attributes that have so many bytes together, and of which none is wanted
-pub record AreSkipped (reading : Bool) (e : Encoding) (n : ℕ) (specs : List AttrSpec) : Type 0 where
+-- attributes before others that have so many bytes together, and of which none is wanted
+pub record AreSkipped (reading : Bool) (e : Encoding) (n : ℕ) (specs behind : List AttrSpec) : Type 0 where
   pub bytes : size_together specs e ≡ Some n
-  pub unwanted : any_wanted reading specs ≡ false
+  pub unwanted : any_wanted reading specs behind ≡ false
 
--- the attribute that a run leads to
-pub record IsLookedAt (reading : Bool) (e : Encoding) (r : Run) (spec : Option AttrSpec) : Type 0 where
+-- the attribute before others that a run leads to
+pub record IsLookedAt (reading : Bool) (e : Encoding) (r : Run) (spec : Option AttrSpec) (behind : List AttrSpec) : Type 0 where
   pub there : spec ≡ Some r.spec
   pub form : r.form ≡ form_at r.spec e
-  pub wanted : r.wanted ≡ wants reading r.spec
+  pub wanted : r.wanted ≡ wants reading r.spec behind
 
 -- runs, and so many bytes behind them, that are some attributes
 abbrev pub AreRuns : Bool → Encoding → List Run → ℕ → List AttrSpec → Type 0
-AreRuns reading e [] tail specs = AreSkipped reading e tail specs
+AreRuns reading e [] tail specs = AreSkipped reading e tail specs []
 AreRuns reading e (r ∷ rest) tail specs =
-    AreSkipped reading e r.skip (take r.count specs) × (IsLookedAt reading e r (slice_get specs r.count) × AreRuns reading e rest tail (drop (r.count + 1) specs))
+    let behind = drop (r.count + 1) specs in
+    AreSkipped reading e r.skip (take r.count specs) (drop r.count specs) × (IsLookedAt reading e r (slice_get specs r.count) behind × AreRuns reading e rest tail behind)
 
 -- attributes that are passed over by runs
 abbrev pub Passes : Encoding → Runs → List AttrSpec → Type 0
@@ -83,6 +85,6 @@ pub record IsReady (r : Ready) (specs : List AttrSpec) : Type 0 where
   pub reading : IfSome r.reading (λ runs. Reads r.encoding 0 runs specs)
   pub placing : r.placing ≡ any_placing specs
 
--- a run behind so many attributes with so many bytes
+-- a run behind so many attributes with so many bytes, to one that is wanted or not
 abbrev pub run_of : Bool → Encoding → ℕ → ℕ → AttrSpec → Run
-run_of reading e skip count a = record { skip = skip; count = count; spec = a; form = form_at a e; wanted = wants reading a }
+run_of wanted e skip count a = record { skip = skip; count = count; spec = a; form = form_at a e; wanted = wanted }

@@ -281,8 +281,9 @@ impl<'s, 'b> Entries<'s, 'b> {
     /// (`DW_AT_abstract_origin`, `DW_AT_specification`), what it covers (`DW_AT_low_pc`, `DW_AT_high_pc`,
     /// `DW_AT_ranges`), where it is called (`DW_AT_call_file`, `DW_AT_call_line`, `DW_AT_call_column`), and of a unit its
     /// lines, its language, its directory and its bases (`DW_AT_stmt_list`, `DW_AT_language`, `DW_AT_comp_dir`,
-    /// `DW_AT_str_offsets_base`, `DW_AT_addr_base`, `DW_AT_rnglists_base`). Those before it are passed over. InvalidDwarf
-    /// exactly where it or one of them has no value, and then nothing has changed.
+    /// `DW_AT_str_offsets_base`, `DW_AT_addr_base`, `DW_AT_rnglists_base`). Those before it are passed over, and so is one
+    /// without bytes that a later one of its name tells again. InvalidDwarf exactly where it or one of them has no value, and
+    /// then nothing has changed.
     #[inline(always)]
     #[tactic(auto, unfolding(crate::specs::Wanted::wanted_of))]
     pub fn next_wanted(&mut self) -> Result<Option<(u64, AttrValue)>>

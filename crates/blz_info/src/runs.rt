@@ -2,7 +2,7 @@
 ghost use Rattle.std.specs.Prelude.{◌≡◌, ◌≤◌, ◌<◌, ◌+◌, ◌^◌, ◌&&◌, length, drop, true, IfSome, IfOk, MatchOption, option_map};
 ghost use Rattle.blz_info.specs.Contents.{section_view};
 ghost use Rattle.blz_info.specs.Attributes.{attribute};
-ghost use Rattle.blz_info.specs.Wanted.{is_wanted, wanted_in, met_view};
+ghost use Rattle.blz_info.specs.Wanted.{tells, wanted_in, met_view};
 ghost use Rattle.blz_info.specs.AttributeRuns.{wants, skipped_size, form_at, behind_by, value_by_form, passed_by, AreRuns, run_of};
 
 use crate::abbreviations::AttrSpec;
@@ -13,7 +13,7 @@ use crate::form::{Form, form_of};
 use crate::section::Section;
 use crate::text::StrBase;
 use crate::value::{AttrValue, value_by};
-use crate::wanted::{Met, is_wanted};
+use crate::wanted::{Met, tells};
 use blz_constants::dwarf;
 use std::alloc::{AllocError, Global};
 
@@ -40,17 +40,19 @@ pub struct Runs {
     pub(crate) tail: usize,
 }
 
-fn wants(reading: bool, spec: AttrSpec) -> bool
-    ensures { result ≡ wants reading spec }
+/// Where attributes are read, the one at an index tells something.
+fn wants(reading: bool, spec: AttrSpec, specs: &[AttrSpec], index: usize) -> bool
+    requires { index < length specs.now }
+    ensures { result ≡ wants reading spec (drop (index + 1) specs.now) }
 {
-    reading && is_wanted(spec.name)
+    reading && tells(spec, specs, index)
 }
 
 /// The bytes of an attribute that is not looked at.
-fn skipped_size(reading: bool, spec: AttrSpec, encoding: Encoding) -> Option<usize>
-    ensures { result ≡ skipped_size reading spec encoding }
+fn skipped_size(wanted: bool, spec: AttrSpec, encoding: Encoding) -> Option<usize>
+    ensures { result ≡ skipped_size wanted spec encoding }
 {
-    if wants(reading, spec) {
+    if wanted {
         return None;
     }
     if spec.form == dwarf::DW_FORM_implicit_const {
@@ -71,15 +73,15 @@ fn form_at(spec: AttrSpec, encoding: Encoding) -> Option<Form>
     }
 }
 
-fn run_of(reading: bool, encoding: Encoding, skip: usize, count: usize, spec: AttrSpec) -> Run
-    ensures { result ≡ run_of reading encoding skip count spec }
+fn run_of(wanted: bool, encoding: Encoding, skip: usize, count: usize, spec: AttrSpec) -> Run
+    ensures { result ≡ run_of wanted encoding skip count spec }
 {
     Run {
         skip,
         count,
         spec,
         form: form_at(spec, encoding),
-        wanted: wants(reading, spec),
+        wanted,
     }
 }
 
@@ -130,15 +132,16 @@ impl Runs {
         let mut runs = Vec::new(alloc);
         let mut tail: usize = 0;
         let mut count: usize = 0;
-        for spec in specs {
-            if let Some(size) = skipped_size(reading, *spec, encoding)
+        for (index, spec) in specs.iter().enumerate() {
+            let wanted = wants(reading, *spec, specs, index);
+            if let Some(size) = skipped_size(wanted, *spec, encoding)
                 && let Some(more) = tail.checked_add(size)
             {
                 tail = more;
                 count += 1;
                 continue;
             }
-            let run = run_of(reading, encoding, tail, count, *spec);
+            let run = run_of(wanted, encoding, tail, count, *spec);
             runs.push(run)?;
             tail = 0;
             count = 0;

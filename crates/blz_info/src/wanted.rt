@@ -1,8 +1,8 @@
 //! Attributes whose values tell what a function or a call is, its names, the addresses that it covers, and where it is
 //! called, or what holds for a whole unit.
-ghost use Rattle.std.specs.Prelude.{◌≡◌, ◌≤◌, ◌<◌, ◌+◌, ◌^◌, length, IfSome, MatchOption, option_map};
+ghost use Rattle.std.specs.Prelude.{◌≡◌, ◌≤◌, ◌<◌, ◌+◌, ◌^◌, length, drop, Some, IfSome, MatchOption, option_map};
 ghost use Rattle.blz_info.specs.Contents.{section_view};
-ghost use Rattle.blz_info.specs.Wanted.{is_wanted, is_placing, any_placing, wanted_in, met_view};
+ghost use Rattle.blz_info.specs.Wanted.{is_wanted, is_placing, any_placing, bare_value, same_kind, is_alike, any_alike, told_again, tells, wanted_in, met_view};
 
 use crate::abbreviations::AttrSpec;
 use crate::attributes::attribute;
@@ -78,6 +78,71 @@ pub(crate) fn any_placing(specs: &[AttrSpec]) -> bool
     false
 }
 
+/// The value of an attribute that takes no bytes.
+fn bare_value(spec: AttrSpec) -> Option<AttrValue>
+    ensures { result ≡ bare_value spec }
+{
+    match spec.form {
+        dwarf::DW_FORM_implicit_const => Some(AttrValue::Signed(spec.constant)),
+        dwarf::DW_FORM_flag_present => Some(AttrValue::Other),
+        _ => None,
+    }
+}
+
+/// Both are no number, or 0, or a number above 0.
+fn same_kind(first: Option<u64>, second: Option<u64>) -> bool
+    ensures { result ≡ same_kind first second }
+{
+    match (first, second) {
+        (None, None) => true,
+        (Some(first), Some(second)) => if first == 0 { second == 0 } else { second > 0 },
+        _ => false,
+    }
+}
+
+fn is_alike(name: u64, value: AttrValue, spec: AttrSpec) -> bool
+    ensures { result ≡ is_alike name value spec }
+{
+    if spec.name != name {
+        return false;
+    }
+    match bare_value(spec) {
+        Some(other) => same_kind(value.udata(), other.udata()),
+        None => false,
+    }
+}
+
+fn any_alike(name: u64, value: AttrValue, specs: &[AttrSpec]) -> bool
+    ensures { result ≡ any_alike name value specs.now }
+{
+    for spec in specs {
+        if is_alike(name, value, *spec) {
+            return true;
+        }
+    }
+    false
+}
+
+/// A later attribute tells this one again: neither takes bytes, and they have one name and values of one kind. So the
+/// later one decides, but of languages the first does.
+fn told_again(spec: AttrSpec, behind: &[AttrSpec]) -> bool
+    ensures { result ≡ told_again spec.name (bare_value spec) behind.now }
+{
+    match bare_value(spec) {
+        Some(value) if spec.name != dwarf::DW_AT_language => any_alike(spec.name, value, behind),
+        _ => false,
+    }
+}
+
+/// The attribute at an index is wanted, and none behind it tells it again.
+#[tactic(auto, unfolding(crate::specs::Wanted::tells))]
+pub(crate) fn tells(spec: AttrSpec, specs: &[AttrSpec], index: usize) -> bool
+    requires { index < length specs.now }
+    ensures { result ≡ tells spec (drop (index + 1) specs.now) }
+{
+    is_wanted(spec.name) && !told_again(spec, &specs[index + 1..])
+}
+
 /// The next wanted one of some attributes.
 pub(crate) fn wanted_in(
     specs: &[AttrSpec],
@@ -95,7 +160,7 @@ pub(crate) fn wanted_in(
     let mut place = at;
     for (index, spec) in specs.iter().enumerate() {
         let (value, next) = attribute(*spec, encoding, base, section, place)?;
-        if is_wanted(spec.name) {
+        if tells(*spec, specs, index) {
             return Some(Met {
                 found: Some((spec.name, value)),
                 count: index + 1,

@@ -385,7 +385,7 @@ impl<'u> References<'u> {
 }
 
 impl<'u> Links for References<'u> {
-    ghost use Rattle.blz_reader.specs.Linkage.{Linked, refer_in};
+    ghost use Rattle.blz_reader.specs.Linkage.{Linked, refer_in, no_reference_leads};
 
     ghost Among = { Linked };
 
@@ -401,4 +401,6 @@ impl<'u> Links for References<'u> {
             value,
         })
     }
+
+    ghost leads_nowhere = { no_reference_leads };
 }

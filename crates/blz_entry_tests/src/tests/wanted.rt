@@ -65,6 +65,36 @@ fn wanted_attributes_are_alike_whatever_a_table_is_ready_for(rt: HostRuntime) ->
     same_values(&rt, rt.alloc(), 4)
 }
 
+// implicit constants of DW_AT_call_line, and names: of a subprogram, which is read by runs, and of a variable
+const REPEATED: &[u8] =
+    b"\x01\x2e\0\x59\x21\x03\x59\x21\0\x03\x19\x59\x21\x09\x03\x08\x59\x21\x08\0\0\x02\x34\0\x59\x21\x03\x59\x21\0\x03\x19\x59\x21\x09\x03\x08\x59\x21\x08\0\0\0";
+
+#[test]
+fn of_attributes_without_bytes_the_last_of_a_name_and_kind_is_wanted(
+    rt: HostRuntime,
+) -> Result<(), Fail> {
+    let moves = RelocationMap::new(rt.alloc());
+    let abbreviations = Abbreviations::parse(rt.alloc(), REPEATED, 0)?;
+    let mut entries = entries_at(b"\x01f\0\x02g\0", &moves, &abbreviations, 0)?;
+    for start in [1, 4] {
+        entries.next_entry()?.ok_or("an entry")?;
+        let found = wanted(rt.alloc(), &mut entries)?;
+        let name = StrPlace {
+            part: StrPart::Info,
+            start,
+            len: 1,
+        };
+        let told = [
+            (0x59, AttrValue::Signed(0)),
+            (0x03, AttrValue::Other),
+            (0x03, AttrValue::Text(name)),
+            (0x59, AttrValue::Signed(8)),
+        ];
+        assert_eq!(rt; found.as_slice(), told.as_slice());
+    }
+    Ok(())
+}
+
 #[test]
 fn an_entry_of_which_some_was_read_is_passed_over(rt: HostRuntime) -> Result<(), Fail> {
     let moves = RelocationMap::new(rt.alloc());
