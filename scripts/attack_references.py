@@ -86,6 +86,45 @@ def functions_with_a_call_of_one_entry_of_many_names(n):
     return calls_of_an_entry_of_many_names(n, functions, [BASE + 4 * k for k in range(n)])
 
 
+def calls_by_offset(n, first, main):
+    """Units of functions, each with a call that refers by offset to an entry of many names, which stands in a first unit."""
+    by_offset = [*RANGE, (DW_AT_ABSTRACT_ORIGIN, DW_FORM_REF_ADDR)]
+    names = [TEXT] * 4 * n
+    shapes = {ROOT: root([*RANGE, LINES]), OUTER: subprogram([(DW_AT_NAME, DW_FORM_STRING), *RANGE], 1),
+              CALL: Abbreviation(DW_TAG_INLINED_SUBROUTINE, 0, by_offset), TARGET: subprogram([*names, (DW_AT_NAME, DW_FORM_STRING)]),
+              CHAIN: Abbreviation(DW_TAG_PARTIAL_UNIT, 1, []), NAMED: root([*RANGE, LINES, *names])}
+    rows = set_address(BASE) + SET_FILE_0 + COPY + advance(4 * n) + END_SEQUENCE
+    return Attack(dwarf(shapes, first(shapes) + main(shapes), line=plain_program(rows)), [BASE + 4 * k for k in range(n)])
+
+
+def function_with_a_call(shapes, k, at):
+    return entry(shapes, OUTER, "o", BASE + 4 * k, 4) + entry(shapes, CALL, BASE + 4 * k, 4, at) + b"\0"
+
+
+@shape
+def units_with_a_call_of_one_entry_of_many_names(n):
+    def partial(shapes):
+        return unit(entry(shapes, CHAIN) + entry(shapes, TARGET, *["f"] * (4 * n + 1)) + b"\0", DW_UT_PARTIAL)
+
+    def one_each(shapes):
+        at = ENTRIES_AT + len(entry(shapes, CHAIN))
+        return b"".join(unit(entry(shapes, ROOT, BASE + 4 * k, 4, 0) + function_with_a_call(shapes, k, at) + b"\0") for k in range(n))
+
+    return calls_by_offset(n, partial, one_each)
+
+
+@shape
+def functions_with_a_call_by_offset_in_a_unit_of_many_names(n):
+    # the root of the unit that the calls refer into has very many attributes, and so has the entry that they refer to
+    def own(shapes):
+        names = ["f"] * 4 * n
+        first = entry(shapes, NAMED, BASE, 4 * n, 0, *names)
+        below = b"".join(function_with_a_call(shapes, k, ENTRIES_AT + len(first)) for k in range(n))
+        return unit(first + entry(shapes, TARGET, *names, "f") + below + b"\0")
+
+    return calls_by_offset(n, own, lambda shapes: b"")
+
+
 @shape
 def references_into_many_partial_units(n):
     shapes = {ROOT: root(), FUNCTION: subprogram([*RANGE, (DW_AT_ABSTRACT_ORIGIN, DW_FORM_REF_ADDR)]), NAMED: subprogram([

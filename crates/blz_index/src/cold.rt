@@ -8,6 +8,7 @@ use blz_model::Cache;
 use blz_units::built_unit::BuiltUnit;
 use blz_units::built_units::{BuiltUnits, SideUnits};
 use blz_units::caches::{Caches, UnitCaches};
+use blz_units::long_entries::LongEntries;
 use blz_units::shared_parts::SharedParts;
 use std::alloc::{AllocError, Global};
 
@@ -62,6 +63,10 @@ pub fn cold_caches(
 {
     let sups = empty_sups(alloc, sups)?;
     let units = empty_caches(alloc, count)?;
-    let built = BuiltUnits { kept, sups };
+    let built = BuiltUnits {
+        kept,
+        sups,
+        long: LongEntries::new(alloc),
+    };
     Ok(Caches { built, units })
 }

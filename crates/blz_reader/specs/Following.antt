@@ -1,5 +1,5 @@
 -- How a reference is followed, one entry after the other (DWARF 5 section 7.5.5, class reference).
-use Rattle.std.specs.Prelude.{ℕ, zero, suc, ◌+◌, Bool, Option, Some, None, is_some, if◌then◌else◌}
+use Rattle.std.specs.Prelude.{ℕ, zero, suc, Bool, Option, Some, None, is_some, if◌then◌else◌}
 use Rattle.std.specs.Coded.{Coded, coded_ℕ}
 use Rattle.std.specs.FinMap as map
 use Rattle.std.specs.Option.{option_map}
@@ -17,13 +17,12 @@ use Rattle.blz_reader.specs.declared.references.Followed.{Followed}
 use Rattle.blz_reader.specs.declared.references.Followed.TheVariants.{Name, On}
 use Rattle.blz_functions.specs.declared.referred.Visited.{Visited}
 use Rattle.blz_functions.specs.declared.referred.Visited.TheVariants.{Named, Leads, Nameless}
-use Rattle.blz_units.specs.BuiltUnits.{Files}
+use Rattle.blz_units.specs.declared.long_entries.SeenEntry.{SeenEntry}
 use Rattle.blz_units.specs.KeptParts.{unit_of, headers_of}
+use Rattle.blz_units.specs.LongEntries.{seen_in}
 use Rattle.blz_functions.specs.Leaves.{UnitParts}
-use Rattle.blz_functions.specs.Naming.{visited}
 use Rattle.blz_reader.specs.Linkage.{Linked}
 use Rattle.blz_functions.specs.References.{unit_at}
-use Rattle.blz_units.specs.UnitTables.{UnitTable}
 
 -- by which proofs tell maps of relocations apart
 abbrev pub relocations_code : Coded OffsetMap
@@ -57,25 +56,26 @@ target_by l unit sup _ = Some None
 abbrev pub target_of : Linked → Reference → Option (Option Target)
 target_of l r = target_by l r.unit r.sup r.value
 
--- what a visit gives: a name, none, or a further reference
-abbrev pub seen : Standing → Bool → Visited → Followed
-seen unit sup (Named name) = Name (Some name)
-seen unit sup Nameless = Name None
-seen unit sup (Leads value) = On (record { unit = unit; sup = sup; value = value })
+-- what an entry gives by what it tells: a name, none, or a further reference
+abbrev pub given : Standing → Bool → Visited → Followed
+given unit sup (Named name) = Name (Some name)
+given unit sup Nameless = Name None
+given unit sup (Leads value) = On (record { unit = unit; sup = sup; value = value })
 
-abbrev pub seen_from : Standing → ℕ → UnitParts → Option Followed
-seen_from unit distance u = visited u (u.header.start + distance) >>= λ v. Some (seen unit u.sections.sup v)
+abbrev pub given_by : Standing → SeenEntry → Option Followed
+given_by unit e = Some (given unit e.sup e.visited)
 
--- the same of a unit of a file, by its number
-abbrev pub numbered_seen : Files → UnitTable → Side → ℕ → ℕ → Option Followed
-numbered_seen f t side k distance = unit_of f side (headers_of side t) k >>= seen_from (Numbered side k) distance
+-- what an entry tells of a name
+unfoldable pub told_by : Linked → Standing → ℕ → Option SeenEntry
+told_by l unit distance = unit_in l unit >>= seen_in distance
 
-unfoldable pub entry_seen : Linked → Standing → ℕ → Option Followed
-entry_seen l unit distance = unit_in l unit >>= seen_from unit distance
+-- what an entry gives
+unfoldable pub entry_given : Linked → Standing → ℕ → Option Followed
+entry_given l unit distance = told_by l unit distance >>= given_by unit
 
 abbrev pub followed : Linked → Option Target → Option Followed
 followed l None = Some (Name None)
-followed l (Some p) = entry_seen l p.0 p.1
+followed l (Some p) = entry_given l p.0 p.1
 
 -- one entry more
 unfoldable pub step_of : Linked → Reference → Option Followed

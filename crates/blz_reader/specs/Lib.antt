@@ -3,7 +3,6 @@ pub mod SiteViews
 pub mod Growing
 pub mod Readers
 pub mod Following
-pub mod LongEntries
 pub mod Linking
 pub mod Putting
 pub mod ShownFunctions

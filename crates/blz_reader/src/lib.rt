@@ -8,7 +8,6 @@ mod calls;
 mod fill;
 mod lent;
 mod list;
-mod long_entries;
 mod names;
 mod prepare;
 mod puts;

@@ -1,5 +1,5 @@
 //! The parts of a unit, as they are read.
-ghost use Rattle.std.specs.Prelude.{◌≡◌, ◌≤◌, true, List, Option, map, IfOk};
+ghost use Rattle.std.specs.Prelude.{◌≡◌, ◌≤◌, true, List, Option, Some, map, IfOk};
 ghost use Rattle.std.specs.List.{slice_get};
 ghost use Rattle.blz_model.specs.Part.{Gives};
 ghost use Rattle.blz_model.specs.Kept.{Kept, is_kept};
@@ -25,6 +25,7 @@ use blz_model::Cache;
 use blz_units::built_unit::{BuiltUnit, may_be_split};
 use blz_units::built_units::{BuiltUnits, Side, SideUnits, look, put, take};
 use blz_units::dwarf::Origin;
+use blz_units::long_entries::LongEntries;
 use blz_units::shared_parts::SharedParts;
 use std::mem;
 
@@ -53,38 +54,52 @@ impl<'r, 's, 'b> Reader<'r, 's, 'b> {
         BuiltUnits {
             kept: SideUnits::new(self.alloc),
             sups: SideUnits::new(self.alloc),
+            long: LongEntries::new(self.alloc),
         }
     }
 
     /// The functions of a unit that is built, which is none of those that are kept meanwhile.
-    fn functions_of(&self, built: &mut BuiltUnits, unit: &BuiltUnit) -> Result<FunctionLists>
+    fn functions_of(
+        &self,
+        built: &mut BuiltUnits,
+        number: usize,
+        unit: &BuiltUnit,
+    ) -> Result<FunctionLists>
         requires readable { IsReadable self.now.dwarf.now }
         requires fits { BuiltFit (reader_files self.now) (reader_table self.now) built.old }
         requires unit { BuiltFits (reader_files self.now) unit.now }
+        requires is { read_unit (reader_files self.now) (reader_table self.now) number ≡ Some (built_view (reader_files self.now) unit.now) }
         ensures value { Gives asked_of result (or_invalid (lists_in (reader_files self.now) (reader_table self.now) (built_view (reader_files self.now) unit.now))) }
         ensures fits { BuiltFit (reader_files self.now) (reader_table self.now) built.new }
     {
         let dwarf = lent(&*self.dwarf);
         let open = open_in(&*unit, &dwarf);
         let others = mem::replace(built, self.no_units());
-        let mut links = References::new(self.alloc, dwarf, &*self.table, open, others);
+        let mut links = References::new(self.alloc, dwarf, &*self.table, number, open, others);
         let lists = FunctionLists::read(self.alloc, &open, &mut links);
         *built = links.into_built();
         lists
     }
 
     /// The calls of the function at a place of such a unit.
-    fn calls_of(&self, built: &mut BuiltUnits, unit: &BuiltUnit, place: usize) -> Result<CallLists>
+    fn calls_of(
+        &self,
+        built: &mut BuiltUnits,
+        number: usize,
+        unit: &BuiltUnit,
+        place: usize,
+    ) -> Result<CallLists>
         requires readable { IsReadable self.now.dwarf.now }
         requires fits { BuiltFit (reader_files self.now) (reader_table self.now) built.old }
         requires unit { BuiltFits (reader_files self.now) unit.now }
+        requires is { read_unit (reader_files self.now) (reader_table self.now) number ≡ Some (built_view (reader_files self.now) unit.now) }
         ensures value { Gives (λ l. l) result (or_invalid (calls_in (reader_files self.now) (reader_table self.now) place (built_view (reader_files self.now) unit.now))) }
         ensures fits { BuiltFit (reader_files self.now) (reader_table self.now) built.new }
     {
         let dwarf = lent(&*self.dwarf);
         let open = open_in(&*unit, &dwarf);
         let others = mem::replace(built, self.no_units());
-        let mut links = References::new(self.alloc, dwarf, &*self.table, open, others);
+        let mut links = References::new(self.alloc, dwarf, &*self.table, number, open, others);
         let lists = CallLists::read(self.alloc, &open, &mut links, place);
         *built = links.into_built();
         lists
@@ -101,7 +116,7 @@ impl<'r, 's, 'b> Reader<'r, 's, 'b> {
         self.fill_unit(Side::File, built, number)?;
         match self.take_unit(built, number) {
             Cache::Value(unit) => {
-                let lists = self.functions_of(built, &unit);
+                let lists = self.functions_of(built, number, &unit);
                 self.put_unit(built, number, Cache::Value(unit));
                 lists
             },
@@ -129,7 +144,7 @@ impl<'r, 's, 'b> Reader<'r, 's, 'b> {
         self.fill_unit(Side::File, built, number)?;
         match self.take_unit(built, number) {
             Cache::Value(unit) => {
-                let lists = self.calls_of(built, &unit, place);
+                let lists = self.calls_of(built, number, &unit, place);
                 self.put_unit(built, number, Cache::Value(unit));
                 lists
             },

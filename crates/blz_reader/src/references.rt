@@ -1,18 +1,19 @@
 //! References from the entries of a unit to entries of any unit.
 ghost use Rattle.std.specs.Prelude.{◌≡◌, ◌≤◌, ◌<◌, ◌+◌, ◌^◌, ◌-◌, Option, Some, IfOk, IfSome, nat_lt};
+ghost use Rattle.std.specs.Bool.{OnTrue};
 ghost use Rattle.std.specs.List.{slice_get};
 ghost use Rattle.blz_model.specs.Part.{Gives, Exactly};
 ghost use Rattle.blz_info.specs.Marks.{or_invalid};
 ghost use Rattle.blz_units.specs.BuiltUnits.{built_view, files_view, BuiltFits, IsReadable};
-ghost use Rattle.blz_reader.specs.Following.{target_in, target_of, seen, seen_from, numbered_seen, entry_seen, step_of, name_over, own_side};
-ghost use Rattle.blz_reader.specs.LongEntries.{attribute_count, IsSeen};
-ghost use Rattle.blz_units.specs.KeptParts.{caches_of, IsFilled, BuiltFit};
+ghost use Rattle.blz_reader.specs.Following.{unit_in, target_in, target_of, given, told_by, entry_given, step_of, name_over, own_side};
+ghost use Rattle.blz_units.specs.KeptParts.{caches_of, entry_of, headers_of, unit_of, IsFilled, BuiltFit};
+ghost use Rattle.blz_units.specs.LongEntries.{attribute_count, seen_in};
+ghost use Rattle.blz_units.specs.declared.built_units.Side.TheVariants.{File};
 ghost use Rattle.blz_functions.specs.Naming.{visited};
 ghost use Rattle.blz_functions.specs.Opened.{open_view, CanBeOpened};
 ghost use Rattle.blz_reader.specs.Readers.{reader_files, reader_table};
 ghost use Rattle.blz_units.specs.TableViews.{table_view};
 
-use crate::long_entries::{LongEntries, LongEntry, attribute_count};
 use crate::reader::Reader;
 use blz_entry::{AttrValue, StrPlace, invalid};
 use blz_error::Result;
@@ -20,6 +21,7 @@ use blz_functions::{Links, OpenUnit, Visited, visit};
 use blz_units::built_unit::BuiltUnit;
 use blz_units::built_units::{BuiltUnits, Side, look};
 use blz_units::dwarf::Dwarf;
+use blz_units::long_entries::{LongEntry, SeenEntry, attribute_count};
 use blz_units::unit_table::UnitTable;
 use std::alloc::{AllocError, Global};
 use std::marker::Model;
@@ -28,7 +30,7 @@ use std::ops::Deref;
 /// How many entries a name is looked for over.
 const MOST_ENTRIES: usize = 16;
 
-/// What an entry gives is kept where it has more attributes than this, and else found again.
+/// What an entry tells is kept where it has more attributes than this, and else found again.
 const FEW_ATTRIBUTES: usize = 24;
 
 /// The unit that an entry stands in.
@@ -58,15 +60,16 @@ pub enum Followed {
     On(Reference),
 }
 
-/// The references of a unit, the units that are built on the way, and what entries with very many attributes gave.
+/// The references of a unit, and the units that are built on the way, with what their entries told.
 #[derive(Drop)]
 pub struct References<'u> {
     alloc: Global,
     dwarf: Dwarf<'u, 'u>,
     table: &'u UnitTable,
+    /// The number of the unit.
+    number: usize,
     unit: OpenUnit<'u, 'u>,
     built: BuiltUnits,
-    long: LongEntries,
 }
 
 impl<'u> Model for References<'u> {
@@ -123,8 +126,9 @@ fn visit_at(unit: &OpenUnit<'_, '_>, distance: u64) -> Result<Visited>
     visit(unit, place)
 }
 
-fn seen(unit: Standing, sup: bool, visited: Visited) -> Followed
-    ensures { result ≡ seen unit sup visited }
+/// What an entry gives by what it tells.
+fn given(unit: Standing, sup: bool, visited: Visited) -> Followed
+    ensures { result ≡ given unit sup visited }
 {
     match visited {
         Visited::Named(name) => Followed::Name(Some(name)),
@@ -141,39 +145,41 @@ fn is_long(unit: &OpenUnit<'_, '_>, distance: u64) -> bool
     attribute_count(unit, distance) > FEW_ATTRIBUTES
 }
 
-/// What the entry at a distance from the start of a unit gives.
-fn seen_from(standing: Standing, unit: &OpenUnit<'_, '_>, distance: u64) -> Result<Followed>
+/// What the entry at a distance from the start of a unit tells of a name.
+fn seen_in(unit: &OpenUnit<'_, '_>, distance: u64) -> Result<SeenEntry>
     requires { CanBeOpened unit.now }
-    ensures { Exactly (λ f. f) result (or_invalid (seen_from standing distance (open_view unit.now))) }
+    ensures { Exactly (λ e. e) result (or_invalid (seen_in distance (open_view unit.now))) }
 {
     let visited = visit_at(unit, distance)?;
-    Ok(seen(standing, unit.sections.sup, visited))
+    Ok(SeenEntry {
+        sup: unit.sections.sup,
+        visited,
+    })
 }
 
 /// The same, and whether the entry has very many attributes.
-fn seen_over(standing: Standing, unit: &OpenUnit<'_, '_>, distance: u64) -> Result<(Followed, bool)>
+fn seen_over(unit: &OpenUnit<'_, '_>, distance: u64) -> Result<(SeenEntry, bool)>
     requires { CanBeOpened unit.now }
-    ensures value { Exactly (λ f. f.0) result (or_invalid (seen_from standing distance (open_view unit.now))) }
-    ensures long { IfOk result (λ f. f.1 ≡ nat_lt 24 (attribute_count (open_view unit.now) (unit.now.header.start + distance))) }
+    ensures value { Exactly (λ e. e.0) result (or_invalid (seen_in distance (open_view unit.now))) }
+    ensures long { IfOk result (λ e. e.1 ≡ nat_lt 24 (attribute_count (open_view unit.now) (unit.now.header.start + distance))) }
 {
-    let followed = seen_from(standing, unit, distance)?;
-    Ok((followed, is_long(unit, distance)))
+    let entry = seen_in(unit, distance)?;
+    Ok((entry, is_long(unit, distance)))
 }
 
 /// The same of an entry of a unit that is kept.
-fn seen_in(
+fn seen_among(
     reader: &Reader<'_, '_, '_>,
     side: Side,
     built: &BuiltUnits,
     number: usize,
     distance: u64,
-) -> Result<(Followed, bool)>
+) -> Result<(SeenEntry, bool)>
     requires readable { IsReadable reader.now.dwarf.now }
     requires fits { BuiltFit (reader_files reader.now) (reader_table reader.now) built.now }
     requires filled { IsFilled (slice_get (caches_of side built.now) number) }
-    ensures { Exactly (λ f. f.0) result (or_invalid (numbered_seen (reader_files reader.now) (reader_table reader.now) side number distance)) }
+    ensures { Exactly (λ e. e.0) result (or_invalid (entry_of (reader_files reader.now) (reader_table reader.now) side number distance)) }
 {
-    let standing = Standing::Numbered(side, number);
     match side {
         Side::File => {
             let unit = look(
@@ -183,7 +189,7 @@ fn seen_in(
                 &built.kept.units,
                 number,
             )?;
-            seen_over(standing, &unit, distance)
+            seen_over(&unit, distance)
         },
         Side::Sup => {
             let unit = look(
@@ -193,7 +199,7 @@ fn seen_in(
                 &built.sups.units,
                 number,
             )?;
-            seen_over(standing, &unit, distance)
+            seen_over(&unit, distance)
         },
     }
 }
@@ -205,10 +211,10 @@ fn filled_and_seen(
     table: &UnitTable,
     built: &mut BuiltUnits,
     place: (Side, usize, u64),
-) -> Result<(Followed, bool)>
+) -> Result<(SeenEntry, bool)>
     requires readable { IsReadable dwarf.now }
     requires fits { BuiltFit (files_view dwarf.now) (table_view table.now) built.old }
-    ensures value { Gives (λ f. f.0) result (or_invalid (numbered_seen (files_view dwarf.now) (table_view table.now) place.0 place.1 place.2)) }
+    ensures value { Gives (λ e. e.0) result (or_invalid (entry_of (files_view dwarf.now) (table_view table.now) place.0 place.1 place.2)) }
     ensures fits { BuiltFit (files_view dwarf.now) (table_view table.now) built.new }
 {
     let (side, number, distance) = place;
@@ -218,20 +224,22 @@ fn filled_and_seen(
         table,
     };
     reader.fill_unit(side, built, number)?;
-    seen_in(&reader, side, built, number, distance)
+    seen_among(&reader, side, built, number, distance)
 }
 
 impl<'u> References<'u> {
-    /// The references of a unit that is built, among other units that are.
+    /// The references of a unit that is built, by its number, among other units that are.
     pub fn new(
         alloc: Global,
         dwarf: Dwarf<'u, 'u>,
         table: &'u UnitTable,
+        number: usize,
         unit: OpenUnit<'u, 'u>,
         built: BuiltUnits,
     ) -> References<'u>
         requires readable { IsReadable dwarf }
         requires opened { CanBeOpened unit }
+        requires is { unit_of (files_view dwarf) File (table_view table.now).kept number ≡ Some (open_view unit) }
         requires fits { BuiltFit (files_view dwarf) (table_view table.now) built }
         ensures { result ≡ record { files = files_view dwarf.entry; table = table_view table.now; unit = open_view unit.entry } }
     {
@@ -239,9 +247,9 @@ impl<'u> References<'u> {
             alloc,
             dwarf,
             table,
+            number,
             unit,
             built,
-            long: LongEntries::new(alloc),
         }
     }
 
@@ -284,70 +292,107 @@ impl<'u> References<'u> {
         }
     }
 
-    /// What an entry gives, and whether it has very many attributes.
-    #[tactic(auto, unfolding(crate::specs::Following::entry_seen))]
-    fn found(&mut self, standing: Standing, distance: u64) -> Result<(Followed, bool)>
-        ensures value { Gives (λ f. f.0) result (or_invalid (entry_seen self.old standing distance)) }
-        ensures same { self.new ≡ self.old }
+    /// The file and the number of the unit that an entry stands in.
+    fn number_of(&self, standing: Standing) -> (Side, usize)
+        ensures { unit_of self.now.files result.0 (headers_of result.0 self.now.table) result.1 ≡ unit_in self.now standing }
     {
         match standing {
-            Standing::Own => seen_over(standing, &self.unit, distance),
-            Standing::Numbered(side, number) => {
-                let (alloc, table) = (self.alloc, self.table);
-                let place = (side, number, distance);
-                filled_and_seen(alloc, &self.dwarf, table, &mut self.built, place)
-            },
+            Standing::Own => (Side::File, self.number),
+            Standing::Numbered(side, number) => (side, number),
+        }
+    }
+
+    /// Whether an entry stands in the unit itself, which is not among those that are built meanwhile.
+    fn is_own(&self, standing: Standing) -> bool
+        ensures { OnTrue result (unit_in self.now standing ≡ Some self.now.unit) }
+    {
+        match standing {
+            Standing::Own => true,
+            Standing::Numbered(Side::File, number) => number == self.number,
+            Standing::Numbered(Side::Sup, _) => false,
         }
     }
 
     /// What is kept of an entry.
-    fn kept(&self, standing: Standing, distance: u64) -> Option<Followed>
-        ensures { IfSome result (λ f. entry_seen self.now standing distance ≡ Some f) }
+    #[tactic(auto, unfolding(crate::specs::Following::told_by))]
+    fn kept(&self, standing: Standing, distance: u64) -> Option<SeenEntry>
+        ensures { IfSome result (λ e. told_by self.now standing distance ≡ Some e) }
     {
-        self.long.find(standing, distance)
+        let (side, number) = self.number_of(standing);
+        self.built.long.find(side, number, distance)
     }
 
-    /// Keeps what an entry gives.
-    fn keep(&mut self, entry: LongEntry) -> std::result::Result<(), AllocError>
-        requires { IsSeen self.old entry }
+    /// Keeps what an entry tells.
+    #[tactic(auto, unfolding(crate::specs::Following::told_by))]
+    fn keep(
+        &mut self,
+        standing: Standing,
+        distance: u64,
+        seen: SeenEntry,
+    ) -> std::result::Result<(), AllocError>
+        requires { told_by self.old standing distance ≡ Some seen }
         ensures { self.new ≡ self.old }
     {
-        self.long.keep(entry)
+        let (side, number) = self.number_of(standing);
+        self.built.long.keep(LongEntry {
+            side,
+            number,
+            distance,
+            seen,
+        })
     }
 
-    /// What an entry gives, which is kept where it has very many attributes.
-    fn found_once(&mut self, standing: Standing, distance: u64) -> Result<Followed>
-        ensures value { Gives (λ f. f) result (or_invalid (entry_seen self.old standing distance)) }
+    /// What an entry tells, and whether it has very many attributes.
+    #[tactic(auto, unfolding(crate::specs::Following::told_by))]
+    fn found(&mut self, standing: Standing, distance: u64) -> Result<(SeenEntry, bool)>
+        ensures value { Gives (λ e. e.0) result (or_invalid (told_by self.old standing distance)) }
         ensures same { self.new ≡ self.old }
     {
-        if let Some(followed) = self.kept(standing, distance) {
-            return Ok(followed);
+        if self.is_own(standing) {
+            return seen_over(&self.unit, distance);
         }
-        let (followed, long) = self.found(standing, distance)?;
+        let (side, number) = self.number_of(standing);
+        let (alloc, table) = (self.alloc, self.table);
+        let place = (side, number, distance);
+        filled_and_seen(alloc, &self.dwarf, table, &mut self.built, place)
+    }
+
+    /// What an entry tells, which is kept where it has very many attributes.
+    fn found_once(&mut self, standing: Standing, distance: u64) -> Result<SeenEntry>
+        ensures value { Gives (λ e. e) result (or_invalid (told_by self.old standing distance)) }
+        ensures same { self.new ≡ self.old }
+    {
+        if let Some(entry) = self.kept(standing, distance) {
+            return Ok(entry);
+        }
+        let (entry, long) = self.found(standing, distance)?;
         if long {
-            self.keep(LongEntry {
-                standing,
-                distance,
-                followed,
-            })?;
+            self.keep(standing, distance, entry)?;
         }
-        Ok(followed)
+        Ok(entry)
     }
 
-    /// What an entry gives; most stand in the unit itself, and have few attributes.
-    #[tactic(auto, unfolding(crate::specs::Following::entry_seen))]
-    fn entry_seen(&mut self, standing: Standing, distance: u64) -> Result<Followed>
-        ensures value { Gives (λ f. f) result (or_invalid (entry_seen self.old standing distance)) }
+    /// What an entry tells; most stand in the unit itself, and have few attributes.
+    #[tactic(auto, unfolding(crate::specs::Following::told_by))]
+    fn told_by(&mut self, standing: Standing, distance: u64) -> Result<SeenEntry>
+        ensures value { Gives (λ e. e) result (or_invalid (told_by self.old standing distance)) }
         ensures same { self.new ≡ self.old }
     {
-        match standing {
-            Standing::Own => {
-                if is_long(&self.unit, distance) {
-                    return self.found_once(standing, distance);
-                }
-                seen_from(standing, &self.unit, distance)
-            },
-            Standing::Numbered(..) => self.found_once(standing, distance),
+        if self.is_own(standing) && !is_long(&self.unit, distance) {
+            return seen_in(&self.unit, distance);
+        }
+        self.found_once(standing, distance)
+    }
+
+    /// What an entry gives.
+    #[tactic(auto, unfolding(crate::specs::Following::entry_given))]
+    fn entry_given(&mut self, standing: Standing, distance: u64) -> Result<Followed>
+        ensures value { Gives (λ f. f) result (or_invalid (entry_given self.old standing distance)) }
+        ensures same { self.new ≡ self.old }
+    {
+        match self.told_by(standing, distance) {
+            Ok(entry) => Ok(given(standing, entry.sup, entry.visited)),
+            Err(fault) => Err(fault),
         }
     }
 
@@ -357,7 +402,7 @@ impl<'u> References<'u> {
         ensures same { self.new ≡ self.old }
     {
         match self.target(reference)? {
-            Some((standing, distance)) => self.entry_seen(standing, distance),
+            Some((standing, distance)) => self.entry_given(standing, distance),
             None => Ok(Followed::Name(None)),
         }
     }

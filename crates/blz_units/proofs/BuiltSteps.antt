@@ -107,5 +107,5 @@ pub none_built : (f : Files) (headers : List UnitHeader) (b : SideUnits) → hea
 none_built f headers b none empty shared = record { all = rw (none, empty) (nothing_built f); shared = shared f.main }
 
 -- the kept units share more
-pub shared_again : (f : Files) (t : UnitTable) (old new : built.BuiltUnits) → new.kept.units ≡ old.kept.units → new.sups ≡ old.sups → AreShared f.main new.kept.shared → BuiltFit f t old → BuiltFit f t new
-shared_again f t old new units sups shared fits = record { kept = side_same f t.kept old.kept new.kept units shared fits.kept; sups = rw sups fits.sups }
+pub shared_again : (f : Files) (t : UnitTable) (old new : built.BuiltUnits) → new.kept.units ≡ old.kept.units → new.sups ≡ old.sups → new.long ≡ old.long → AreShared f.main new.kept.shared → BuiltFit f t old → BuiltFit f t new
+shared_again f t old new units sups long shared fits = record { kept = side_same f t.kept old.kept new.kept units shared fits.kept; sups = rw sups fits.sups; long = rw long fits.long }

@@ -7,5 +7,6 @@ pub mod TableViews
 pub mod Announced
 pub mod UnitAnswers
 pub mod UnitSites
+pub mod LongEntries
 pub mod KeptParts
 pub mod KeptAnswers

@@ -1,5 +1,6 @@
 //! Units that are built, where they are kept.
 ghost use Rattle.std.specs.Prelude.{◌≡◌, true, List, [], Option, IfOk};
+ghost use Rattle.std.specs.Bool.{OnTrue};
 ghost use Rattle.std.specs.List.{slice_get, slice_set};
 ghost use Rattle.blz_model.specs.Part.{Exactly};
 ghost use Rattle.blz_model.specs.declared.cache.Cache.TheVariants.{Empty};
@@ -12,6 +13,7 @@ ghost use Rattle.blz_info.specs.FileSections.{FileSections};
 
 use crate::built_unit::BuiltUnit;
 use crate::dwarf::Dwarf;
+use crate::long_entries::LongEntries;
 use crate::shared_parts::SharedParts;
 use crate::unit_list::UnitList;
 use blz_entry::invalid;
@@ -42,6 +44,19 @@ pub struct SideUnits {
 pub struct BuiltUnits {
     pub kept: SideUnits,
     pub sups: SideUnits,
+    /// What their entries with very many attributes told.
+    pub long: LongEntries,
+}
+
+impl Side {
+    pub fn is(self, other: Side) -> bool
+        ensures { OnTrue result (self ≡ other) }
+    {
+        match (self, other) {
+            (Side::File, Side::File) | (Side::Sup, Side::Sup) => true,
+            _ => false,
+        }
+    }
 }
 
 impl SideUnits {

@@ -8,6 +8,7 @@ pub mod built_units;
 pub mod caches;
 pub mod dwarf;
 mod kept_units;
+pub mod long_entries;
 pub mod look;
 mod shared_lines;
 pub mod shared_parts;

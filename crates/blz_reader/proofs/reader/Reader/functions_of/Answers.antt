@@ -2,6 +2,7 @@ use Rattle.std.proofs.Common.{◌≡◌}
 use Rattle.blz_units.specs.BuiltUnits.{built_view}
 use Rattle.blz_functions.specs.Opened.{open_view}
 use Rattle.blz_functions.specs.SearchedFunctions.{asked_of}
+use Rattle.blz_units.specs.UnitAnswers.{read_unit}
 use Rattle.blz_reader.specs.Readers.{reader_files, reader_table}
 use Rattle.blz_reader.proofs.AmongUnits.{lists_among}
 use Rattle.blz_reader.proofs.reader.Reader.functions_of.Goals as goal
@@ -16,3 +17,7 @@ pub returns-clause-fits : goal.returns-clause-fits
 returns-clause-fits c =
     let same : c.read-lists.new.links ≡ c.new-links.result = c.read-lists.ensures.same in
     rw (same, c.new-links.ensures, c.lent-dwarf.ensures) at c.into_built.ensures
+
+pub new-links-requires-clause-is : goal.new-links-requires-clause-is
+unfolding read_unit
+new-links-requires-clause-is c = rw (c.open_in-open.ensures.view, c.lent-dwarf.ensures) c.requires.is

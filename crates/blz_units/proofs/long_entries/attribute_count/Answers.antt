@@ -1,7 +1,7 @@
 use Rattle.std.proofs.Common.{◌+◌, ◌≤◌, length, refl, arith}
 use Rattle.blz_functions.specs.Opened.{open_view}
 use Rattle.blz_functions.proofs.DescriptionSteps.{uleb_over}
-use Rattle.blz_reader.proofs.long_entries.attribute_count.Goals as goal
+use Rattle.blz_units.proofs.long_entries.attribute_count.Goals as goal
 
 pub returns-in_default : goal.returns-in_default
 returns-in_default c =
