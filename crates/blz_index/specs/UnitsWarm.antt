@@ -13,9 +13,11 @@ use Rattle.blz_units.specs.declared.dwarf.Dwarf.{Dwarf}
 use Rattle.blz_ranges.specs.Groups.{AreApart}
 use Rattle.blz_reader.specs.Growing.{Told, UnitsGrowTo}
 use Rattle.blz_units.specs.KeptParts.{AllFit, AllFull, functions_at, lines_at, calls_at}
-use Rattle.blz_ranges.specs.Owned.{items_of}
+use Rattle.blz_ranges.specs.declared.span.Span.{Span}
+use Rattle.blz_ranges.specs.Owned.{Owned, items_of}
 use Rattle.blz_functions.specs.FunctionRanges.{FunctionRanges, CallRanges}
 use Rattle.blz_ranges.specs.Ranges.{OwnedRanges}
+use Rattle.blz_units.specs.Copies.{announced_all}
 use Rattle.blz_units.specs.TableViews.{table_view}
 use Rattle.blz_units.specs.UnitTables.{UnitTable, units_of}
 use Rattle.blz_units.specs.KeptAnswers.{is_value, has_order, function_in, ranges_in}
@@ -29,9 +31,13 @@ use Rattle.blz_reader.specs.UnitNames.{list_in}
 abbrev pub units_table : Units → UnitTable
 units_table u = table_view u.table
 
--- whether the order of the announced ranges was accepted
+-- the announced ranges that are kept, of which an order is asked for
+abbrev pub announced_kept : Units → List (Owned Span)
+announced_kept u = u.table.announced.kept.ranges
+
+-- whether their order was accepted
 abbrev pub announced_ordered : Units → Bool
-announced_ordered u = u.table.announced.ordered
+announced_ordered u = u.table.announced.kept.ordered
 
 -- whether `prepare` filled all
 abbrev pub units_prepared : Units → Bool
@@ -123,4 +129,4 @@ FewLooks announced units (Ok None) looks = ⊤
 FewLooks announced units (Err e) looks = ⊤
 
 abbrev pub LooksFew : Units → Result (Option (ℕ × ℕ)) Fault → ℕ → Type 0
-LooksFew u r looks = FewLooks u.table.announced u.caches.units.items r looks
+LooksFew u r looks = FewLooks (announced_all u.table.announced) u.caches.units.items r looks

@@ -12,7 +12,7 @@ ghost use Rattle.blz_functions.specs.References.{unit_at};
 ghost use Rattle.blz_units.specs.UnitAnswers.{unit_language, function_at};
 ghost use Rattle.blz_units.specs.UnitSites.{location_at, inlined_at};
 ghost use Rattle.blz_units.specs.UnitTables.{units_of};
-ghost use Rattle.blz_index.specs.UnitsWarm.{units_table, announced_ordered, units_prepared, functions_kept, kept_function, CanBeAsked, Leaves, UnitsFit, UnitsGrow, AreCold};
+ghost use Rattle.blz_index.specs.UnitsWarm.{units_table, announced_kept, announced_ordered, units_prepared, functions_kept, kept_function, CanBeAsked, Leaves, UnitsFit, UnitsGrow, AreCold};
 
 mod find;
 mod lend;
@@ -49,7 +49,7 @@ impl Units {
         requires readable { IsReadable dwarf.now }
         ensures value { Gives units_table result (or_invalid (units_of (files_view dwarf.now))) }
         ensures fits { IfOk result (UnitsFit (files_view dwarf.now)) }
-        ensures accepted { IfOk result (λ u. IsAccepted O.pair_places (map begin_key (items_of (units_table u).announced)) (announced_ordered u)) }
+        ensures accepted { IfOk result (λ u. IsAccepted O.pair_places (map begin_key (items_of (announced_kept u))) (announced_ordered u)) }
         ensures cold { IfOk result AreCold }
     {
         let (table, built) = UnitTable::read(alloc, orders, dwarf)?;

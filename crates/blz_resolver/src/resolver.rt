@@ -4,7 +4,7 @@ ghost use Rattle.blz_model.specs.Part.{Gives};
 ghost use Rattle.blz_elf.specs.AnswerView.{answer_view};
 ghost use Rattle.blz_ranges.specs.Keyed.{IsAccepted, begin_key};
 ghost use Rattle.blz_ranges.specs.Owned.{items_of};
-ghost use Rattle.blz_index.specs.UnitsWarm.{units_table, announced_ordered, AreCold};
+ghost use Rattle.blz_index.specs.UnitsWarm.{announced_kept, announced_ordered, AreCold};
 ghost use Rattle.blz_resolver.specs.AddressAnswers.{answer_of};
 ghost use Rattle.blz_resolver.specs.Books.{framed};
 ghost use Rattle.blz_bundle.specs.BundleViews.{bundle_view};
@@ -81,7 +81,7 @@ impl<'b> ElfResolver<'b> {
         ensures frame { Gives (λ _. tt) result (framed (bundle_view bundle.now)) }
         ensures images { IfOk result (λ r. r.images ≡ bundle_view bundle.now) }
         ensures has_debug { IfOk result (λ r. has_debug r ≡ true) }
-        ensures accepted { IfOk result (λ r. IfSome r.units (λ u. IsAccepted O.pair_places (map begin_key (items_of (units_table u).announced)) (announced_ordered u))) }
+        ensures accepted { IfOk result (λ r. IfSome r.units (λ u. IsAccepted O.pair_places (map begin_key (items_of (announced_kept u))) (announced_ordered u))) }
         ensures cold { IfOk result (λ r. IfSome r.units AreCold) }
         ensures is_prepared { IfOk result (λ r. r.prepared ≡ false) }
         ensures kinds { IfErr result (λ e. IsMemoryOrFormat e.kind) }

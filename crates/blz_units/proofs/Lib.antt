@@ -6,6 +6,10 @@ pub mod UnitsInPlace
 pub mod LinesLying
 pub mod Appended
 pub mod KeepSteps
+pub mod Copies
+pub mod NextCopies
+pub mod PlaceSteps
+pub mod RowSteps
 pub mod TurnSteps
 pub mod BuiltSteps
 pub mod Choosing

@@ -1,16 +1,19 @@
 -- The ranges that cover an address, one after the other.
-use Rattle.std.proofs.Common.{◌≡◌, ℕ, zero, suc, ◌<◌, Bool, false, List, [], ◌∷◌, length, drop, Option, Some, None, refl, sym, ap, ◌∙◌, arith}
+use Rattle.std.proofs.Common.{◌≡◌, ℕ, zero, suc, ◌<◌, Bool, false, List, [], ◌∷◌, length, drop, Option, Some, None, refl, sym, ap, subst, ◌∙◌, arith}
+use Rattle.std.specs.Prelude.{option_map, IfSome}
 use Rattle.std.specs.List.{slice_get}
 use Rattle.std.proofs.lemmas.Bool.{eq-eqb, ne_eqb}
 use Rattle.blz_ranges.specs.declared.span.Span.{Span}
-use Rattle.blz_units.specs.Announced.{Announcing, behind, is_first, places_left, turn_of, IsCovering, IsTurn}
+use Rattle.blz_units.specs.declared.announced.Place.{Place}
+use Rattle.blz_units.specs.declared.units_at.Turn.{Turn}
+use Rattle.blz_units.specs.Copies.{Announced, Copy, announced_all, announced_copies, full_place, told, IsPlaced, StandsFor}
+use Rattle.blz_units.proofs.Copies.{are_copies, copy_place}
+use Rattle.blz_units.specs.Announced.{Announcing, Left, All, Behind, Nothing, behind, are_all, left_behind, left_at, places_left, turn_behind, unit_at, IsCovering, IsLeft, IsPlacedTurn, IsTurn}
 use Rattle.blz_ranges.specs.Best.{best, next}
 use Rattle.blz_ranges.specs.Owned.{Owned, items_of, owner_at}
 use Rattle.blz_ranges.specs.Ranges.{OwnedRanges, owner_of}
 use Rattle.blz_ranges.specs.Turns.{covering}
 use Rattle.blz_ranges.specs.Owned.{owners_of}
-use Rattle.blz_units.specs.declared.units_at.Turn.{Turn}
-use Rattle.blz_units.specs.declared.units_at.Turn.TheVariants.{First, After, Over}
 use Rattle.std.proofs.lemmas.List.{length-map}
 use Rattle.blz_ranges.proofs.InTurn.{turns, once, covering_within}
 
@@ -45,48 +48,48 @@ none_from (q ∷ places) e = absurd cc
 
 -- ---- the place that is next
 
-pub first_place : (ranges : List (Owned Span)) (a : ℕ) → best (items_of ranges) a ≡ slice_get (places_left ranges a First) 0
+pub first_place : (ranges : List (Owned Span)) (a : ℕ) → best (items_of ranges) a ≡ slice_get (places_left ranges a All) 0
 first_place ranges a = sym (turns (items_of ranges) a).first
 
-left_behind : (ranges : List (Owned Span)) (a p : ℕ) (c : IsCovering ranges a p) → places_left ranges a (After p) ≡ drop (suc c.at) (covering (items_of ranges) a)
-left_behind ranges a p c = behind_is (covering (items_of ranges) a) c.at p (once (items_of ranges) a) c.is
+rest_behind : (ranges : List (Owned Span)) (a p : ℕ) (c : IsCovering ranges a p) → places_left ranges a (Behind p) ≡ drop (suc c.at) (covering (items_of ranges) a)
+rest_behind ranges a p c = behind_is (covering (items_of ranges) a) c.at p (once (items_of ranges) a) c.is
 
-pub after_place : (ranges : List (Owned Span)) (a p : ℕ) → IsCovering ranges a p → next (items_of ranges) a p ≡ slice_get (places_left ranges a (After p)) 0
+pub after_place : (ranges : List (Owned Span)) (a p : ℕ) → IsCovering ranges a p → next (items_of ranges) a p ≡ slice_get (places_left ranges a (Behind p)) 0
 after_place ranges a p c =
-    sym (ap (λ (l : List ℕ). slice_get l 0) (left_behind ranges a p c) ∙ first_of_drop (covering (items_of ranges) a) (suc c.at) ∙ (turns (items_of ranges) a).then_next c.at p c.is)
+    sym (ap (λ (l : List ℕ). slice_get l 0) (rest_behind ranges a p c) ∙ first_of_drop (covering (items_of ranges) a) (suc c.at) ∙ (turns (items_of ranges) a).then_next c.at p c.is)
 
--- ---- the turn behind it
+-- ---- what is left behind it
 
 covering_at : (ranges : List (Owned Span)) (a i p : ℕ) → slice_get (covering (items_of ranges) a) i ≡ Some p → IsCovering ranges a p
 covering_at ranges a i p is = record { within = let k = covering_within (items_of ranges) a i p is in let l = length-map ranges (λ (x : Owned Span). x.item) in omega arith; at = i; is = is }
 
--- the place of the list at which a turn stands
-abbrev at_turn : (ranges : List (Owned Span)) (a : ℕ) (turn : Turn) → IsTurn ranges a turn → ℕ
-at_turn ranges a First t = 0
-at_turn ranges a (After p) t = suc t.at
-at_turn ranges a Over t = length (covering (items_of ranges) a)
+-- the place of the list at which it begins
+abbrev at_turn : (ranges : List (Owned Span)) (a : ℕ) (left : Left) → IsLeft ranges a left → ℕ
+at_turn ranges a All t = 0
+at_turn ranges a (Behind p) t = suc t.at
+at_turn ranges a Nothing t = length (covering (items_of ranges) a)
 
 past_end : (places : List ℕ) → [] ≡ drop (length places) places
 past_end [] = refl
 past_end (q ∷ places) = past_end places
 
-left_is : (ranges : List (Owned Span)) (a : ℕ) (turn : Turn) (t : IsTurn ranges a turn) → places_left ranges a turn ≡ drop (at_turn ranges a turn t) (covering (items_of ranges) a)
-left_is ranges a First t = refl
-left_is ranges a (After p) t = left_behind ranges a p t
-left_is ranges a Over t = past_end (covering (items_of ranges) a)
+left_is : (ranges : List (Owned Span)) (a : ℕ) (left : Left) (t : IsLeft ranges a left) → places_left ranges a left ≡ drop (at_turn ranges a left t) (covering (items_of ranges) a)
+left_is ranges a All t = refl
+left_is ranges a (Behind p) t = rest_behind ranges a p t
+left_is ranges a Nothing t = past_end (covering (items_of ranges) a)
 
-stands : (ranges : List (Owned Span)) (a : ℕ) (turn : Turn) (t : IsTurn ranges a turn) (p : ℕ) → slice_get (places_left ranges a turn) 0 ≡ Some p → slice_get (covering (items_of ranges) a) (at_turn ranges a turn t) ≡ Some p
-stands ranges a turn t p e = sym (first_of_drop (covering (items_of ranges) a) (at_turn ranges a turn t)) ∙ (ap (λ (l : List ℕ). slice_get l 0) (sym (left_is ranges a turn t)) ∙ e)
+stands : (ranges : List (Owned Span)) (a : ℕ) (left : Left) (t : IsLeft ranges a left) (p : ℕ) → slice_get (places_left ranges a left) 0 ≡ Some p → slice_get (covering (items_of ranges) a) (at_turn ranges a left t) ≡ Some p
+stands ranges a left t p e = sym (first_of_drop (covering (items_of ranges) a) (at_turn ranges a left t)) ∙ (ap (λ (l : List ℕ). slice_get l 0) (sym (left_is ranges a left t)) ∙ e)
 
-pub turn_kept : (ranges : List (Owned Span)) (a : ℕ) (turn : Turn) → IsTurn ranges a turn → (place : Option ℕ) → place ≡ slice_get (places_left ranges a turn) 0 → IsTurn ranges a (turn_of place)
-turn_kept ranges a turn t None e = tt
-turn_kept ranges a turn t (Some p) e = covering_at ranges a (at_turn ranges a turn t) p (stands ranges a turn t p (sym e))
+pub turn_kept : (ranges : List (Owned Span)) (a : ℕ) (left : Left) → IsLeft ranges a left → (place : Option ℕ) → place ≡ slice_get (places_left ranges a left) 0 → IsLeft ranges a (left_behind place)
+turn_kept ranges a left t None e = tt
+turn_kept ranges a left t (Some p) e = covering_at ranges a (at_turn ranges a left t) p (stands ranges a left t p (sym e))
 
-places_behind : (ranges : List (Owned Span)) (a : ℕ) (turn : Turn) (t : IsTurn ranges a turn) (place : Option ℕ) → place ≡ slice_get (places_left ranges a turn) 0 → places_left ranges a (turn_of place) ≡ drop 1 (places_left ranges a turn)
-places_behind ranges a turn t None e = sym (none_from (places_left ranges a turn) (sym e))
-places_behind ranges a turn t (Some p) e =
-    behind_is (covering (items_of ranges) a) (at_turn ranges a turn t) p (once (items_of ranges) a) (stands ranges a turn t p (sym e))
-    ∙ drop_one (covering (items_of ranges) a) (at_turn ranges a turn t) ∙ ap (λ (l : List ℕ). drop 1 l) (sym (left_is ranges a turn t))
+places_behind : (ranges : List (Owned Span)) (a : ℕ) (left : Left) (t : IsLeft ranges a left) (place : Option ℕ) → place ≡ slice_get (places_left ranges a left) 0 → places_left ranges a (left_behind place) ≡ drop 1 (places_left ranges a left)
+places_behind ranges a left t None e = sym (none_from (places_left ranges a left) (sym e))
+places_behind ranges a left t (Some p) e =
+    behind_is (covering (items_of ranges) a) (at_turn ranges a left t) p (once (items_of ranges) a) (stands ranges a left t p (sym e))
+    ∙ drop_one (covering (items_of ranges) a) (at_turn ranges a left t) ∙ ap (λ (l : List ℕ). drop 1 l) (sym (left_is ranges a left t))
 
 -- ---- the units of the places
 
@@ -107,25 +110,67 @@ taken : (ranges : List (Owned Span)) (places : List ℕ) → ((p : ℕ) → slic
 taken ranges [] within = record { unit = refl; left = refl }
 taken ranges (p ∷ rest) within = owned_front ranges p rest (owner_at ranges p) refl (owner_there ranges p (within p refl))
 
-turn_taken : (ranges : List (Owned Span)) (a : ℕ) (turn : Turn) (t : IsTurn ranges a turn) → IsTaken ranges (places_left ranges a turn) (slice_get (places_left ranges a turn) 0)
-turn_taken ranges a turn t = taken ranges (places_left ranges a turn) (λ p e. let c = covering_at ranges a (at_turn ranges a turn t) p (stands ranges a turn t p e) in c.within)
+turn_taken : (ranges : List (Owned Span)) (a : ℕ) (left : Left) (t : IsLeft ranges a left) → IsTaken ranges (places_left ranges a left) (slice_get (places_left ranges a left) 0)
+turn_taken ranges a left t = taken ranges (places_left ranges a left) (λ p e. let c = covering_at ranges a (at_turn ranges a left t) p (stands ranges a left t p e) in c.within)
 
-pub unit_next : (ranges : List (Owned Span)) (a : ℕ) (turn : Turn) (t : IsTurn ranges a turn) (place : Option ℕ) → place ≡ slice_get (places_left ranges a turn) 0 → owner_of ranges place ≡ slice_get (owners_of ranges (places_left ranges a turn)) 0
-unit_next ranges a turn t place e = ap (λ o. owner_of ranges o) e ∙ (turn_taken ranges a turn t).unit
+pub unit_next : (ranges : List (Owned Span)) (a : ℕ) (left : Left) (t : IsLeft ranges a left) (place : Option ℕ) → place ≡ slice_get (places_left ranges a left) 0 → owner_of ranges place ≡ slice_get (owners_of ranges (places_left ranges a left)) 0
+unit_next ranges a left t place e = ap (λ o. owner_of ranges o) e ∙ (turn_taken ranges a left t).unit
 
-pub units_left : (ranges : List (Owned Span)) (a : ℕ) (turn : Turn) (t : IsTurn ranges a turn) (place : Option ℕ) → place ≡ slice_get (places_left ranges a turn) 0 → owners_of ranges (places_left ranges a (turn_of place)) ≡ drop 1 (owners_of ranges (places_left ranges a turn))
-units_left ranges a turn t place e = ap (λ (l : List ℕ). owners_of ranges l) (places_behind ranges a turn t place e) ∙ (turn_taken ranges a turn t).left
+pub units_left : (ranges : List (Owned Span)) (a : ℕ) (left : Left) (t : IsLeft ranges a left) (place : Option ℕ) → place ≡ slice_get (places_left ranges a left) 0 → owners_of ranges (places_left ranges a (left_behind place)) ≡ drop 1 (owners_of ranges (places_left ranges a left))
+units_left ranges a left t place e = ap (λ (l : List ℕ). owners_of ranges l) (places_behind ranges a left t place e) ∙ (turn_taken ranges a left t).left
 
 -- ---- what a call leaves
 
-not_first : (place : Option ℕ) → is_first (turn_of place) ≡ false
+not_first : (place : Option ℕ) → are_all (left_behind place) ≡ false
 not_first None = refl
 not_first (Some p) = refl
 
 abbrev pub seen : OwnedRanges → ℕ → List ℕ → Bool → Announcing
 seen ranges a left fresh = record { announced = ranges; address = a; left = left; fresh = fresh }
 
-pub seen_behind : (r : OwnedRanges) (a : ℕ) (turn : Turn) (t : IsTurn r.ranges a turn) (place : Option ℕ) → place ≡ slice_get (places_left r.ranges a turn) 0 → seen r a (owners_of r.ranges (places_left r.ranges a (turn_of place))) (is_first (turn_of place)) ≡ seen r a (drop 1 (owners_of r.ranges (places_left r.ranges a turn))) false
-seen_behind r a turn t place e =
-    ap (λ (l : List ℕ). seen r a l (is_first (turn_of place))) (units_left r.ranges a turn t place e)
-    ∙ ap (λ (b : Bool). seen r a (drop 1 (owners_of r.ranges (places_left r.ranges a turn))) b) (not_first place)
+pub seen_behind : (r : OwnedRanges) (a : ℕ) (left : Left) (t : IsLeft r.ranges a left) (place : Option ℕ) → place ≡ slice_get (places_left r.ranges a left) 0 → seen r a (owners_of r.ranges (places_left r.ranges a (left_behind place))) (are_all (left_behind place)) ≡ seen r a (drop 1 (owners_of r.ranges (places_left r.ranges a left))) false
+seen_behind r a left t place e =
+    ap (λ (l : List ℕ). seen r a l (are_all (left_behind place))) (units_left r.ranges a left t place e)
+    ∙ ap (λ (b : Bool). seen r a (drop 1 (owners_of r.ranges (places_left r.ranges a left))) b) (not_first place)
+
+-- ---- by what is kept
+
+left_after : (a : Announced) (at : Option Place) (o : Option ℕ) → option_map (full_place (announced_copies a)) at ≡ o → left_at a (turn_behind at) ≡ left_behind o
+left_after a None o e = ap left_behind e
+left_after a (Some at) o e = ap left_behind e
+
+owner_told : (list : List Copy) (q : ℕ) (c : Copy) → slice_get list q ≡ Some c → owner_at (told list) q ≡ Some c.unit
+owner_told [] q c e = absurd cc
+owner_told (d ∷ list) zero c e = let same : d ≡ c = cc in ap (λ (x : Copy). Some x.unit) same
+owner_told (d ∷ list) (suc q) c e = owner_told list q c e
+
+placed_unit : (a : Announced) (addr : ℕ) (at : Place) → IsPlaced a.kept.ranges a.keepers addr at → owner_at (announced_all a).ranges (full_place (announced_copies a) at) ≡ Some at.unit
+placed_unit a addr at w =
+    let are = are_copies a.kept.ranges a.keepers in
+    let there = are.there at.unit w.keeper at.place w.span w.row w.is in
+    let place = copy_place a.kept.ranges a.keepers (announced_copies a) there.at (record { unit = at.unit; place = at.place; span = w.span }) are there.is in
+    owner_told (announced_copies a) (full_place (announced_copies a) at) (record { unit = at.unit; place = at.place; span = w.span }) (subst (λ (n : ℕ). slice_get (announced_copies a) n ≡ Some (record { unit = at.unit; place = at.place; span = w.span })) (sym place) there.is)
+
+unit_by : (a : Announced) (addr : ℕ) (at : Option Place) (o : Option ℕ) → StandsFor a addr at o → unit_at at ≡ owner_of (announced_all a).ranges o
+unit_by a addr None o s = ap (owner_of (announced_all a).ranges) s.is
+unit_by a addr (Some at) o s = sym (placed_unit a addr at s.placed) ∙ ap (owner_of (announced_all a).ranges) s.is
+
+placed_turn : (a : Announced) (addr : ℕ) (at : Option Place) → IfSome at (IsPlaced a.kept.ranges a.keepers addr) → IsPlacedTurn a addr (turn_behind at)
+placed_turn a addr None p = tt
+placed_turn a addr (Some at) p = p
+
+module _ (a : Announced) (addr : ℕ) (turn : Turn) (t : IsTurn a addr turn) (at : Option Place) where
+  abbrev next_left : Option ℕ
+  next_left = slice_get (places_left (announced_all a).ranges addr (left_at a turn)) 0
+
+  pub turn_at_kept : StandsFor a addr at next_left → IsTurn a addr (turn_behind at)
+  turn_at_kept s = record {
+    left = subst (IsLeft (announced_all a).ranges addr) (sym (left_after a at next_left s.is)) (turn_kept (announced_all a).ranges addr (left_at a turn) t.left next_left refl);
+    placed = placed_turn a addr at s.placed;
+  }
+
+  pub unit_is : StandsFor a addr at next_left → unit_at at ≡ slice_get (owners_of (announced_all a).ranges (places_left (announced_all a).ranges addr (left_at a turn))) 0
+  unit_is s = unit_by a addr at next_left s ∙ unit_next (announced_all a).ranges addr (left_at a turn) t.left next_left refl
+
+  pub turn_seen : StandsFor a addr at next_left → seen (announced_all a) addr (owners_of (announced_all a).ranges (places_left (announced_all a).ranges addr (left_at a (turn_behind at)))) (are_all (left_at a (turn_behind at))) ≡ seen (announced_all a) addr (drop 1 (owners_of (announced_all a).ranges (places_left (announced_all a).ranges addr (left_at a turn)))) false
+  turn_seen s = ap (λ (l : Left). seen (announced_all a) addr (owners_of (announced_all a).ranges (places_left (announced_all a).ranges addr l)) (are_all l)) (left_after a at next_left s.is) ∙ seen_behind (announced_all a) addr (left_at a turn) t.left next_left refl

@@ -6,6 +6,8 @@ use Rattle.blz_ranges.specs.Owned.{Owned, items_of}
 use Rattle.blz_ranges.specs.Ranges.{OwnedRanges}
 use Rattle.blz_ranges.specs.Turns.{covering}
 use Rattle.blz_units.specs.UnitTables.{UnitTable, announcing}
+use Rattle.blz_units.specs.Copies.{Announced, announced_copies, announced_all, full_place, IsPlaced}
+use Rattle.blz_units.specs.declared.announced.Place.{Place}
 use Rattle.blz_units.specs.declared.units_at.Turn.{Turn}
 use Rattle.blz_units.specs.declared.units_at.Turn.TheVariants.{First, After, Over}
 
@@ -25,21 +27,27 @@ abbrev pub behind : ℕ → List ℕ → List ℕ
 behind p [] = []
 behind p (q ∷ places) = if q == p then places else behind p places
 
+-- which of the ranges that cover an address are still to come: all, those behind the one at a place, or none
+pub data Left : Type 0 where
+  All : Left
+  Behind : ℕ → Left
+  Nothing : Left
+
 -- the places that are still to come
-abbrev pub places_left : List (Owned Span) → ℕ → Turn → List ℕ
-places_left ranges addr First = covering (items_of ranges) addr
-places_left ranges addr (After p) = behind p (covering (items_of ranges) addr)
-places_left ranges addr Over = []
+abbrev pub places_left : List (Owned Span) → ℕ → Left → List ℕ
+places_left ranges addr All = covering (items_of ranges) addr
+places_left ranges addr (Behind p) = behind p (covering (items_of ranges) addr)
+places_left ranges addr Nothing = []
 
-abbrev pub is_first : Turn → Bool
-is_first First = true
-is_first (After p) = false
-is_first Over = false
+abbrev pub are_all : Left → Bool
+are_all All = true
+are_all (Behind p) = false
+are_all Nothing = false
 
--- the turn behind a place that was found
-abbrev pub turn_of : Option ℕ → Turn
-turn_of None = Over
-turn_of (Some p) = After p
+-- what is left behind a place that was found
+abbrev pub left_behind : Option ℕ → Left
+left_behind None = Nothing
+left_behind (Some p) = Behind p
 
 -- a place among those that cover an address
 pub record IsCovering (ranges : List (Owned Span)) (addr p : ℕ) : Type 0 where
@@ -47,7 +55,32 @@ pub record IsCovering (ranges : List (Owned Span)) (addr p : ℕ) : Type 0 where
   pub at : ℕ
   pub is : slice_get (covering (items_of ranges) addr) at ≡ Some p
 
-abbrev pub IsTurn : List (Owned Span) → ℕ → Turn → Type 0
-IsTurn ranges addr First = Unit {0}
-IsTurn ranges addr (After p) = IsCovering ranges addr p
-IsTurn ranges addr Over = Unit {0}
+abbrev pub IsLeft : List (Owned Span) → ℕ → Left → Type 0
+IsLeft ranges addr All = Unit {0}
+IsLeft ranges addr (Behind p) = IsCovering ranges addr p
+IsLeft ranges addr Nothing = Unit {0}
+
+-- ---- the same by what is kept
+
+abbrev pub left_at : Announced → Turn → Left
+left_at a First = All
+left_at a (After at) = Behind (full_place (announced_copies a) at)
+left_at a Over = Nothing
+
+-- the turn behind a place that was found
+abbrev pub turn_behind : Option Place → Turn
+turn_behind None = Over
+turn_behind (Some at) = After at
+
+abbrev pub unit_at : Option Place → Option ℕ
+unit_at None = None
+unit_at (Some at) = Some at.unit
+
+abbrev pub IsPlacedTurn : Announced → ℕ → Turn → Type 0
+IsPlacedTurn a addr First = Unit {0}
+IsPlacedTurn a addr (After at) = IsPlaced a.kept.ranges a.keepers addr at
+IsPlacedTurn a addr Over = Unit {0}
+
+pub record IsTurn (a : Announced) (addr : ℕ) (turn : Turn) : Type 0 where
+  pub left : IsLeft (announced_all a).ranges addr (left_at a turn)
+  pub placed : IsPlacedTurn a addr turn

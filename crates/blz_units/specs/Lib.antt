@@ -4,6 +4,7 @@ pub mod Sets
 pub mod UnitTables
 pub mod UnitLists
 pub mod TableViews
+pub mod Copies
 pub mod Announced
 pub mod UnitAnswers
 pub mod UnitSites

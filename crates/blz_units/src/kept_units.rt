@@ -1,11 +1,12 @@
 //! The units of a file that are kept, and the ranges that they announce.
-ghost use Rattle.std.specs.Prelude.{◌≡◌, ◌≤◌, ◌++◌, ◌∷◌, [], length, IfOk};
+ghost use Rattle.std.specs.Prelude.{◌≡◌, ◌++◌, ◌∷◌, [], length, IfOk};
 ghost use Rattle.blz_model.specs.Part.{Gives};
 ghost use Rattle.blz_info.specs.Marks.{or_invalid};
 ghost use Rattle.blz_units.specs.BuiltUnits.{files_view, IsReadable};
 ghost use Rattle.blz_units.specs.KeptParts.{SideFits};
 ghost use Rattle.blz_units.specs.declared.built_units.Side.TheVariants.{File};
-ghost use Rattle.blz_ranges.specs.Owned.{owned, filled_up};
+ghost use Rattle.blz_ranges.specs.Owned.{own_all};
+ghost use Rattle.blz_units.specs.Copies.{all_kept};
 ghost use Rattle.blz_units.specs.UnitLists.{EndBefore, IsInPlace};
 ghost use Rattle.blz_units.specs.UnitTables.{with_unit, no_units, units_kept};
 
@@ -13,10 +14,10 @@ use crate::address_sets::AddressSets;
 use crate::announcing::append_announced;
 use crate::built_units::SideUnits;
 use crate::dwarf::Dwarf;
+use crate::kept_ranges::KeptRanges;
 use crate::unit_list::UnitList;
 use blz_entry::{Span, UnitHeader, UnitHeaders};
 use blz_error::Result;
-use blz_ranges::own;
 use std::alloc::{AllocError, Global};
 use std::marker::Model;
 
@@ -24,51 +25,46 @@ use std::marker::Model;
 #[derive(Drop)]
 pub struct KeptUnits {
     kept: UnitList,
-    spans: Vec<Span>,
-    owners: Vec<usize>,
+    ranges: KeptRanges,
 }
 
 impl Model for KeptUnits {
     ghost use Rattle.std.specs.Prelude.{◌≡◌, length};
-    ghost use Rattle.blz_ranges.specs.Owned.{owned};
+    ghost use Rattle.blz_units.specs.Copies.{all_kept};
     ghost use Rattle.blz_units.specs.UnitTables.{KeptUnits};
 
     ghost Value = { KeptUnits };
 
-    ghost view = { λ k. record { kept = k.kept; announced = owned k.spans.items k.owners.items } };
+    ghost view = { λ k. record { kept = k.kept; announced = all_kept k.ranges } };
 
-    ghost invariant = { λ k. length k.spans.items ≡ length k.owners.items };
+    ghost invariant = { λ k. length k.ranges.keepers ≡ length k.kept };
 }
 
-/// Keeps a unit, to which all ranges without an owner belong.
+/// Keeps a unit with what it announces.
 fn keep(
     mut kept: UnitList,
-    spans: Vec<Span>,
-    mut owners: Vec<usize>,
+    ranges: KeptRanges,
     header: UnitHeader,
+    spans: &[Span],
 ) -> std::result::Result<KeptUnits, AllocError>
     requires in_place { IsInPlace header }
     requires behind { EndBefore kept header.start }
-    requires some { length owners.items ≤ length spans.items }
-    ensures { IfOk result (λ k. k ≡ record { kept = kept ++ header ∷ []; announced = owned spans.items (filled_up owners.items (length kept) (length spans.items)) }) }
+    requires same { length ranges.keepers ≡ length kept }
+    ensures { IfOk result (λ k. k ≡ record { kept = kept ++ header ∷ []; announced = all_kept ranges ++ own_all (length kept) spans.now }) }
 {
-    own(&mut owners, kept.len(), spans.len())?;
+    let ranges = ranges.with_unit(spans)?;
     kept.push(header)?;
-    Ok(KeptUnits {
-        kept,
-        spans,
-        owners,
-    })
+    Ok(KeptUnits { kept, ranges })
 }
 
 impl KeptUnits {
+    #[tactic(auto, unfolding(crate::specs::Copies::copies))]
     fn new(alloc: Global) -> KeptUnits
         ensures { result ≡ no_units }
     {
         KeptUnits {
             kept: UnitList::new(alloc),
-            spans: Vec::new(alloc),
-            owners: Vec::new(alloc),
+            ranges: KeptRanges::new(alloc),
         }
     }
 
@@ -89,23 +85,16 @@ impl KeptUnits {
         ensures behind { IfOk result (λ k. EndBefore k.kept header.end) }
         ensures fits { IfOk result (λ k. SideFits (files_view dwarf.now) File k.kept built.new) }
     {
-        let KeptUnits {
-            kept,
-            mut spans,
-            owners,
-        } = self;
+        let KeptUnits { kept, ranges } = self;
+        let mut spans = Vec::new(alloc);
         let part = append_announced(alloc, dwarf, sets, &mut built.shared, &header, &mut spans)?;
         match part {
             Some(unit) => {
-                let units = keep(kept, spans, owners, header)?;
+                let units = keep(kept, ranges, header, spans.as_slice())?;
                 built.units.push(unit)?;
                 Ok(units)
             },
-            None => Ok(KeptUnits {
-                kept,
-                spans,
-                owners,
-            }),
+            None => Ok(KeptUnits { kept, ranges }),
         }
     }
 
@@ -129,12 +118,11 @@ impl KeptUnits {
         Ok((units, built))
     }
 
-    /// The units, the ranges that they announce, and for each range the number of its unit.
-    pub fn into_parts(self) -> (UnitList, Vec<Span>, Vec<usize>)
+    /// The units, and the ranges that they announce.
+    pub fn into_parts(self) -> (UnitList, KeptRanges)
         ensures kept { result.0 ≡ self.kept }
-        ensures announced { owned result.1.items result.2.items ≡ self.announced }
-        ensures same { length result.1.items ≡ length result.2.items }
+        ensures announced { all_kept result.1 ≡ self.announced }
     {
-        (self.kept, self.spans, self.owners)
+        (self.kept, self.ranges)
     }
 }

@@ -2,11 +2,13 @@
 #![tactic(auto)]
 
 mod address_sets;
+pub mod announced;
 mod announcing;
 pub mod built_unit;
 pub mod built_units;
 pub mod caches;
 pub mod dwarf;
+mod kept_ranges;
 mod kept_units;
 pub mod long_entries;
 pub mod look;

@@ -4,6 +4,7 @@ ghost use Rattle.blz_model.specs.Part.{Gives, Exactly};
 ghost use Rattle.blz_info.specs.Contents.{section_view};
 ghost use Rattle.blz_info.specs.Marks.{or_invalid};
 ghost use Rattle.blz_units.specs.Announced.{announced_at};
+ghost use Rattle.blz_units.specs.Copies.{all_kept, announced_all};
 ghost use Rattle.blz_units.specs.BuiltUnits.{files_view, IsReadable};
 ghost use Rattle.blz_units.specs.KeptParts.{SideFits};
 ghost use Rattle.blz_units.specs.declared.built_units.Side.TheVariants.{File};
@@ -15,23 +16,24 @@ ghost use Rattle.blz_units.specs.UnitTables.{sup_units, sups_checked, units_in, 
 ghost use Rattle.blz_info.specs.FileSections.{sections_view};
 
 use crate::address_sets::AddressSets;
+use crate::announced::Announced;
 use crate::built_units::SideUnits;
 use crate::dwarf::Dwarf;
+use crate::kept_ranges::KeptRanges;
 use crate::kept_units::KeptUnits;
 use crate::unit_list::UnitList;
 use crate::units_at::UnitsAt;
 use blz_bytes::Orders;
 use blz_entry::{Section, Sections, UnitHeaders, invalid};
 use blz_error::Result;
-use blz_ranges::OwnedRanges;
-use std::alloc::Global;
+use std::alloc::{AllocError, Global};
 
 /// The units that are kept, the ranges that they announce, each with the number of its unit, and the units of the
 /// supplementary file.
 #[derive(Drop)]
 pub struct UnitTable {
     pub kept: UnitList,
-    pub announced: OwnedRanges,
+    pub announced: Announced,
     pub sups: UnitList,
 }
 
@@ -66,6 +68,19 @@ pub fn check_sup_units(alloc: Global, sup: &Option<Sections<'_, '_>>) -> Result<
     Ok(())
 }
 
+/// What units announce, with an order of what is kept of it.
+fn with_order<O: Orders>(
+    alloc: Global,
+    orders: &mut O,
+    ranges: KeptRanges,
+) -> std::result::Result<Announced, AllocError>
+    ensures all { IfOk result (λ a. (announced_all a).ranges ≡ all_kept ranges) }
+    ensures accepted { IfOk result (λ a. IsAccepted O.pair_places (map begin_key (items_of a.kept.ranges)) a.kept.ordered) }
+{
+    let (spans, owners, keepers) = ranges.into_parts();
+    Announced::build(alloc, orders, spans, owners, keepers)
+}
+
 impl UnitTable {
     /// Reads the sets of address ranges and the headers of all units, and asks for an order of the announced ranges by
     /// their begins. InvalidDwarf exactly where a set or a header is not whole or not as it has to be, or the list of
@@ -79,13 +94,13 @@ impl UnitTable {
         requires { IsReadable dwarf.now }
         ensures table { Gives (λ r. table_view r.0) result (or_invalid (units_of (files_view dwarf.now))) }
         ensures fits { IfOk result (λ r. SideFits (files_view dwarf.now) File (table_view r.0).kept r.1) }
-        ensures accepted { IfOk result (λ r. IsAccepted O.pair_places (map begin_key (items_of r.0.announced.ranges)) r.0.announced.ordered) }
+        ensures accepted { IfOk result (λ r. IsAccepted O.pair_places (map begin_key (items_of r.0.announced.kept.ranges)) r.0.announced.kept.ordered) }
     {
         let sups = sup_units(alloc, &dwarf.sup)?;
         let sets = AddressSets::read(alloc, dwarf.main.aranges)?;
         let (units, built) = KeptUnits::read(alloc, dwarf, &sets)?;
-        let (kept, spans, owners) = units.into_parts();
-        let announced = OwnedRanges::build(alloc, orders, spans, owners)?;
+        let (kept, ranges) = units.into_parts();
+        let announced = with_order(alloc, orders, ranges)?;
         let table = UnitTable {
             kept,
             announced,
@@ -118,7 +133,7 @@ impl UnitTable {
 
     /// The units that announce an address.
     pub fn find_units(&self, addr: u64) -> UnitsAt<'_>
-        ensures { result ≡ announced_at (table_view self.now) self.now.announced.ordered addr }
+        ensures { result ≡ announced_at (table_view self.now) self.now.announced.kept.ordered addr }
     {
         UnitsAt::new(&self.announced, addr)
     }

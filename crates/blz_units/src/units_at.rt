@@ -1,15 +1,15 @@
 //! The units that announce an address.
 ghost use Rattle.std.specs.Prelude.{◌≡◌, ◌≤◌, ◌*◌, ◌^◌, ◌-◌, ◌+◌, true, false, length, drop, Option};
 ghost use Rattle.std.specs.List.{slice_get};
-ghost use Rattle.blz_units.specs.Announced.{is_first, places_left, turn_of, IsTurn};
+ghost use Rattle.blz_units.specs.Announced.{are_all, left_at, places_left, turn_behind, unit_at, IsTurn};
+ghost use Rattle.blz_units.specs.Copies.{announced_all, StandsFor};
 ghost use Rattle.blz_ranges.specs.Groups.{AreApart};
 ghost use Rattle.blz_ranges.specs.Owned.{items_of};
-ghost use Rattle.blz_ranges.specs.Ranges.{owner_of};
 ghost use Rattle.blz_ranges.specs.Turns.{covering};
 ghost use Rattle.blz_ranges.specs.Owned.{owners_of};
 
+use crate::announced::{Announced, Place};
 use blz_bytes::Steps;
-use blz_ranges::OwnedRanges;
 use std::marker::Model;
 use std::sync::ledger::Ledger;
 
@@ -19,7 +19,7 @@ enum Turn {
     /// The best one.
     First,
     /// The one after the one at a place.
-    After(usize),
+    After(Place),
     /// None.
     Over,
 }
@@ -28,25 +28,26 @@ enum Turn {
 /// first, then the earlier ones.
 #[derive(Drop)]
 pub struct UnitsAt<'u> {
-    announced: &'u OwnedRanges,
+    announced: &'u Announced,
     addr: u64,
     turn: Turn,
 }
 
 impl<'u> Model for UnitsAt<'u> {
     ghost use Rattle.std.specs.Prelude.{◌≡◌};
-    ghost use Rattle.blz_units.specs.Announced.{Announcing, places_left, is_first, IsTurn};
+    ghost use Rattle.blz_units.specs.Announced.{Announcing, are_all, left_at, places_left, IsTurn};
+    ghost use Rattle.blz_units.specs.Copies.{announced_all};
     ghost use Rattle.blz_ranges.specs.Owned.{owners_of};
 
     ghost Value = { Announcing };
 
-    ghost view = { λ u. record { announced = u.announced.now; address = u.addr; left = owners_of u.announced.now.ranges (places_left u.announced.now.ranges u.addr u.turn); fresh = is_first u.turn } };
+    ghost view = { λ u. record { announced = announced_all u.announced.now; address = u.addr; left = owners_of (announced_all u.announced.now).ranges (places_left (announced_all u.announced.now).ranges u.addr (left_at u.announced.now u.turn)); fresh = are_all (left_at u.announced.now u.turn) } };
 
-    ghost invariant = { λ u. IsTurn u.announced.now.ranges u.addr u.turn };
+    ghost invariant = { λ u. IsTurn u.announced.now u.addr u.turn };
 }
 
-fn turn_of(place: Option<usize>) -> Turn
-    ensures { result ≡ turn_of place }
+fn turn_behind(place: Option<Place>) -> Turn
+    ensures { result ≡ turn_behind place }
 {
     match place {
         Some(place) => Turn::After(place),
@@ -56,37 +57,37 @@ fn turn_of(place: Option<usize>) -> Turn
 
 /// The place of the range whose turn it is.
 fn next_place<L: Ledger>(
-    announced: &OwnedRanges,
+    announced: &Announced,
     addr: u64,
     turn: Turn,
     steps: &mut Steps<L>,
-) -> Option<usize>
-    requires { IsTurn announced.now.ranges addr turn }
-    ensures place { result ≡ slice_get (places_left announced.now.ranges addr turn) 0 }
-    ensures cost { is_first turn ≡ true → announced.now.ordered ≡ true → AreApart (items_of announced.now.ranges) → 2 ^ (steps.new - steps.old) ≤ 4 * (2 * length announced.now.ranges + 1) }
+) -> Option<Place>
+    requires { IsTurn announced.now addr turn }
+    ensures place { StandsFor announced.now addr result (slice_get (places_left (announced_all announced.now).ranges addr (left_at announced.now turn)) 0) }
+    ensures cost { are_all (left_at announced.now turn) ≡ true → announced.now.kept.ordered ≡ true → AreApart (items_of (announced_all announced.now).ranges) → 2 ^ (steps.new - steps.old) ≤ 4 * (2 * length (announced_all announced.now).ranges + 1) }
     ensures later { steps.old ≤ steps.new }
 {
     match turn {
-        Turn::First => announced.best_at(addr, steps),
-        Turn::After(place) => announced.next_below(addr, place, steps),
+        Turn::First => announced.first(addr, steps),
+        Turn::After(place) => announced.after(addr, place, steps),
         Turn::Over => None,
     }
 }
 
-/// What the range at a place belongs to.
-fn owner_of(announced: &OwnedRanges, place: Option<usize>) -> Option<usize>
-    ensures { result ≡ owner_of announced.now.ranges place }
+/// The unit of a range.
+fn unit_at(place: Option<Place>) -> Option<usize>
+    ensures { result ≡ unit_at place }
 {
     match place {
-        Some(place) => announced.owner(place),
+        Some(place) => Some(place.unit),
         None => None,
     }
 }
 
 impl<'u> UnitsAt<'u> {
     /// The units that announce an address.
-    pub fn new(announced: &'u OwnedRanges, addr: u64) -> UnitsAt<'u>
-        ensures { result ≡ record { announced = announced.now; address = addr; left = owners_of announced.now.ranges (covering (items_of announced.now.ranges) addr); fresh = true } }
+    pub fn new(announced: &'u Announced, addr: u64) -> UnitsAt<'u>
+        ensures { result ≡ record { announced = announced_all announced.now; address = addr; left = owners_of (announced_all announced.now).ranges (covering (items_of (announced_all announced.now).ranges) addr); fresh = true } }
     {
         UnitsAt {
             announced,
@@ -104,7 +105,7 @@ impl<'u> UnitsAt<'u> {
         ensures later { steps.old ≤ steps.new }
     {
         let place = next_place(self.announced, self.addr, self.turn, steps);
-        self.turn = turn_of(place);
-        owner_of(self.announced, place)
+        self.turn = turn_behind(place);
+        unit_at(place)
     }
 }

@@ -1,0 +1,210 @@
+-- What is next among the ranges that are kept stands for what is next among all.
+use Rattle.std.proofs.Common.{◌≡◌, ℕ, zero, suc, ◌+◌, ◌*◌, ◌^◌, ◌<◌, ◌≤◌, Bool, true, false, eqb, List, [], ◌∷◌, length, map, Option, Some, None, refl, sym, ap, subst, ◌∙◌, arith, inl, inr, ◌⊎◌}
+use Rattle.std.specs.Prelude.{◌&&◌, option_map}
+use Rattle.std.specs.List.{slice_get}
+use Rattle.std.proofs.lemmas.Bool.{cases_lt, and_parts, and_from, eqb-true, eq-eqb, false≢true}
+use Rattle.std.proofs.lemmas.List.{length-map}
+use Rattle.blz_ranges.specs.declared.span.Span.{Span}
+use Rattle.blz_ranges.specs.Best.{best, covers, next, IsBest}
+use Rattle.blz_ranges.specs.Groups.{AreApart}
+use Rattle.blz_ranges.specs.Owned.{Owned, items_of, owner_at}
+use Rattle.blz_ranges.proofs.BestOf.{best_is, best_is_best}
+use Rattle.blz_units.specs.declared.announced.Place.{Place}
+use Rattle.blz_units.specs.Copies.{Announced, Copy, announced_all, announced_copies, are_alike, begun, full_place, goes_on, has_next, moved, restarted, same_number, told, AreInRows, IsPlaced, StandsFor}
+use Rattle.blz_units.proofs.Copies.{are_copies, within, AreCopies}
+use Rattle.blz_units.proofs.NextCopies.{as_kept, best_none, best_some, has_item, is_at, is_next, item_at, kept_next, moved_next, moved_placed, next_is, next_placed, none_next, own_row, placed_kept, restarted_next, restarted_placed, some_is, stands_before, HasItem, IsAt, IsNext, IsNextAt}
+
+module _ (a : Announced) (rows : AreInRows a.kept.ranges a.keepers) (addr : ℕ) where
+  abbrev kept : List (Owned Span)
+  kept = a.kept.ranges
+
+  abbrev list : List Copy
+  list = announced_copies a
+
+  are : AreCopies kept a.keepers list
+  are = are_copies kept a.keepers
+
+  abbrev all : List Span
+  all = items_of (announced_all a).ranges
+
+  abbrev Stands : Option Place → Option ℕ → Type 0
+  Stands at place = StandsFor a addr at place
+
+  owner_is : (p keeper : ℕ) (s : Span) → slice_get kept p ≡ Some (record { item = s; owner = keeper }) → owner_at kept p ≡ Some keeper
+  owner_is p keeper s is = ap (option_map (λ (x : Owned Span). x.owner)) is
+
+  -- ---- the best one
+
+  first_by : (o : Option ℕ) → best (items_of kept) addr ≡ o → IsBest (λ at s. covers s addr) (items_of kept) o → Stands (begun kept o) (best all addr)
+  first_by None e b = record { is = best_is (λ at s. covers s addr) all None (best_none kept a.keepers list rows are addr e); placed = tt }
+  first_by (Some p) e b =
+      let h = has_item kept p b.span b.at in
+      rw (owner_is p h.keeper b.span h.is) (record {
+        is = best_is (λ at s. covers s addr) all (Some (full_place list (as_kept kept a.keepers list rows are addr p h.keeper))) (best_some kept a.keepers list rows are addr p b h.keeper h.is);
+        placed = placed_kept kept a.keepers list rows are addr p b h.keeper h.is;
+      })
+
+  pub first_stands : (o : Option ℕ) → o ≡ best (items_of kept) addr → Stands (begun kept o) (best all addr)
+  first_stands o e = first_by o (sym e) (subst (IsBest (λ at s. covers s addr) (items_of kept)) (sym e) (best_is_best (λ at s. covers s addr) (items_of kept)))
+
+  -- ---- the next one
+
+  module _ (at : Place) (w : IsPlaced kept a.keepers addr at) where
+    abbrev IsKeptNext : Option ℕ → Type 0
+    IsKeptNext o = IsNext (items_of kept) addr at.place w.span o
+
+    is_kept_next : (o : Option ℕ) → o ≡ next (items_of kept) addr at.place → IsKeptNext o
+    is_kept_next o e = next_is (items_of kept) addr at.place w.span o (item_at kept at.place (record { item = w.span; owner = w.keeper }) w.is) (sym e)
+
+    full_at : slice_get all (full_place list at) ≡ Some w.span
+    full_at = (is_at kept a.keepers list rows are addr at w.keeper w.span w.row w.is).full
+
+    is_full_next : (o : Option ℕ) → IsNext all addr (full_place list at) w.span o → o ≡ next all addr (full_place list at)
+    is_full_next o h = is_next all addr (full_place list at) w.span o full_at h
+
+    goes_is : (q keeper : ℕ) (t : Span) → slice_get kept q ≡ Some (record { item = t; owner = keeper }) → goes_on kept at.place (Some q) ≡ (eqb w.keeper keeper && eqb w.span.begin t.begin)
+    goes_is q keeper t is = rw (item_at kept at.place (record { item = w.span; owner = w.keeper }) w.is, item_at kept q (record { item = t; owner = keeper }) is, owner_is at.place w.keeper w.span w.is, owner_is q keeper t is) refl
+
+    moved_by : (o : Option ℕ) → IsKeptNext o → goes_on kept at.place o ≡ true → Stands (moved at o) (next all addr (full_place list at))
+    moved_by None n goes = absurd cc
+    moved_by (Some q) n goes =
+        let h = has_item kept q n.span n.at in
+        let both = and_parts _ _ (sym (goes_is q h.keeper n.span h.is) ∙ goes) in
+        let same : h.keeper ≡ w.keeper = sym (eqb-true w.keeper h.keeper both.0) in
+        let begin : n.span.begin ≡ w.span.begin = sym (eqb-true w.span.begin n.span.begin both.1) in
+        let is = subst (λ (k : ℕ). slice_get kept q ≡ Some (record { item = n.span; owner = k })) same h.is in
+        record {
+          is = is_full_next (Some (full_place list (record { first = at.first; place = q; unit = at.unit }))) (moved_next kept a.keepers list rows are addr at w q n is begin);
+          placed = moved_placed kept a.keepers list rows are addr at w q n is begin;
+        }
+
+    pub moved_stands : (o : Option ℕ) → o ≡ next (items_of kept) addr at.place → goes_on kept at.place o ≡ true → Stands (moved at o) (next all addr (full_place list at))
+    moved_stands o e goes = moved_by o (is_kept_next o e) goes
+
+    -- no range of its keeper that begins alike is next
+
+    last_by : (o : Option ℕ) → IsKeptNext o → goes_on kept at.place o ≡ false → (q : ℕ) (t : Span) → slice_get kept q ≡ Some (record { item = t; owner = w.keeper }) → covers t addr ≡ true → t.begin ≡ w.span.begin → at.place < q → ⊥
+    last_by None n goes q t is reached same lt = n q t (item_at kept q (record { item = t; owner = w.keeper }) is) reached (inr (same, lt))
+    last_by (Some r) n goes q t is reached same lt =
+        let h = has_item kept r n.span n.at in
+        let k = n.first q t (item_at kept q (record { item = t; owner = w.keeper }) is) reached (inr (same, lt)) in
+        let begin : n.span.begin ≡ w.span.begin = not_above k.below n.behind in
+        let le = k.tie (same ∙ sym begin) in
+        let lower = rows.sorted at.place r (record { item = w.span; owner = w.keeper }) (record { item = n.span; owner = h.keeper }) (behind_it begin n.behind) w.is h.is in
+        let upper = rows.sorted r q (record { item = n.span; owner = h.keeper }) (record { item = t; owner = w.keeper }) le h.is is in
+        let keeper : w.keeper ≡ h.keeper = omega arith in
+        false≢true (sym goes ∙ (goes_is r h.keeper n.span h.is ∙ and_from _ _ (eq-eqb w.keeper h.keeper keeper) (eq-eqb w.span.begin n.span.begin (sym begin))))
+      where
+        not_above : t.begin ≤ n.span.begin → (n.span.begin < w.span.begin) ⊎ ((n.span.begin ≡ w.span.begin) × (at.place < r)) → n.span.begin ≡ w.span.begin
+        not_above le (inl less) = absurd (omega arith)
+        not_above le (inr h) = h.0
+
+        behind_it : n.span.begin ≡ w.span.begin → (n.span.begin < w.span.begin) ⊎ ((n.span.begin ≡ w.span.begin) × (at.place < r)) → at.place ≤ r
+        behind_it e (inl less) = absurd (omega arith)
+        behind_it e (inr h) = let k = h.1 in omega arith
+
+    number_is : (o : Option ℕ) → same_number o (Some w.keeper) ≡ true → o ≡ Some w.keeper
+    number_is None e = absurd cc
+    number_is (Some n) e = ap (λ (k : ℕ). Some k) (eqb-true n w.keeper e)
+
+    number_not : (o : Option ℕ) → same_number o (Some w.keeper) ≡ false → o ≡ Some w.keeper → ⊥
+    number_not o e is = false≢true (sym e ∙ (ap (λ (x : Option ℕ). same_number x (Some w.keeper)) is ∙ eq-eqb w.keeper w.keeper refl))
+
+    next_number : (b : Bool) → has_next kept a.keepers at ≡ b → same_number (slice_get a.keepers (at.unit + 1)) (Some w.keeper) ≡ b
+    next_number b e = ap (same_number (slice_get a.keepers (at.unit + 1))) (sym (owner_is at.place w.keeper w.span w.is)) ∙ e
+
+    pub restarted_stands : (o : Option ℕ) → o ≡ next (items_of kept) addr at.place → goes_on kept at.place o ≡ false → has_next kept a.keepers at ≡ true → Stands (Some (restarted at)) (next all addr (full_place list at))
+    restarted_stands o e goes has =
+        let row = number_is (slice_get a.keepers (at.unit + 1)) (next_number true has) in
+        record {
+          is = is_full_next (Some (full_place list (restarted at))) (restarted_next kept a.keepers list rows are addr at w (last_by o (is_kept_next o e) goes) row);
+          placed = restarted_placed kept a.keepers list rows are addr at w row;
+        }
+
+    begun_by : (o : Option ℕ) → IsKeptNext o → goes_on kept at.place o ≡ false → (slice_get a.keepers (at.unit + 1) ≡ Some w.keeper → ⊥) → Stands (begun kept o) (next all addr (full_place list at))
+    begun_by None n goes none = record { is = is_full_next None (none_next kept a.keepers list rows are addr at w none n); placed = tt }
+    begun_by (Some q) n goes none =
+        let h = has_item kept q n.span n.at in
+        let other : h.keeper ≡ w.keeper → n.span.begin ≡ w.span.begin → ⊥ = λ same begin. false≢true (sym goes ∙ (goes_is q h.keeper n.span h.is ∙ and_from _ _ (eq-eqb w.keeper h.keeper (sym same)) (eq-eqb w.span.begin n.span.begin (sym begin)))) in
+        rw (owner_is q h.keeper n.span h.is) (record {
+          is = is_full_next (Some (full_place list (as_kept kept a.keepers list rows are addr q h.keeper))) (kept_next kept a.keepers list rows are addr at w none q h.keeper n h.is other);
+          placed = next_placed kept a.keepers list rows are addr at w q h.keeper n h.is other;
+        })
+
+    pub begun_stands : (o : Option ℕ) → o ≡ next (items_of kept) addr at.place → goes_on kept at.place o ≡ false → has_next kept a.keepers at ≡ false → Stands (begun kept o) (next all addr (full_place list at))
+    begun_stands o e goes has = begun_by o (is_kept_next o e) goes (number_not (slice_get a.keepers (at.unit + 1)) (next_number false has))
+
+-- ---- looks
+
+module _ (a : Announced) (rows : AreInRows a.kept.ranges a.keepers) where
+  abbrev ranges : List (Owned Span)
+  ranges = a.kept.ranges
+
+  abbrev copies_in : List Copy
+  copies_in = announced_copies a
+
+  abbrev all_in : List Span
+  all_in = items_of (announced_all a).ranges
+
+  -- where a range that is kept stands among all, as that of its keeper
+  abbrev own_place : ℕ → ℕ → Place
+  own_place p keeper = record { first = p; place = p; unit = keeper }
+
+  stands_at : (p keeper : ℕ) (s : Span) → slice_get ranges p ≡ Some (record { item = s; owner = keeper }) → IsAt ranges a.keepers copies_in rows (are_copies ranges a.keepers) 0 (own_place p keeper) s
+  stands_at p keeper s is = is_at ranges a.keepers copies_in rows (are_copies ranges a.keepers) 0 (own_place p keeper) keeper s (rows.ranges p (record { item = s; owner = keeper }) is) is
+
+  same_place : (p q m n : ℕ) (s t : Span) → slice_get ranges p ≡ Some (record { item = s; owner = m }) → slice_get ranges q ≡ Some (record { item = t; owner = n }) → full_place copies_in (own_place p m) ≡ full_place copies_in (own_place q n) → p ≡ q
+  same_place p q m n s t is_p is_q e =
+      let x = (stands_at p m s is_p).copy in
+      let y = (stands_at q n t is_q).copy in
+      let z = subst (λ (k : ℕ). slice_get copies_in k ≡ Some (record { unit = m; place = p; span = s })) e x in
+      let same : Some (record { unit = m; place = p; span = s }) ≡ Some (record { unit = n; place = q; span = t }) = sym z ∙ y in
+      let one = some_is (record { unit = m; place = p; span = s }) (record { unit = n; place = q; span = t }) same in
+      ap (λ (x : Copy). x.place) one
+
+  pub apart_kept : AreApart all_in → AreApart (items_of ranges)
+  apart_kept apart = record {
+    nonempty = λ p s is. let h = has_item ranges p s is in apart.nonempty (full_place copies_in (own_place p h.keeper)) s (stands_at p h.keeper s h.is).full;
+    apart = λ p q s t differ is_s is_t.
+        let g = has_item ranges p s is_s in
+        let h = has_item ranges q t is_t in
+        apart.apart (full_place copies_in (own_place p g.keeper)) (full_place copies_in (own_place q h.keeper)) s t (λ e. differ (same_place p q g.keeper h.keeper s t g.is h.is e)) (stands_at p g.keeper s g.is).full (stands_at q h.keeper t h.is).full;
+  }
+
+  there_below : (p : ℕ) (l : List (Owned Span)) → p < length l → (x : Owned Span) × (slice_get l p ≡ Some x)
+  there_below p [] lt = absurd (omega arith)
+  there_below zero (x ∷ l) lt = (x, refl)
+  there_below (suc p) (x ∷ l) lt = there_below p l (omega arith)
+
+  -- no place of a range that is kept is greater than that which it has among all
+  rises : (p : ℕ) (x : Owned Span) → slice_get ranges p ≡ Some x → p ≤ full_place copies_in (own_place p x.owner)
+  rises zero x is = omega arith
+  rises (suc p) x is =
+      let lt = within ranges (suc p) x is in
+      let y = there_below p ranges (omega arith) in
+      let le = rises p y.0 y.1 in
+      let up = rows.sorted p (suc p) y.0 x (omega arith) y.1 is in
+      let less = stands_before ranges a.keepers copies_in rows (are_copies ranges a.keepers) 0 (full_place copies_in (own_place p y.0.owner)) (full_place copies_in (own_place (suc p) x.owner)) (record { unit = y.0.owner; place = p; span = y.0.item }) (record { unit = x.owner; place = suc p; span = x.item }) (stands_at p y.0.owner y.0.item y.1).copy (stands_at (suc p) x.owner x.item is).copy (by y.0.owner x.owner up) in
+      omega arith
+    where
+      by : (m n : ℕ) → m ≤ n → (m < n) ⊎ ((m ≡ n) × (p < suc p))
+      by m n le = elim (cases_lt m n) [ inl lt ↦ inl lt | inr ge ↦ inr (omega arith, omega arith) ]
+
+  fewer : (n : ℕ) → n ≡ length ranges → n ≤ length copies_in
+  fewer zero e = omega arith
+  fewer (suc n) e =
+      let x = there_below n ranges (omega arith) in
+      let le = rises n x.0 x.1 in
+      let lt = within copies_in (full_place copies_in (own_place n x.0.owner)) (record { unit = x.0.owner; place = n; span = x.0.item }) (stands_at n x.0.owner x.0.item x.1).copy in
+      omega arith
+
+  -- a bound that was proved of the ranges that are kept
+  pub first_cost : (spans : List Span) (ordered : Bool) (cost : ℕ) → items_of ranges ≡ spans → (ordered ≡ true → AreApart spans → cost ≤ 4 * (2 * length spans + 1)) → ordered ≡ true → AreApart all_in → cost ≤ 4 * (2 * length (announced_all a).ranges + 1)
+  first_cost spans ordered cost e few is apart =
+      let k = few is (subst AreApart e (apart_kept apart)) in
+      let l = ap length e in
+      let m = length-map ranges (λ (x : Owned Span). x.item) in
+      let n = fewer (length ranges) refl in
+      let o : length (told copies_in) ≡ length copies_in = length-map copies_in (λ (c : Copy). record { item = c.span; owner = c.unit }) in
+      let t : length (announced_all a).ranges ≡ length (told copies_in) = refl in
+      omega arith
