@@ -189,6 +189,7 @@ impl<'r, 'b> Cover<'r, 'b> {
         requires { 1 ≤ count }
         ensures fault { AnswersFault result (hit_fault self.old addr count) }
         ensures change { AppliesChange result self.old self.new (added addr count) }
+        ensures later { steps.old ≤ steps.new }
     {
         if count > u64::MAX - self.total {
             return Err(CoverFault::Full(self.total));
@@ -213,6 +214,7 @@ impl<'r, 'b> Cover<'r, 'b> {
         ensures answered { OnOk result (is_answered self.now.images addr ≡ true) }
         ensures mark { IfErr result (λ e. mark_fault (answer_at self.now.images addr) ≡ Some e) }
         ensures kind { IfErr result IsMark }
+        ensures later { steps.old ≤ steps.new }
     {
         match self
             .resolver
@@ -234,6 +236,7 @@ impl<'r, 'b> Cover<'r, 'b> {
         requires { 1 ≤ count }
         ensures fault { AnswersFault result (unhit_fault self.old addr count) }
         ensures change { AppliesChange result self.old self.new (taken addr count) }
+        ensures cost { _steps.new ≡ _steps.old }
     {
         let Some(tally) = self.tallies.get_mut(&addr) else {
             return Err(CoverFault::Missing(0));

@@ -84,6 +84,7 @@ impl Functions {
     pub fn find_address<L: Ledger>(&self, addr: u64, steps: &mut Steps<L>) -> Option<usize>
         ensures best { result ≡ best (items_of self.now.ranges) addr }
         ensures cost { self.now.ordered ≡ true → AreApart (items_of self.now.ranges) → 2 ^ (steps.new - steps.old) ≤ 4 * (2 * length self.now.ranges + 1) }
+        ensures later { steps.old ≤ steps.new }
     {
         self.ranges.best_at(addr, steps)
     }

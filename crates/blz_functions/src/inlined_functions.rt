@@ -88,6 +88,7 @@ impl InlinedFunctions {
     ) -> Option<usize>
         ensures best { result ≡ at_depth self.now.ranges addr depth }
         ensures cost { self.now.ordered ≡ true → AreApartInGroups (items_of self.now.ranges) → 2 ^ (steps.new - steps.old) ≤ 4 * (2 * length self.now.ranges + 1) }
+        ensures later { steps.old ≤ steps.new }
     {
         let place = self.index.best_in(depth, addr, steps);
         self.owner(place)

@@ -1,5 +1,5 @@
 //! Questions to units of which each part is kept.
-ghost use Rattle.std.specs.Prelude.{◌≡◌, ◌<◌, ◌-◌, true, length, Option, option_map, IfOk, IfSome};
+ghost use Rattle.std.specs.Prelude.{◌≡◌, ◌<◌, ◌≤◌, ◌-◌, true, length, Option, option_map, IfOk, IfSome};
 ghost use Rattle.blz_model.specs.Part.{Exactly};
 ghost use Rattle.blz_info.specs.Marks.{or_invalid};
 ghost use Rattle.blz_line.specs.Lookups.{location_view};
@@ -33,6 +33,7 @@ fn first_function<L: Ledger>(
 ) -> Result<Option<(usize, usize)>>
     ensures value { Repeats (λ r. r) result (first_kept units.now addr announcing.old.left) }
     ensures there { IfOk result (λ r. IfSome r (λ r. is_value (functions_at units.now r.0) ≡ true)) }
+    ensures later { steps.old ≤ steps.new }
 {
     loop {
         let number = match announcing.next_unit(steps) {
@@ -55,7 +56,8 @@ fn first_location<'b, L: Ledger>(
     addr: u64,
     steps: &mut Steps<L>,
 ) -> Result<Option<Location<'b>>>
-    ensures { Repeats (λ o. option_map location_view o) result (first_kept_line texts.now units.now addr announcing.old.left) }
+    ensures value { Repeats (λ o. option_map location_view o) result (first_kept_line texts.now units.now addr announcing.old.left) }
+    ensures later { steps.old ≤ steps.new }
 {
     loop {
         let number = match announcing.next_unit(steps) {
@@ -82,6 +84,7 @@ fn function_of<L: Ledger>(
     ensures value { Repeats (λ r. r) result (first_kept units.now addr announcing.old.left) }
     ensures there { IfOk result (λ r. IfSome r (λ r. is_value (functions_at units.now r.0) ≡ true)) }
     ensures cost { FewLooks announcing.old.announced units.now result (steps.new - steps.old) }
+    ensures later { steps.old ≤ steps.new }
 {
     let number = match announcing.next_unit(steps) {
         Some(number) => number,
@@ -106,6 +109,7 @@ impl Units {
         ensures value { (f : Files) → UnitsFit f self.now → Exactly (λ r. r) result (or_invalid (function_at f (units_table self.now) addr)) }
         ensures there { IfOk result (λ r. IfSome r (λ r. functions_kept self.now r.0 ≡ true)) }
         ensures cost { LooksFew self.now result (steps.new - steps.old) }
+        ensures later { steps.old ≤ steps.new }
     {
         let mut announcing = UnitsAt::new(&self.table.announced, addr);
         function_of(self.caches.units.as_slice(), &mut announcing, addr, steps)
@@ -128,7 +132,8 @@ impl Units {
         steps: &mut Steps<L>,
     ) -> Result<Option<Location<'b>>>
         requires { units_prepared self.now ≡ true }
-        ensures { (f : Files) → UnitsFit f self.now → Exactly (λ o. option_map location_view o) result (location_at texts.now f (units_table self.now) addr) }
+        ensures value { (f : Files) → UnitsFit f self.now → Exactly (λ o. option_map location_view o) result (location_at texts.now f (units_table self.now) addr) }
+        ensures later { steps.old ≤ steps.new }
     {
         let mut announcing = UnitsAt::new(&self.table.announced, addr);
         first_location(

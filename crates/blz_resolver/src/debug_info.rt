@@ -1,5 +1,5 @@
 //! The debug information of a bundle with its units.
-ghost use Rattle.std.specs.Prelude.{◌≡◌, ◌<◌, ◌-◌, true, false, length, map, IfOk, Option, option_map};
+ghost use Rattle.std.specs.Prelude.{◌≡◌, ◌<◌, ◌≤◌, ◌-◌, true, false, length, map, IfOk, Option, option_map};
 ghost use Rattle.std.specs.FinMap as finite;
 ghost use Rattle.blz_model.specs.Part.{Gives, Exactly, all_good};
 ghost use Rattle.blz_elf.specs.AnswerView.{answer_view};
@@ -254,6 +254,7 @@ impl<'b> DebugInfo<'b> {
         requires opts { asks_inlined_fns opts.now ≡ false }
         ensures value { Exactly answer_view result (answer_of (bundle_view bundle.now) true addr opts.now) }
         ensures cost { asks_code_info opts.now ≡ false → LooksFewIn (bundle_view bundle.now) self.now.units addr (steps.new - steps.old) }
+        ensures later { steps.old ≤ steps.new }
     {
         let reader = BookReader {
             bundle: *bundle,

@@ -1,5 +1,5 @@
 //! The answer of an address from what was prepared, without memory.
-ghost use Rattle.std.specs.Prelude.{◌≡◌, ◌<◌, ◌-◌, true, false, length};
+ghost use Rattle.std.specs.Prelude.{◌≡◌, ◌<◌, ◌≤◌, ◌-◌, true, false, length};
 ghost use Rattle.std.specs.Option.{option_map};
 ghost use Rattle.blz_model.specs.Part.{Exactly};
 ghost use Rattle.blz_elf.specs.AnswerView.{answer_view, resolved_view};
@@ -63,6 +63,7 @@ impl<'b> BookReader<'_, 'b> {
         requires is_prepared { units_prepared units.now ≡ true }
         ensures value { Exactly (λ o. option_map location_view o) result (direct_site self.now.dwarf.texts (book_of self.now units.now) addr opts.now) }
         ensures cost { asks_code_info opts.now ≡ false → steps.new ≡ steps.old }
+        ensures later { steps.old ≤ steps.new }
     {
         if !opts.code_info() {
             return Ok(None);
@@ -86,6 +87,7 @@ impl<'b> BookReader<'_, 'b> {
         requires opts { asks_inlined_fns opts.now ≡ false }
         ensures value { Exactly answer_view result (function_answer self.now.dwarf.texts (book_of self.now units.now) addr opts.now at) }
         ensures cost { asks_code_info opts.now ≡ false → steps.new ≡ steps.old }
+        ensures later { steps.old ≤ steps.new }
     {
         let symbol = self.prepared_symbol(alloc, units, at)?;
         let direct = self.prepared_site(units, addr, opts, steps)?;
@@ -104,7 +106,8 @@ impl<'b> BookReader<'_, 'b> {
     ) -> Result<Answer<'b>>
         requires reads { Reads self.now units.now }
         requires is_prepared { units_prepared units.now ≡ true }
-        ensures { Exactly answer_view result (with_place self.now.dwarf.texts (book_of self.now units.now) addr opts.now (answer_view answer.entry)) }
+        ensures value { Exactly answer_view result (with_place self.now.dwarf.texts (book_of self.now units.now) addr opts.now (answer_view answer.entry)) }
+        ensures later { steps.old ≤ steps.new }
     {
         match answer {
             Answer::NoSym(reason) => Ok(Answer::NoSym(reason)),
@@ -129,7 +132,8 @@ impl<'b> BookReader<'_, 'b> {
         requires is_prepared { units_prepared units.now ≡ true }
         requires parser { IsOfDebugFile (bundle_view self.now.bundle) parser.now }
         requires symbols { parser.now.prepared ≡ true }
-        ensures { Exactly answer_view result (symbol_answer self.now.dwarf.texts (book_of self.now units.now) addr opts.now) }
+        ensures value { Exactly answer_view result (symbol_answer self.now.dwarf.texts (book_of self.now units.now) addr opts.now) }
+        ensures later { steps.old ≤ steps.new }
     {
         let answer = parser.find_sym_prepared(addr)?;
         self.prepared_place(alloc, units, addr, opts, answer, steps)
@@ -153,6 +157,7 @@ impl<'b> BookReader<'_, 'b> {
         requires opts { asks_inlined_fns opts.now ≡ false }
         ensures value { Exactly answer_view result (answer_in self.now.dwarf.texts (book_of self.now units.now) addr opts.now) }
         ensures cost { asks_code_info opts.now ≡ false → LooksFewAt (book_of self.now units.now) units.now addr (steps.new - steps.old) }
+        ensures later { steps.old ≤ steps.new }
     {
         match units.find_function_prepared(addr, steps)? {
             Some(at) => self.prepared_function(alloc, units, addr, opts, at, steps),

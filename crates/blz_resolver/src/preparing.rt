@@ -1,5 +1,5 @@
 //! Reading all of a bundle before it is asked.
-ghost use Rattle.std.specs.Prelude.{◌≡◌, ◌<◌, ◌-◌, ℕ, true, false, is_some, IfOk, IfErr};
+ghost use Rattle.std.specs.Prelude.{◌≡◌, ◌<◌, ◌≤◌, ◌-◌, ℕ, true, false, is_some, IfOk, IfErr};
 ghost use Rattle.blz_model.specs.Part.{Exactly};
 ghost use Rattle.blz_elf.specs.AnswerView.{answer_view};
 ghost use Rattle.blz_elf.specs.Asked.{asks_code_info, asks_inlined_fns};
@@ -76,6 +76,7 @@ impl<'b> ElfResolver<'b> {
         ensures value { Exactly answer_view result (answer_of self.now.images (has_debug self.now) addr opts.now) }
         ensures kinds { IfErr result (λ e. IsFormatKind e.kind) }
         ensures cost { asks_code_info opts.now ≡ false → LooksFewIf self.now.images self.now.units addr (steps.new - steps.old) }
+        ensures later { steps.old ≤ steps.new }
     {
         match &self.debug {
             Some(info) => {

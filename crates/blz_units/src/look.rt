@@ -125,6 +125,7 @@ pub fn language_of(units: &[UnitCaches], number: usize) -> Result<SrcLang>
 fn best_function<L: Ledger>(functions: &Functions, addr: u64, steps: &mut Steps<L>) -> Option<usize>
     ensures best { result ≡ best_owner functions.now.ranges addr }
     ensures cost { functions.now.ordered ≡ true → AreApart (items_of functions.now.ranges) → 2 ^ (steps.new - steps.old) ≤ 4 * (2 * length functions.now.ranges + 1) }
+    ensures later { steps.old ≤ steps.new }
 {
     match functions.find_address(addr, steps) {
         Some(place) => functions.function_of(place),
@@ -141,6 +142,7 @@ pub fn function_at<L: Ledger>(
 ) -> Result<Option<usize>>
     ensures value { Repeats (λ n. n) result (kept_best units.now addr number) }
     ensures cost { has_order (functions_at units.now number) ≡ true → AreApart (items_of (ranges_in (functions_at units.now number))) → 2 ^ (steps.new - steps.old) ≤ 4 * (2 * length (ranges_in (functions_at units.now number)) + 1) }
+    ensures later { steps.old ≤ steps.new }
 {
     match functions_of(units, number) {
         Ok(functions) => Ok(best_function(functions, addr, steps)),
