@@ -55,6 +55,9 @@ pub fn run_cover<F: Files, O: Orders, S: Sink, E: Sink>(
 
     ensures contents_stay { F.contents files.new ≡ F.contents files.old }
     ensures stamps_stay { F.stamps files.new ≡ F.stamps files.old }
+    ensures files_count { F.faults files.old ≤ F.faults files.new }
+    ensures out_count { S.faults out.old ≤ S.faults out.new }
+    ensures err_count { E.faults err.old ≤ E.faults err.new }
 {
     let made = made_of_words(alloc, words, files, orders);
     finish(&blz_cover(), made, out, err)
@@ -69,6 +72,7 @@ fn made_of_words<F: Files, O: Orders>(
     ensures made { IsMade (Finds (map string_bytes words.now) (F.contents files.old)) (Rose (F.faults files.old) (F.faults files.new)) result }
     ensures contents_stay { F.contents files.new ≡ F.contents files.old }
     ensures stamps_stay { F.stamps files.new ≡ F.stamps files.old }
+    ensures count { F.faults files.old ≤ F.faults files.new }
 {
     match words {
         [image, hits] => made_of_files(alloc, image.as_str(), hits.as_str(), files, orders),
@@ -86,6 +90,7 @@ fn made_of_files<F: Files, O: Orders>(
     ensures made { IsMade (FindsCover (F.contents files.old) (image.now, hits.now)) (Rose (F.faults files.old) (F.faults files.new)) result }
     ensures contents_stay { F.contents files.new ≡ F.contents files.old }
     ensures stamps_stay { F.stamps files.new ≡ F.stamps files.old }
+    ensures count { F.faults files.old ≤ F.faults files.new }
 {
     match ElfResolver::open(alloc, files, image) {
         Ok(bundle) => made_of_bundle(alloc, &bundle, hits, files, orders),
