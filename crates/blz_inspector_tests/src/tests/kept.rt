@@ -1,18 +1,15 @@
 //! Files that are asked again.
-use super::shown::{is_first_alone, look_up, source};
-use blz_images::{Image, nested_functions};
-use blz_inspector::Inspector;
-use blz_links::{Files, FilesFault, MemoryFiles};
+use super::shown::{is_first_alone, look_up, source, with_nested};
+use blz_images::Image;
+use blz_links::{Files, FilesFault};
 use std::test::Fail;
 
 #[test]
 fn a_file_that_stays_as_it_was_is_read_once(rt: HostRuntime) -> Result<(), Fail> {
     let alloc = rt.alloc();
-    let mut files = MemoryFiles::new(alloc);
-    files.put("a.elf", nested_functions(alloc)?)?;
+    let (mut files, mut inspector) = with_nested(alloc)?;
     files.fail_at(5, false)?;
     let symbols = source(alloc, "a.elf", false)?;
-    let mut inspector = Inspector::new(alloc);
     // two calls on the files: the stamp and the bytes
     let first = look_up(alloc, &mut inspector, &mut files, &symbols, ("A", "Z"))?;
     assert!(rt; is_first_alone(&first, 0, 100));
@@ -27,10 +24,8 @@ fn a_file_that_stays_as_it_was_is_read_once(rt: HostRuntime) -> Result<(), Fail>
 #[test]
 fn a_file_that_changed_is_opened_anew(rt: HostRuntime) -> Result<(), Fail> {
     let alloc = rt.alloc();
-    let mut files = MemoryFiles::new(alloc);
-    files.put("a.elf", nested_functions(alloc)?)?;
+    let (mut files, mut inspector) = with_nested(alloc)?;
     let symbols = source(alloc, "a.elf", false)?;
-    let mut inspector = Inspector::new(alloc);
     let before = look_up(alloc, &mut inspector, &mut files, &symbols, ("A", "Z"))?;
     assert!(rt; is_first_alone(&before, 0, 100));
     let changed = Image::elf64(alloc).symbol("Z", 0x40, 8)?.bytes()?;

@@ -1,19 +1,14 @@
 //! Files whose symbols are listed.
-use super::shown::source;
+use super::shown::{source, with_nested};
 use blz_bytes::ByStdSort;
 use blz_elf::Collect;
-use blz_images::nested_functions;
-use blz_inspector::Inspector;
-use blz_links::MemoryFiles;
 use std::test::Fail;
 
 #[test]
 fn all_symbols_are_shown_with_their_places_in_the_file(rt: HostRuntime) -> Result<(), Fail> {
     let alloc = rt.alloc();
-    let mut files = MemoryFiles::new(alloc);
-    files.put("a.elf", nested_functions(alloc)?)?;
+    let (mut files, mut inspector) = with_nested(alloc)?;
     let symbols = source(alloc, "a.elf", false)?;
-    let mut inspector = Inspector::new(alloc);
     let mut shown = Collect::new(alloc, None);
     inspector.for_each(alloc, &mut files, &mut ByStdSort, &symbols, &mut shown)?;
     // the first section is at 320 bytes, behind a header and four section headers of 64 bytes

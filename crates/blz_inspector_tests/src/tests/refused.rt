@@ -1,8 +1,8 @@
 //! Files that are refused.
-use super::shown::{look_up, refusal, source};
+use super::shown::{look_up, refusal, source, with_nested};
 use blz_bytes::ByStdSort;
 use blz_error::ErrorKind;
-use blz_images::{Image, nested_functions};
+use blz_images::Image;
 use blz_inspector::Inspector;
 use blz_links::MemoryFiles;
 use std::test::Fail;
@@ -10,10 +10,8 @@ use std::test::Fail;
 #[test]
 fn a_path_that_names_nothing_is_not_found(rt: HostRuntime) -> Result<(), Fail> {
     let alloc = rt.alloc();
-    let mut files = MemoryFiles::new(alloc);
-    files.put("a.elf", nested_functions(alloc)?)?;
+    let (mut files, mut inspector) = with_nested(alloc)?;
     let absent = source(alloc, "b.elf", false)?;
-    let mut inspector = Inspector::new(alloc);
     let outcome = look_up(alloc, &mut inspector, &mut files, &absent, ("A", "Z"));
     assert_eq!(rt; refusal(outcome), Some(ErrorKind::NotFound));
     Ok(())

@@ -1,6 +1,7 @@
 //! What was found, in the form in which tests compare it.
 use blz_bytes::ByStdSort;
 use blz_error::{ErrorKind, Result};
+use blz_images::nested_functions;
 use blz_inspector::{Elf, Found, FoundInfos, Inspector, Source};
 use blz_links::MemoryFiles;
 use std::alloc::{AllocError, Global};
@@ -13,6 +14,13 @@ pub fn source(
 ) -> std::result::Result<Source, AllocError> {
     let path = String::from_str(alloc, path)?;
     Ok(Source::from(Elf { path, debug_syms }))
+}
+
+/// Files with `a.elf`, which has A of 100 bytes at 0 and B in it, and an inspector that has read nothing.
+pub fn with_nested(alloc: Global) -> std::result::Result<(MemoryFiles, Inspector), AllocError> {
+    let mut files = MemoryFiles::new(alloc);
+    files.put("a.elf", nested_functions(alloc)?)?;
+    Ok((files, Inspector::new(alloc)))
 }
 
 /// What is found of two names.
