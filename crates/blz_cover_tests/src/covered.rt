@@ -2,12 +2,13 @@
 ghost use Rattle.std.specs.Prelude.{◌≡◌, ◌<◌, true, IfOk};
 ghost use Rattle.blz_resolver.specs.Resolver.{has_debug};
 
-use crate::one_line::{lone, one_line};
+use crate::one_line::one_line;
 use blz_bytes::{ByStdSort, Steps};
 use blz_cover::{Cover, CoverFault};
 use blz_error::ErrorKind;
 use blz_images::ByteOrder;
 use blz_resolver::ElfResolver;
+use blz_runs::lone;
 use std::alloc::Global;
 use std::marker::Brand;
 use std::sync::ledger::{Blank, Ledger};

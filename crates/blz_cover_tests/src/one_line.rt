@@ -1,7 +1,6 @@
 //! An image with one line.
 use blz_images::codes::*;
 use blz_images::{Attribute, ByteOrder, DebugInfo, DebugLine};
-use blz_resolver::Bundle;
 use std::alloc::{AllocError, Global};
 
 /// One unit of version 4 in `/p`, whose root announces [0x1000, 0x1020), with a function there. Its line program has rows of
@@ -29,15 +28,4 @@ pub fn one_line(alloc: Global, order: ByteOrder, second_file: u64) -> Result<Vec
     lines.advance(3)?;
     lines.end_sequence()?;
     entries.image(alloc, &[(".debug_line", &lines.bytes()?)])
-}
-
-/// A bundle of this image alone.
-pub fn lone(image: &[u8]) -> Bundle<'_> {
-    Bundle {
-        image,
-        module: None,
-        linkee: None,
-        supplementary: None,
-        package: None,
-    }
 }

@@ -6,6 +6,7 @@ use blz_cover::run_cover;
 use blz_images::ByteOrder;
 use blz_resolver::files::MemoryFiles;
 use blz_resolver::outside::MemorySink;
+use blz_runs::{Ended, Ran, roomy, run_with};
 use std::alloc::Global;
 use std::test::Fail;
 
@@ -13,26 +14,10 @@ const HITS: &[u8] = b"1004 3\n1016 2\n1018 5\n2000 1\n";
 
 const COUNTS: &[u8] = b"/p/a.c:2 5\nrest 6\ntotal 11\n";
 
-/// The status of a run on these words, and the line that it writes on `err`.
-#[derive(Drop)]
-struct Ended {
-    status: u8,
-    line: MemorySink,
-}
-
-fn run_on(
-    alloc: Global,
-    files: &mut MemoryFiles,
-    words: &[&str],
-    out: &mut MemorySink,
-) -> Result<Ended, Fail> {
-    let mut list = Vec::new(alloc);
-    for word in words {
-        list.push(String::from_str(alloc, word)?)?;
-    }
-    let mut line = MemorySink::with_room(alloc, 100, 7)?;
-    let status = run_cover(alloc, &list, files, &mut ByStdSort, out, &mut line);
-    Ok(Ended { status, line })
+fn run_to(alloc: Global, files: &mut MemoryFiles, words: &[&str], out: MemorySink) -> Ran {
+    run_with(alloc, words, out, |words, out, line| {
+        run_cover(alloc, words, files, &mut ByStdSort, out, line)
+    })
 }
 
 // The image `a.elf` with a file of this number at its second row, and these hits.
@@ -43,35 +28,26 @@ fn holding(alloc: Global, second_file: u64, hits: &[u8]) -> Result<MemoryFiles, 
     Ok(files)
 }
 
+// A run over these hits.
+fn run_over(alloc: Global, hits: &[u8], out: MemorySink) -> Result<Ended, Fail> {
+    let mut files = holding(alloc, 1, hits)?;
+    Ok(run_to(alloc, &mut files, &["a.elf", "hits"], out)?)
+}
+
 #[test]
 fn counts_are_printed_by_line(rt: HostRuntime) -> Result<(), Fail> {
     let alloc = rt.alloc();
-    let mut files = holding(alloc, 1, HITS)?;
-    let mut out = MemorySink::with_room(alloc, 200, 9)?;
-    let ended = run_on(alloc, &mut files, &["a.elf", "hits"], &mut out)?;
-    assert_eq!(rt; ended.status, 0);
-    assert_eq!(rt; out.bytes(), COUNTS);
-    assert_eq!(rt; ended.line.bytes(), b"".as_slice());
+    let texts: [(&[u8], &[u8]); 3] = [
+        (HITS, COUNTS),
+        (b"", b"rest 0\ntotal 0\n"),
+        // a last line may lack its line feed
+        (b"0x1004 3", b"/p/a.c:2 3\nrest 0\ntotal 3\n"),
+    ];
+    for (hits, counts) in texts {
+        let out = MemorySink::with_room(alloc, 200, 9)?;
+        assert!(rt; run_over(alloc, hits, out)?.is(0, counts, b""));
+    }
     Ok(())
-}
-
-#[test]
-fn no_hits_print_no_line(rt: HostRuntime) -> Result<(), Fail> {
-    let alloc = rt.alloc();
-    let mut files = holding(alloc, 1, b"")?;
-    let mut out = MemorySink::with_room(alloc, 200, 200)?;
-    assert_eq!(rt;
-        run_on(alloc, &mut files, &["a.elf", "hits"], &mut out)?.status,
-        0
-    );
-    assert_eq!(rt; out.bytes(), b"rest 0\ntotal 0\n".as_slice());
-    Ok(())
-}
-
-// A run over these hits.
-fn run_over(alloc: Global, hits: &[u8], out: &mut MemorySink) -> Result<Ended, Fail> {
-    let mut files = holding(alloc, 1, hits)?;
-    run_on(alloc, &mut files, &["a.elf", "hits"], out)
 }
 
 #[test]
@@ -91,45 +67,22 @@ fn a_line_of_another_form_is_refused_with_its_number(rt: HostRuntime) -> Result<
         b"0x 3",
         b"100g 3",
     ];
-    let mut out = MemorySink::with_room(alloc, 200, 200)?;
     for line in lines {
         let mut hits = Vec::new(alloc);
         hits.extend_from_slice(b"1004 3\n")?;
         hits.extend_from_slice(line)?;
         hits.extend_from_slice(b"\n1016 2\n")?;
-        let ended = run_over(alloc, &hits, &mut out)?;
-        assert_eq!(rt; ended.status, 5);
-        assert_eq!(rt;
-            ended.line.bytes(),
-            b"blz_cover: line 2: bad hit\n".as_slice()
-        );
+        let ended = run_over(alloc, &hits, roomy(alloc)?)?;
+        assert!(rt; ended.is(5, b"", b"blz_cover: line 2: bad hit\n"));
     }
-    assert_eq!(rt; out.bytes(), b"".as_slice());
-    Ok(())
-}
-
-#[test]
-fn a_last_line_may_lack_its_line_feed(rt: HostRuntime) -> Result<(), Fail> {
-    let alloc = rt.alloc();
-    let mut out = MemorySink::with_room(alloc, 200, 200)?;
-    let ended = run_over(alloc, b"0x1004 3", &mut out)?;
-    assert_eq!(rt; ended.status, 0);
-    assert_eq!(rt; out.bytes(), b"/p/a.c:2 3\nrest 0\ntotal 3\n".as_slice());
     Ok(())
 }
 
 #[test]
 fn a_total_that_is_too_large_is_refused_at_its_line(rt: HostRuntime) -> Result<(), Fail> {
-    let alloc = rt.alloc();
     let hits = b"1004 18446744073709551615\n2000 1\nx\n";
-    let mut out = MemorySink::with_room(alloc, 200, 200)?;
-    let ended = run_over(alloc, hits, &mut out)?;
-    assert_eq!(rt; ended.status, 5);
-    assert_eq!(rt;
-        ended.line.bytes(),
-        b"blz_cover: line 2: total too large\n".as_slice()
-    );
-    assert_eq!(rt; out.bytes(), b"".as_slice());
+    let ended = run_over(rt.alloc(), hits, roomy(rt.alloc())?)?;
+    assert!(rt; ended.is(5, b"", b"blz_cover: line 2: total too large\n"));
     Ok(())
 }
 
@@ -147,10 +100,8 @@ fn the_first_line_that_fails_decides(rt: HostRuntime) -> Result<(), Fail> {
     for (hits, status, line) in texts {
         // the address 0x1016 has a mark
         let mut files = holding(alloc, 9, hits)?;
-        let mut out = MemorySink::with_room(alloc, 200, 200)?;
-        let ended = run_on(alloc, &mut files, &["a.elf", "hits"], &mut out)?;
-        assert_eq!(rt; ended.status, status);
-        assert_eq!(rt; ended.line.bytes(), line);
+        let ended = run_to(alloc, &mut files, &["a.elf", "hits"], roomy(alloc)?)?;
+        assert!(rt; ended.is(status, b"", line));
     }
     Ok(())
 }
@@ -159,12 +110,10 @@ fn the_first_line_that_fails_decides(rt: HostRuntime) -> Result<(), Fail> {
 fn other_words_are_told_the_usage(rt: HostRuntime) -> Result<(), Fail> {
     let alloc = rt.alloc();
     let mut files = holding(alloc, 1, HITS)?;
-    let mut out = MemorySink::with_room(alloc, 200, 200)?;
     let words: [&[&str]; 3] = [&[], &["a.elf"], &["a.elf", "hits", "hits"]];
     for given in words {
-        let ended = run_on(alloc, &mut files, given, &mut out)?;
-        assert_eq!(rt; ended.status, 2);
-        assert_eq!(rt; ended.line.bytes(), b"usage: IMAGE HITS\n".as_slice());
+        let ended = run_to(alloc, &mut files, given, roomy(alloc)?)?;
+        assert!(rt; ended.is(2, b"", b"usage: IMAGE HITS\n"));
     }
     Ok(())
 }
@@ -173,27 +122,22 @@ fn other_words_are_told_the_usage(rt: HostRuntime) -> Result<(), Fail> {
 fn a_file_that_is_refused_is_told_by_its_kind(rt: HostRuntime) -> Result<(), Fail> {
     let alloc = rt.alloc();
     let mut files = holding(alloc, 1, HITS)?;
-    let mut out = MemorySink::with_room(alloc, 200, 200)?;
     let runs: [(&[&str], &[u8]); 3] = [
         (&["none", "hits"], b"blz_cover: entity not found\n"),
         (&["a.elf", "none"], b"blz_cover: entity not found\n"),
         (&["hits", "hits"], b"blz_cover: invalid data\n"),
     ];
     for (words, line) in runs {
-        let ended = run_on(alloc, &mut files, words, &mut out)?;
-        assert_eq!(rt; ended.status, 1);
-        assert_eq!(rt; ended.line.bytes(), line);
+        let ended = run_to(alloc, &mut files, words, roomy(alloc)?)?;
+        assert!(rt; ended.is(1, b"", line));
     }
     Ok(())
 }
 
 #[test]
 fn a_sink_that_fails_has_a_front_of_the_text(rt: HostRuntime) -> Result<(), Fail> {
-    let alloc = rt.alloc();
-    let mut out = MemorySink::with_room(alloc, 5, 200)?;
-    let ended = run_over(alloc, HITS, &mut out)?;
-    assert_eq!(rt; ended.status, 3);
-    assert_eq!(rt; out.bytes(), b"/p/a.".as_slice());
-    assert_eq!(rt; ended.line.bytes(), b"blz_cover: write failed\n".as_slice());
+    let out = MemorySink::with_room(rt.alloc(), 5, 200)?;
+    let ended = run_over(rt.alloc(), HITS, out)?;
+    assert!(rt; ended.is(3, b"/p/a.", b"blz_cover: write failed\n"));
     Ok(())
 }

@@ -2,26 +2,17 @@
 
 use blz_bytes::ByStdSort;
 use blz_error::ErrorKind;
-use blz_fold::{Names, fold, parse_stacks};
+use blz_fold::{Folded, Names, fold, parse_stacks};
 use blz_images::realistic_walk;
 use blz_model::ByteOrder;
-use blz_resolver::Bundle;
+use blz_runs::lone;
+use std::alloc::Global;
 use std::test::Fail;
 
 const RUST: &str = "_ZN3lib3run17h0123456789abcdefE";
 
 // Three stacks over two functions, of which the first has an inlined call.
 const STACKS: &[u8] = b"3 1140;1150\n2 1140;1200\n4 1140;1150\n";
-
-fn alone(image: &[u8]) -> Bundle<'_> {
-    Bundle {
-        image,
-        module: None,
-        linkee: None,
-        supplementary: None,
-        package: None,
-    }
-}
 
 fn are(names: &Names, texts: &[&str]) -> bool {
     names.len() == texts.len()
@@ -32,13 +23,18 @@ fn are(names: &Names, texts: &[&str]) -> bool {
             .all(|(name, text)| name.as_str() == *text)
 }
 
+// what is folded from the three stacks
+fn folded(alloc: Global) -> Result<Folded, Fail> {
+    let image = realistic_walk(alloc, ByteOrder::Little)?;
+    let Ok(stacks) = parse_stacks(alloc, STACKS) else {
+        return Err(Fail::from("refused"));
+    };
+    Ok(fold(alloc, &mut ByStdSort, &lone(&image), &stacks)?)
+}
+
 #[test]
 fn lines_have_the_sum_of_equal_stacks(rt: HostRuntime) -> Result<(), Fail> {
-    let image = realistic_walk(rt.alloc(), ByteOrder::Little)?;
-    let Ok(stacks) = parse_stacks(rt.alloc(), STACKS) else {
-        panic!(rt; "refused");
-    };
-    let folded = fold(rt.alloc(), &mut ByStdSort, &alone(&image), &stacks)?;
+    let folded = folded(rt.alloc())?;
     let wanted: [(&[&str], u64); 2] = [(&["main", "main", "square"], 7), (&["main", RUST], 2)];
     assert_eq!(rt; folded.lines().len(), 2);
     for (line, (names, count)) in folded.lines().iter().zip(wanted) {
@@ -50,11 +46,7 @@ fn lines_have_the_sum_of_equal_stacks(rt: HostRuntime) -> Result<(), Fail> {
 
 #[test]
 fn nodes_have_the_sum_of_stacks_that_begin_with_them(rt: HostRuntime) -> Result<(), Fail> {
-    let image = realistic_walk(rt.alloc(), ByteOrder::Little)?;
-    let Ok(stacks) = parse_stacks(rt.alloc(), STACKS) else {
-        panic!(rt; "refused");
-    };
-    let folded = fold(rt.alloc(), &mut ByStdSort, &alone(&image), &stacks)?;
+    let folded = folded(rt.alloc())?;
     let wanted: [(u64, u64, &[&str]); 4] = [
         (9, 0, &["main"]),
         (7, 0, &["main", "main"]),
@@ -75,7 +67,7 @@ fn the_first_mark_refuses_all(rt: HostRuntime) -> Result<(), Fail> {
     let Ok(stacks) = parse_stacks(rt.alloc(), b"") else {
         panic!(rt; "refused");
     };
-    match fold(rt.alloc(), &mut ByStdSort, &alone(b"short"), &stacks) {
+    match fold(rt.alloc(), &mut ByStdSort, &lone(b"short"), &stacks) {
         Ok(_) => panic!(rt; "folded"),
         Err(error) => assert_eq!(rt; error.kind(), ErrorKind::InvalidData),
     }

@@ -4,4 +4,3 @@ mod frame;
 mod fronts;
 mod opening;
 mod outside;
-mod shown;

@@ -1,10 +1,10 @@
 //! Bundles that are refused before an address is asked, with the kinds that are known by hand.
-use super::shown::{lone, refusal};
 use blz_bytes::AsTheyStand;
 use blz_elf::FindSymOpts;
 use blz_error::ErrorKind;
 use blz_images::{Image, Section, nested_functions};
 use blz_resolver::{Bundle, Companion, symbolize};
+use blz_runs::{lone, refusal};
 use std::alloc::Global;
 use std::test::Fail;
 

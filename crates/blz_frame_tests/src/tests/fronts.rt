@@ -1,11 +1,11 @@
 //! Fronts of an image of 424 bytes: a header, from 64 on four section headers, from 320 on the names of the sections, from
 //! 347 on the null symbol, A and B, and from 419 on their names.
-use super::shown::{lone, refusal};
 use blz_bytes::AsTheyStand;
 use blz_elf::FindSymOpts;
 use blz_error::ErrorKind;
 use blz_images::{nested_functions, prefix};
 use blz_resolver::symbolize;
+use blz_runs::{lone, refusal};
 use std::alloc::Global;
 use std::test::Fail;
 

@@ -1,19 +1,7 @@
 //! Images with one unit or two, whose lines are known by hand.
 use blz_images::codes::{DW_AT_COMP_DIR, DW_AT_NAME, DW_AT_STMT_LIST, DW_TAG_COMPILE_UNIT};
 use blz_images::{Attribute, ByteOrder, DebugInfo, DebugLine};
-use blz_resolver::Bundle;
 use std::alloc::{AllocError, Global};
-
-/// An image without companions.
-pub fn lone(image: &[u8]) -> Bundle<'_> {
-    Bundle {
-        image,
-        module: None,
-        linkee: None,
-        supplementary: None,
-        package: None,
-    }
-}
 
 // `a.c` in /p, with the line table at an offset
 fn add_unit(entries: &mut DebugInfo, lines_at: u32) -> Result<(), AllocError> {

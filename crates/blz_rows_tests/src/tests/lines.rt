@@ -1,9 +1,10 @@
 //! The next line that has code.
-use super::images::{lone, of_lines, one_unit, two_rows};
+use super::images::{of_lines, one_unit, two_rows};
 use blz_bytes::ByStdSort;
 use blz_error::ErrorKind;
 use blz_images::ByteOrder;
 use blz_rows::next_line;
+use blz_runs::{lone, refusal};
 use std::test::Fail;
 
 #[test]
@@ -29,9 +30,7 @@ fn a_row_whose_file_is_not_there_is_refused(rt: HostRuntime) -> Result<(), Fail>
     let alloc = rt.alloc();
     let lines = two_rows(alloc, ByteOrder::Little, 4, &[4, 9])?;
     let image = of_lines(alloc, ByteOrder::Little, 4, &lines)?;
-    match next_line(alloc, &mut ByStdSort, &lone(&image), b"a.c", 1) {
-        Ok(_) => assert!(rt; false),
-        Err(error) => assert_eq!(rt; error.kind(), ErrorKind::InvalidDwarf),
-    }
+    let next = next_line(alloc, &mut ByStdSort, &lone(&image), b"a.c", 1);
+    assert_eq!(rt; refusal(next), Some(ErrorKind::InvalidDwarf));
     Ok(())
 }

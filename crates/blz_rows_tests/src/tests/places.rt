@@ -1,9 +1,10 @@
 //! The addresses of a line.
-use super::images::{cut_short, lone, of_lines, one_unit, two_rows, two_units};
+use super::images::{cut_short, of_lines, one_unit, two_rows, two_units};
 use blz_bytes::ByStdSort;
 use blz_error::{ErrorKind, Result};
 use blz_images::{ByteOrder, DebugLine};
 use blz_rows::{Place, Places, rows_of};
+use blz_runs::{lone, refusal};
 use std::alloc::Global;
 use std::test::Fail;
 
@@ -22,13 +23,6 @@ fn places(alloc: Global, image: &[u8], file: &str, line: u32) -> Result<Places> 
         return Ok(Places::from_vec(Vec::new(alloc)));
     }
     rows_of(alloc, &mut ByStdSort, &lone(image), file.as_bytes(), line)
-}
-
-fn refusal(outcome: Result<Places>) -> Option<ErrorKind> {
-    match outcome {
-        Ok(_) => None,
-        Err(error) => Some(error.kind()),
-    }
 }
 
 #[test]

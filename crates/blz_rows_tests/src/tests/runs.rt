@@ -4,29 +4,15 @@ use blz_bytes::ByStdSort;
 use blz_resolver::files::MemoryFiles;
 use blz_resolver::outside::MemorySink;
 use blz_rows::run_rows;
+use blz_runs::{Ran, roomy, run_with};
 use std::alloc::Global;
 use std::test::Fail;
 
-/// The status of a run on some words, and the line that it writes on `err`.
-#[derive(Drop)]
-pub struct Ended {
-    pub status: u8,
-    pub line: MemorySink,
-}
-
-pub fn run_on(
-    alloc: Global,
-    files: &mut MemoryFiles,
-    words: &[&str],
-    out: &mut MemorySink,
-) -> Result<Ended, Fail> {
-    let mut list = Vec::new(alloc);
-    for word in words {
-        list.push(String::from_str(alloc, word)?)?;
-    }
-    let mut line = MemorySink::with_room(alloc, 100, 7)?;
-    let status = run_rows(alloc, &list, files, &mut ByStdSort, out, &mut line);
-    Ok(Ended { status, line })
+/// Runs on these words.
+pub fn run_to(alloc: Global, files: &mut MemoryFiles, words: &[&str], out: MemorySink) -> Ran {
+    run_with(alloc, words, out, |words, out, line| {
+        run_rows(alloc, words, files, &mut ByStdSort, out, line)
+    })
 }
 
 pub fn holding(alloc: Global, image: Vec<u8>) -> Result<MemoryFiles, Fail> {
@@ -39,14 +25,9 @@ pub fn holding(alloc: Global, image: Vec<u8>) -> Result<MemoryFiles, Fail> {
 fn the_addresses_of_a_line_are_printed(rt: HostRuntime) -> Result<(), Fail> {
     let alloc = rt.alloc();
     let mut files = holding(alloc, one_unit(alloc)?)?;
-    let mut out = MemorySink::with_room(alloc, 100, 1)?;
-    let ended = run_on(alloc, &mut files, &["a.elf", "a.c:2"], &mut out)?;
-    assert_eq!(rt; ended.status, 0);
-    assert_eq!(rt;
-        out.bytes(),
-        b"0000000000001004\n0000000000001015\n".as_slice()
-    );
-    assert_eq!(rt; ended.line.bytes(), b"".as_slice());
+    let out = MemorySink::with_room(alloc, 100, 1)?;
+    let ended = run_to(alloc, &mut files, &["a.elf", "a.c:2"], out)?;
+    assert!(rt; ended.is(0, b"0000000000001004\n0000000000001015\n", b""));
     Ok(())
 }
 
@@ -54,38 +35,29 @@ fn the_addresses_of_a_line_are_printed(rt: HostRuntime) -> Result<(), Fail> {
 fn the_next_line_is_printed_where_there_is_one(rt: HostRuntime) -> Result<(), Fail> {
     let alloc = rt.alloc();
     let mut files = holding(alloc, one_unit(alloc)?)?;
-    let mut out = MemorySink::with_room(alloc, 100, 100)?;
-    let found = run_on(alloc, &mut files, &["--next", "a.elf", "p/a.c:1"], &mut out)?;
-    assert_eq!(rt; found.status, 0);
-    let none = run_on(alloc, &mut files, &["--next", "a.elf", "a.c:3"], &mut out)?;
-    assert_eq!(rt; none.status, 0);
-    assert_eq!(rt; out.bytes(), b"2\n".as_slice());
+    for (place, text) in [("p/a.c:1", b"2\n".as_slice()), ("a.c:3", b"".as_slice())] {
+        let words = ["--next", "a.elf", place];
+        assert!(rt; run_to(alloc, &mut files, &words, roomy(alloc)?)?.is(0, text, b""));
+    }
     Ok(())
 }
 
 #[test]
 fn broken_lines_are_told_by_their_kind(rt: HostRuntime) -> Result<(), Fail> {
     let alloc = rt.alloc();
-    let mut files = holding(alloc, two_units(alloc, &cut_short(alloc)?)?)?;
-    let mut out = MemorySink::with_room(alloc, 100, 100)?;
-    let ended = run_on(alloc, &mut files, &["a.elf", "a.c:2"], &mut out)?;
-    assert_eq!(rt; ended.status, 1);
-    assert_eq!(rt;
-        ended.line.bytes(),
-        b"blz_rows: DWARF data invalid\n".as_slice()
-    );
-    assert_eq!(rt; out.bytes(), b"".as_slice());
+    let image = two_units(alloc, &cut_short(alloc)?)?;
+    let words = ["a.elf", "a.c:2"];
+    let ended = run_to(alloc, &mut holding(alloc, image)?, &words, roomy(alloc)?)?;
+    assert!(rt; ended.is(1, b"", b"blz_rows: DWARF data invalid\n"));
     Ok(())
 }
 
 #[test]
 fn a_sink_that_fails_has_a_front_of_the_text(rt: HostRuntime) -> Result<(), Fail> {
     let alloc = rt.alloc();
-    let mut files = holding(alloc, one_unit(alloc)?)?;
-    let mut small = MemorySink::with_room(alloc, 5, 100)?;
-    let ended = run_on(alloc, &mut files, &["a.elf", "a.c:2"], &mut small)?;
-    assert_eq!(rt; ended.status, 3);
-    assert_eq!(rt; small.bytes(), b"00000".as_slice());
-    assert_eq!(rt; ended.line.bytes(), b"blz_rows: write failed\n".as_slice());
+    let small = MemorySink::with_room(alloc, 5, 100)?;
+    let words = ["a.elf", "a.c:2"];
+    let ended = run_to(alloc, &mut holding(alloc, one_unit(alloc)?)?, &words, small)?;
+    assert!(rt; ended.is(3, b"00000", b"blz_rows: write failed\n"));
     Ok(())
 }

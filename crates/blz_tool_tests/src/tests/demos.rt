@@ -1,5 +1,5 @@
 //! The demo, its image and its four lines.
-use crate::tests::runs::{run_on, written};
+use crate::tests::runs::{run_to, written};
 use blz_resolver::files::MemoryFiles;
 use blz_resolver::outside::MemorySink;
 use blz_tool::demo_image;
@@ -39,14 +39,9 @@ fn the_demo_counts_its_functions_and_lines(rt: HostRuntime) -> Result<(), Fail> 
 #[test]
 fn a_sink_that_fails_has_a_front_of_the_four_lines(rt: HostRuntime) -> Result<(), Fail> {
     let alloc = rt.alloc();
-    let mut out = MemorySink::with_room(alloc, 15, 4)?;
-    let ended = run_on(
-        alloc,
-        &mut MemoryFiles::new(alloc),
-        &["--demo", "2"],
-        &mut out,
-    )?;
-    assert_eq!(rt; ended.status, 3);
-    assert_eq!(rt; out.bytes(), b"functions 2\nadd".as_slice());
+    let out = MemorySink::with_room(alloc, 15, 4)?;
+    let mut files = MemoryFiles::new(alloc);
+    let ended = run_to(alloc, &mut files, &["--demo", "2"], out)?;
+    assert!(rt; ended.is(3, b"functions 2\nadd", b"blz_tool: write failed\n"));
     Ok(())
 }

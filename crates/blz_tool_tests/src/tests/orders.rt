@@ -5,77 +5,54 @@ use crate::tests::images::{TEXT, WORDS};
 use crate::tests::runs::{holding, run_by};
 use blz_bytes::{Key, NameSpan, Orders};
 use blz_images::{ByteOrder, realistic_walk};
-use blz_resolver::outside::MemorySink;
-use std::alloc::Global;
+use blz_runs::roomy;
 use std::test::Fail;
 
-/// Puts the greatest place everywhere.
+/// Turns round what stands there, or puts the greatest place everywhere.
 #[derive(Drop)]
-struct Greatest;
+struct Lying {
+    turns: bool,
+}
 
-impl Orders for Greatest {
+impl Lying {
+    fn place(&self, places: &mut [usize]) {
+        if self.turns {
+            places.reverse();
+        } else {
+            places.fill(usize::MAX);
+        }
+    }
+}
+
+impl Orders for Lying {
     ghost pair_places = { None };
 
     ghost name_places = { None };
 
     fn by_pair(&mut self, _keys: &[Key], places: &mut [usize]) {
-        places.fill(usize::MAX);
+        self.place(places);
     }
 
     fn by_name(&mut self, _strs: &[u8], _names: &[NameSpan], places: &mut [usize]) {
-        places.fill(usize::MAX);
-    }
-}
-
-/// Turns round what stands there.
-#[derive(Drop)]
-struct Reversing;
-
-impl Orders for Reversing {
-    ghost pair_places = { None };
-
-    ghost name_places = { None };
-
-    fn by_pair(&mut self, _keys: &[Key], places: &mut [usize]) {
-        places.reverse();
-    }
-
-    fn by_name(&mut self, _strs: &[u8], _names: &[NameSpan], places: &mut [usize]) {
-        places.reverse();
-    }
-}
-
-// what a run with these orders writes, where its status is 0
-fn written_by<O: Orders>(
-    alloc: Global,
-    orders: &mut O,
-    order: ByteOrder,
-) -> Result<Option<MemorySink>, Fail> {
-    let mut files = holding(alloc, "prog", realistic_walk(alloc, order)?)?;
-    let mut out = MemorySink::with_room(alloc, 1000, 100)?;
-    let ended = run_by(alloc, &mut files, orders, &WORDS, &mut out)?;
-    match ended.status {
-        0 => Ok(Some(out)),
-        _ => Ok(None),
+        self.place(places);
     }
 }
 
 #[test]
-fn places_outside_of_the_list_change_no_text(rt: HostRuntime) -> Result<(), Fail> {
+fn places_reversed_or_outside_of_the_list_change_no_text(rt: HostRuntime) -> Result<(), Fail> {
     let alloc = rt.alloc();
     for order in [ByteOrder::Little, ByteOrder::Big] {
-        let out = written_by(alloc, &mut Greatest, order)?;
-        assert!(rt; out.is_some_and(|text| text.bytes() == TEXT.as_bytes()));
-    }
-    Ok(())
-}
-
-#[test]
-fn reversed_places_change_no_text(rt: HostRuntime) -> Result<(), Fail> {
-    let alloc = rt.alloc();
-    for order in [ByteOrder::Little, ByteOrder::Big] {
-        let out = written_by(alloc, &mut Reversing, order)?;
-        assert!(rt; out.is_some_and(|text| text.bytes() == TEXT.as_bytes()));
+        let mut files = holding(alloc, "prog", realistic_walk(alloc, order)?)?;
+        for turns in [false, true] {
+            let ended = run_by(
+                alloc,
+                &mut files,
+                &mut Lying { turns },
+                &WORDS,
+                roomy(alloc)?,
+            )?;
+            assert!(rt; ended.is(0, TEXT.as_bytes(), b""));
+        }
     }
     Ok(())
 }

@@ -3,31 +3,12 @@ use blz_bytes::{ByStdSort, Orders};
 use blz_images::nested_functions;
 use blz_resolver::files::MemoryFiles;
 use blz_resolver::outside::MemorySink;
+use blz_runs::{Ran, roomy, run_with};
 use blz_tool::run;
 use std::alloc::{AllocError, Global};
 
-/// The status of a run, and the line that it writes on `err`.
-#[derive(Drop)]
-pub struct Ended {
-    pub status: u8,
-    pub line: MemorySink,
-}
-
-fn texts(alloc: Global, words: &[&str]) -> Result<Vec<String>, AllocError> {
-    let mut list = Vec::with_capacity(alloc, words.len())?;
-    for word in words {
-        list.push(String::from_str(alloc, word)?)?;
-    }
-    Ok(list)
-}
-
 /// Runs on these words.
-pub fn run_on(
-    alloc: Global,
-    files: &mut MemoryFiles,
-    words: &[&str],
-    out: &mut MemorySink,
-) -> Result<Ended, AllocError> {
+pub fn run_to(alloc: Global, files: &mut MemoryFiles, words: &[&str], out: MemorySink) -> Ran {
     run_by(alloc, files, &mut ByStdSort, words, out)
 }
 
@@ -37,12 +18,11 @@ pub fn run_by<O: Orders>(
     files: &mut MemoryFiles,
     orders: &mut O,
     words: &[&str],
-    out: &mut MemorySink,
-) -> Result<Ended, AllocError> {
-    let mut line = MemorySink::with_room(alloc, 100, 7)?;
-    let words = texts(alloc, words)?;
-    let status = run(alloc, &words, files, orders, out, &mut line);
-    Ok(Ended { status, line })
+    out: MemorySink,
+) -> Ran {
+    run_with(alloc, words, out, |words, out, line| {
+        run(alloc, words, files, orders, out, line)
+    })
 }
 
 /// Files that hold one image.
@@ -63,10 +43,9 @@ pub fn written(
     files: &mut MemoryFiles,
     words: &[&str],
 ) -> Result<MemorySink, AllocError> {
-    let mut out = MemorySink::with_room(alloc, 1000, 100)?;
-    let ended = run_on(alloc, files, words, &mut out)?;
+    let ended = run_to(alloc, files, words, roomy(alloc)?)?;
     match ended.status {
-        0 => Ok(out),
+        0 => Ok(ended.out),
         _ => Ok(ended.line),
     }
 }

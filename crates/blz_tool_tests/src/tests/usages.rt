@@ -1,15 +1,23 @@
 //! Words that are not of their form.
-use crate::tests::runs::{nested, run_on, written};
-use blz_resolver::outside::MemorySink;
+use crate::tests::runs::{nested, run_to, written};
+use blz_runs::roomy;
+use std::alloc::Global;
+use std::process::Abort;
 use std::test::Fail;
 
 const USAGE: &[u8] = b"usage: blz_tool [--basic | --lines] [--debug-dirs A:B] PATH ADDR..\n";
 
+// each list of words is told the usage
+fn assert_usage(rt: &impl Abort, alloc: Global, lists: &[&[&str]]) -> Result<(), Fail> {
+    let mut files = nested(alloc)?;
+    for words in lists {
+        assert!(rt; run_to(alloc, &mut files, words, roomy(alloc)?)?.is(2, b"", USAGE));
+    }
+    Ok(())
+}
+
 #[test]
 fn a_word_that_is_no_address_is_told_the_usage(rt: HostRuntime) -> Result<(), Fail> {
-    let alloc = rt.alloc();
-    let mut files = nested(alloc)?;
-    let mut out = MemorySink::with_room(alloc, 100, 100)?;
     for word in [
         "",
         "0x",
@@ -19,32 +27,21 @@ fn a_word_that_is_no_address_is_told_the_usage(rt: HostRuntime) -> Result<(), Fa
         "0x12345678901234567",
         "+1",
     ] {
-        let ended = run_on(alloc, &mut files, &["a.elf", "f", word], &mut out)?;
-        assert_eq!(rt; ended.status, 2);
-        assert_eq!(rt; ended.line.bytes(), USAGE);
+        assert_usage(&rt, rt.alloc(), &[&["a.elf", "f", word]])?;
     }
-    assert_eq!(rt; out.bytes(), b"".as_slice());
     Ok(())
 }
 
 #[test]
 fn a_number_of_functions_that_is_none_is_told_the_usage(rt: HostRuntime) -> Result<(), Fail> {
-    let alloc = rt.alloc();
-    let mut files = nested(alloc)?;
-    let mut out = MemorySink::with_room(alloc, 100, 100)?;
     for word in ["0", "100001", "01", "", "x", "5x", "18446744073709551617"] {
-        let ended = run_on(alloc, &mut files, &["--demo", word], &mut out)?;
-        assert_eq!(rt; ended.status, 2);
-        assert_eq!(rt; ended.line.bytes(), USAGE);
+        assert_usage(&rt, rt.alloc(), &[&["--demo", word]])?;
     }
-    assert_eq!(rt; out.bytes(), b"".as_slice());
     Ok(())
 }
 
 #[test]
 fn a_word_beside_the_demo_is_told_the_usage(rt: HostRuntime) -> Result<(), Fail> {
-    let alloc = rt.alloc();
-    let mut files = nested(alloc)?;
     let lists = [
         ["--demo", "5", "a.elf"].as_slice(),
         ["--demo", "5", "--basic"].as_slice(),
@@ -52,17 +49,13 @@ fn a_word_beside_the_demo_is_told_the_usage(rt: HostRuntime) -> Result<(), Fail>
         ["--demo", "5", "--debug-dirs", "/d"].as_slice(),
         ["--demo", "5", "--demo", "5"].as_slice(),
     ];
-    for words in lists {
-        assert_eq!(rt; written(alloc, &mut files, words)?.bytes(), USAGE);
-    }
-    Ok(())
+    assert_usage(&rt, rt.alloc(), &lists)
 }
 
 #[test]
-fn options_that_stand_wrongly_are_told_the_usage(rt: HostRuntime) -> Result<(), Fail> {
-    let alloc = rt.alloc();
-    let mut files = nested(alloc)?;
+fn no_words_and_options_that_stand_wrongly_are_told_the_usage(rt: HostRuntime) -> Result<(), Fail> {
     let lists = [
+        [].as_slice(),
         ["--basic"].as_slice(),
         ["--basic", "--lines", "a.elf", "f"].as_slice(),
         ["--basic", "--basic", "a.elf", "f"].as_slice(),
@@ -71,22 +64,7 @@ fn options_that_stand_wrongly_are_told_the_usage(rt: HostRuntime) -> Result<(), 
         ["--help"].as_slice(),
         ["--version"].as_slice(),
     ];
-    for words in lists {
-        assert_eq!(rt; written(alloc, &mut files, words)?.bytes(), USAGE);
-    }
-    Ok(())
-}
-
-#[test]
-fn no_words_are_told_the_usage(rt: HostRuntime) -> Result<(), Fail> {
-    let alloc = rt.alloc();
-    let mut files = nested(alloc)?;
-    let mut out = MemorySink::with_room(alloc, 100, 100)?;
-    let ended = run_on(alloc, &mut files, &[], &mut out)?;
-    assert_eq!(rt; ended.status, 2);
-    assert_eq!(rt; ended.line.bytes(), USAGE);
-    assert_eq!(rt; out.bytes(), b"".as_slice());
-    Ok(())
+    assert_usage(&rt, rt.alloc(), &lists)
 }
 
 #[test]

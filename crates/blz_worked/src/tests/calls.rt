@@ -1,8 +1,9 @@
 //! Inlined calls, and the places of a function and of its calls.
-use super::shown::{Frame, frames, lone, refusal};
+use super::shown::{Frame, frames};
 use blz_error::ErrorKind;
 use blz_images::codes::*;
 use blz_images::{Attribute, ByteOrder, DebugInfo, DebugLine};
+use blz_runs::{lone, refusal};
 use std::alloc::{AllocError, Global};
 use std::test::Fail;
 
@@ -74,18 +75,22 @@ fn two_calls(
     entries.image(alloc, &[(".debug_line", &lines)])
 }
 
+// whether the image at this address has these frames
+fn has_frames(alloc: Global, image: &[u8], expected: &[Frame<'_>]) -> Result<bool, Fail> {
+    Ok(frames(alloc, &lone(image), 0x14)?.as_slice() == expected)
+}
+
 #[test]
 fn each_call_stands_where_the_next_was_made(rt: HostRuntime) -> Result<(), Fail> {
     let alloc = rt.alloc();
     for order in [ByteOrder::Little, ByteOrder::Big] {
         let image = two_calls(alloc, order, 1, (1, 11), (1, 12))?;
-        let found = frames(alloc, &lone(&image), 0x14)?;
         let expected = [
             Frame::at("function", 11),
             Frame::at("outer", 12),
             Frame::at("inner", 3),
         ];
-        assert!(rt; found.as_slice() == expected.as_slice());
+        assert!(rt; has_frames(alloc, &image, &expected)?);
     }
     Ok(())
 }
@@ -95,13 +100,12 @@ fn a_function_keeps_the_row_where_its_call_has_no_file(rt: HostRuntime) -> Resul
     let alloc = rt.alloc();
     for order in [ByteOrder::Little, ByteOrder::Big] {
         let image = two_calls(alloc, order, 1, (0, 11), (1, 12))?;
-        let found = frames(alloc, &lone(&image), 0x14)?;
         let expected = [
             Frame::at("function", 3),
             Frame::at("outer", 12),
             Frame::nowhere("inner"),
         ];
-        assert!(rt; found.as_slice() == expected.as_slice());
+        assert!(rt; has_frames(alloc, &image, &expected)?);
     }
     Ok(())
 }
@@ -110,13 +114,12 @@ fn a_function_keeps_the_row_where_its_call_has_no_file(rt: HostRuntime) -> Resul
 fn a_call_from_a_file_outside_the_table_has_no_place(rt: HostRuntime) -> Result<(), Fail> {
     let alloc = rt.alloc();
     let image = two_calls(alloc, ByteOrder::Little, 1, (1, 11), (NO_SUCH_FILE, 12))?;
-    let found = frames(alloc, &lone(&image), 0x14)?;
     let expected = [
         Frame::at("function", 11),
         Frame::nowhere("outer"),
         Frame::at("inner", 3),
     ];
-    assert!(rt; found.as_slice() == expected.as_slice());
+    assert!(rt; has_frames(alloc, &image, &expected)?);
     Ok(())
 }
 

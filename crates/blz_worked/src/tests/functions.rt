@@ -1,10 +1,11 @@
 //! Functions by their ranges.
-use super::shown::{FORMATS, lone, name_of, names};
+use super::shown::{FORMATS, name_of, names};
 use blz_bytes::ByStdSort;
 use blz_elf::{Answer, FindSymOpts, Reason};
 use blz_images::codes::*;
 use blz_images::{Attribute, ByteOrder, DebugInfo, range_pairs};
 use blz_resolver::symbolize;
+use blz_runs::lone;
 use std::alloc::{AllocError, Global};
 use std::test::Fail;
 

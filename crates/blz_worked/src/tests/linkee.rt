@@ -1,9 +1,9 @@
 //! A stripped image beside the debug file to which it links.
-use super::shown::lone;
 use blz_bytes::ByStdSort;
 use blz_elf::{Answer, FindSymOpts};
 use blz_images::{ByteOrder, DebugInfo, Image};
 use blz_resolver::{Bundle, Companion, symbolize};
+use blz_runs::lone;
 use std::alloc::{AllocError, Global};
 use std::test::Fail;
 

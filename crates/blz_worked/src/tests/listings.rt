@@ -1,11 +1,11 @@
 //! Functions by their names.
 use super::functions::nested;
-use super::shown::{lone, refusal};
 use blz_bytes::ByStdSort;
 use blz_elf::{Collect, FindAddrOpts, SymType};
 use blz_error::ErrorKind;
 use blz_images::ByteOrder;
 use blz_resolver::ElfResolver;
+use blz_runs::{lone, refusal};
 use std::test::Fail;
 
 const VARIABLES: FindAddrOpts = FindAddrOpts {
@@ -38,11 +38,7 @@ fn a_function_is_found_by_its_name(rt: HostRuntime) -> Result<(), Fail> {
     let mut resolver = ElfResolver::from_bundle(alloc, &mut ByStdSort, &lone(&image))?;
     let opts = FindAddrOpts::default();
     let infos = resolver.find_addr(alloc, &mut ByStdSort, "second", &opts)?;
-    let expected = match infos.as_slice() {
-        [info] => info.addr == 0x20 && info.size == Some(8),
-        _ => false,
-    };
-    assert!(rt; expected);
+    assert!(rt; matches!(infos.as_slice(), [info] if info.addr == 0x20 && info.size == Some(8)));
     Ok(())
 }
 
@@ -53,10 +49,6 @@ fn a_listing_ends_where_it_is_told(rt: HostRuntime) -> Result<(), Fail> {
     let mut resolver = ElfResolver::from_bundle(alloc, &mut ByStdSort, &lone(&image))?;
     let mut shown = Collect::new(alloc, Some(1));
     resolver.for_each(alloc, &mut ByStdSort, &FindAddrOpts::default(), &mut shown)?;
-    let expected = match shown.infos() {
-        [info] => info.name.as_str() == "first",
-        _ => false,
-    };
-    assert!(rt; expected);
+    assert!(rt; matches!(shown.infos(), [info] if info.name.as_str() == "first"));
     Ok(())
 }

@@ -2,9 +2,10 @@
 ghost use Rattle.std.specs.Prelude.{None};
 
 use super::functions::{nested, of_equal_begins};
-use super::shown::{lone, names_by};
+use super::shown::names_by;
 use blz_bytes::{ByStdSort, Key, NameSpan, Orders};
 use blz_images::ByteOrder;
+use blz_runs::lone;
 use std::test::Fail;
 
 /// Puts the same two places in front, whatever is asked.

@@ -1,10 +1,11 @@
 //! A unit whose functions stand in a package.
-use super::shown::{lone, names};
+use super::shown::is_named;
 use blz_bytes::ByStdSort;
 use blz_elf::{Answer, FindSymOpts, ResolvedSym, SrcLang};
 use blz_images::codes::*;
 use blz_images::{Attribute, ByteOrder, DebugInfo, DebugLine, UnitKind, package_of_unit};
 use blz_resolver::{Bundle, Companion, symbolize};
+use blz_runs::lone;
 use std::alloc::{AllocError, Global};
 use std::test::Fail;
 
@@ -86,11 +87,7 @@ fn the_package_has_the_function_and_not_its_line_and_language(rt: HostRuntime) -
         let bundle = with_package(&image, &package);
         let opts = FindSymOpts::CodeInfoAndInlined;
         let answers = symbolize(alloc, &mut ByStdSort, &bundle, &[0x14], &opts)?;
-        let expected = match answers.first() {
-            Some(Answer::Sym(found)) => is_as_expected(found),
-            _ => false,
-        };
-        assert!(rt; expected);
+        assert!(rt; matches!(answers.first(), Some(Answer::Sym(found)) if is_as_expected(found)));
     }
     Ok(())
 }
@@ -101,8 +98,14 @@ fn a_unit_that_the_package_lacks_is_read_itself(rt: HostRuntime) -> Result<(), F
     let package = package(alloc, ByteOrder::Little)?;
     for id in [8, 9] {
         let image = skeleton(alloc, ByteOrder::Little, id)?;
-        let found = names(alloc, &with_package(&image, &package), &[0x14])?;
-        assert!(rt; found.as_slice() == [Some("of the skeleton")].as_slice());
+        assert!(rt;
+            is_named(
+                alloc,
+                &with_package(&image, &package),
+                0x14,
+                "of the skeleton"
+            )?
+        );
     }
     Ok(())
 }

@@ -1,13 +1,14 @@
 //! What was read before, and kept without the image.
 ghost use Rattle.std.specs.Prelude.{◌≡◌, ◌<◌, true};
 
-use super::shown::{lone, name_of, refusal};
+use super::shown::name_of;
 use super::units::broken_second_unit;
 use blz_bytes::{ByStdSort, Steps};
 use blz_elf::FindSymOpts;
 use blz_error::ErrorKind;
 use blz_images::ByteOrder;
 use blz_resolver::ElfResolver;
+use blz_runs::{lone, refusal};
 use std::marker::Brand;
 use std::sync::ledger::{Blank, Ledger};
 use std::test::Fail;

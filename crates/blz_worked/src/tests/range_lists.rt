@@ -1,7 +1,8 @@
 //! Ranges of a unit's root that stand in a list, found by its index, in 64-bit DWARF.
-use super::shown::{lone, names, refusal};
+use super::shown::{is_named, names};
 use blz_error::ErrorKind;
 use blz_images::{ByteOrder, Class, Image, Writer};
+use blz_runs::{lone, refusal};
 use std::alloc::{AllocError, Global};
 use std::test::Fail;
 
@@ -67,8 +68,7 @@ fn a_unit_whose_list_has_an_index_outside_is_not_kept(rt: HostRuntime) -> Result
     let alloc = rt.alloc();
     for order in [ByteOrder::Little, ByteOrder::Big] {
         let image = image(alloc, order, 1)?;
-        let found = names(alloc, &lone(&image), &[0x14])?;
-        assert!(rt; found.as_slice() == [Some("A")].as_slice());
+        assert!(rt; is_named(alloc, &lone(&image), 0x14, "A")?);
     }
     Ok(())
 }

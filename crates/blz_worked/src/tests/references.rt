@@ -1,8 +1,9 @@
 //! Names that stand at other entries.
-use super::shown::{FORMATS, lone, names, refusal};
+use super::shown::{FORMATS, is_named, names};
 use blz_error::ErrorKind;
 use blz_images::codes::*;
 use blz_images::{Attribute, ByteOrder, DebugInfo};
+use blz_runs::{lone, refusal};
 use std::alloc::{AllocError, Global};
 use std::test::Fail;
 
@@ -42,11 +43,9 @@ fn a_name_is_followed_over_sixteen_entries(rt: HostRuntime) -> Result<(), Fail> 
     let alloc = rt.alloc();
     for (order, version) in FORMATS {
         let sixteen = chain(alloc, order, version, 16)?;
-        let found = names(alloc, &lone(&sixteen), &[0x12])?;
-        assert!(rt; found.as_slice() == [Some("deep")].as_slice());
+        assert!(rt; is_named(alloc, &lone(&sixteen), 0x12, "deep")?);
         let seventeen = chain(alloc, order, version, 17)?;
-        let found = names(alloc, &lone(&seventeen), &[0x12])?;
-        assert!(rt; found.as_slice() == [Some("")].as_slice());
+        assert!(rt; is_named(alloc, &lone(&seventeen), 0x12, "")?);
     }
     Ok(())
 }
@@ -77,8 +76,7 @@ fn cycle_of_two(alloc: Global) -> Result<Vec<u8>, AllocError> {
 fn a_name_in_a_circle_is_empty(rt: HostRuntime) -> Result<(), Fail> {
     let alloc = rt.alloc();
     for image in [cycle_of_one(alloc)?, cycle_of_two(alloc)?] {
-        let found = names(alloc, &lone(&image), &[0x12])?;
-        assert!(rt; found.as_slice() == [Some("")].as_slice());
+        assert!(rt; is_named(alloc, &lone(&image), 0x12, "")?);
     }
     Ok(())
 }
@@ -108,8 +106,7 @@ fn a_name_is_followed_into_another_unit(rt: HostRuntime) -> Result<(), Fail> {
         // such a reference is as wide as an address in version 2
         if version > 2 {
             let image = chain_over_units(alloc, order, version)?;
-            let found = names(alloc, &lone(&image), &[0x12])?;
-            assert!(rt; found.as_slice() == [Some("deep")].as_slice());
+            assert!(rt; is_named(alloc, &lone(&image), 0x12, "deep")?);
         }
     }
     Ok(())

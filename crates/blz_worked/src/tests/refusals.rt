@@ -1,8 +1,9 @@
 //! What is refused, whatever it would hold.
 use super::functions::nested;
-use super::shown::{FORMATS, lone, names, refusal};
+use super::shown::{FORMATS, names};
 use blz_error::ErrorKind;
 use blz_images::{Image, Section, prefix};
+use blz_runs::{lone, refusal};
 use std::test::Fail;
 
 /// SHF_COMPRESSED.

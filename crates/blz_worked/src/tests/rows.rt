@@ -1,9 +1,9 @@
 //! The lines of the units of an executable.
-use super::shown::lone;
 use blz_bytes::ByStdSort;
 use blz_images::{ByteOrder, realistic_walk};
 use blz_line::LineSequence;
 use blz_resolver::{ElfResolver, UnitRows};
+use blz_runs::lone;
 use std::test::Fail;
 
 // one sequence over [0x1200, 0x1260), with one row of line 10 and column 1

@@ -1,10 +1,11 @@
 //! Functions that name one list of ranges.
-use super::shown::{lone, names};
+use super::shown::names;
 use blz_bytes::ByStdSort;
 use blz_elf::{Collect, FindAddrOpts};
 use blz_images::codes::*;
 use blz_images::{Attribute, ByteOrder, DebugInfo};
 use blz_resolver::ElfResolver;
+use blz_runs::lone;
 use std::alloc::{AllocError, Global};
 use std::test::Fail;
 

@@ -1,7 +1,7 @@
 //! Answers in the form in which tests compare them.
 use blz_bytes::{ByStdSort, Orders};
 use blz_elf::{Answer, CodeInfo, FindSymOpts};
-use blz_error::{ErrorKind, Result};
+use blz_error::Result;
 use blz_images::ByteOrder;
 use blz_resolver::{Bundle, symbolize};
 use std::alloc::{AllocError, Global};
@@ -17,17 +17,6 @@ pub const FORMATS: [(ByteOrder, u16); 8] = [
     (ByteOrder::Big, 4),
     (ByteOrder::Big, 5),
 ];
-
-/// An image without companions.
-pub fn lone(image: &[u8]) -> Bundle<'_> {
-    Bundle {
-        image,
-        module: None,
-        linkee: None,
-        supplementary: None,
-        package: None,
-    }
-}
 
 /// The name of what was found, where something was.
 pub fn name_of<'b>(answer: &Answer<'b>) -> Option<&'b str> {
@@ -59,6 +48,11 @@ pub fn names<'b>(
     addrs: &[u64],
 ) -> Result<Vec<Option<&'b str>>> {
     names_by(alloc, &mut ByStdSort, bundle, addrs)
+}
+
+/// Whether an address has this name.
+pub fn is_named(alloc: Global, bundle: &Bundle<'_>, addr: u64, name: &str) -> Result<bool> {
+    Ok(names(alloc, bundle, &[addr])?.as_slice() == [Some(name)].as_slice())
 }
 
 /// A function of an answer, or a call that was inlined in it, with the line of its place where that is known.
@@ -115,13 +109,5 @@ pub fn frames<'b>(alloc: Global, bundle: &Bundle<'b>, addr: u64) -> Result<Vec<F
     match answers.first() {
         Some(answer) => Ok(frames_of(alloc, answer)?),
         None => Ok(Vec::new(alloc)),
-    }
-}
-
-/// The kind of a refusal.
-pub fn refusal<T: Drop>(outcome: Result<T>) -> Option<ErrorKind> {
-    match outcome {
-        Ok(_) => None,
-        Err(error) => Some(error.kind()),
     }
 }

@@ -1,9 +1,10 @@
 //! Names that stand in the supplementary file.
-use super::shown::{FORMATS, lone, names, refusal};
+use super::shown::{FORMATS, is_named, names};
 use blz_error::ErrorKind;
 use blz_images::codes::*;
 use blz_images::{Attribute, ByteOrder, DebugInfo, Image};
 use blz_resolver::{Bundle, Companion};
+use blz_runs::{lone, refusal};
 use std::alloc::{AllocError, Global};
 use std::test::Fail;
 
@@ -68,8 +69,7 @@ fn a_name_is_followed_into_the_supplementary_file(rt: HostRuntime) -> Result<(),
     for (order, version) in FORMATS {
         let shared = Shared::new(alloc, ByteOrder::Little, 4)?;
         let image = named_elsewhere(alloc, order, version, shared.named)?;
-        let found = names(alloc, &beside(&image, &shared.image), &[0x12])?;
-        assert!(rt; found.as_slice() == [Some("shared")].as_slice());
+        assert!(rt; is_named(alloc, &beside(&image, &shared.image), 0x12, "shared")?);
     }
     Ok(())
 }
@@ -80,8 +80,7 @@ fn a_name_is_followed_within_the_supplementary_file(rt: HostRuntime) -> Result<(
     for version in [3, 4, 5] {
         let shared = Shared::new(alloc, ByteOrder::Big, version)?;
         let image = named_elsewhere(alloc, ByteOrder::Little, 4, shared.leading)?;
-        let found = names(alloc, &beside(&image, &shared.image), &[0x12])?;
-        assert!(rt; found.as_slice() == [Some("deep")].as_slice());
+        assert!(rt; is_named(alloc, &beside(&image, &shared.image), 0x12, "deep")?);
     }
     Ok(())
 }
@@ -103,8 +102,7 @@ fn without_the_supplementary_file_there_is_no_name(rt: HostRuntime) -> Result<()
     let alloc = rt.alloc();
     let shared = Shared::new(alloc, ByteOrder::Little, 4)?;
     let image = named_elsewhere(alloc, ByteOrder::Little, 4, shared.named)?;
-    let found = names(alloc, &lone(&image), &[0x12])?;
-    assert!(rt; found.as_slice() == [Some("")].as_slice());
+    assert!(rt; is_named(alloc, &lone(&image), 0x12, "")?);
     Ok(())
 }
 

@@ -1,7 +1,8 @@
 //! Units that are met only where an address leads to them.
-use super::shown::{FORMATS, lone, names, refusal};
+use super::shown::{FORMATS, is_named, names};
 use blz_error::ErrorKind;
 use blz_images::{ByteOrder, DebugInfo, address_ranges};
+use blz_runs::{lone, refusal};
 use std::alloc::{AllocError, Global};
 use std::test::Fail;
 
@@ -30,8 +31,7 @@ fn a_broken_unit_is_met_by_its_own_addresses_alone(rt: HostRuntime) -> Result<()
     let alloc = rt.alloc();
     for (order, version) in FORMATS {
         let image = broken_second_unit(alloc, order, version)?;
-        let found = names(alloc, &lone(&image), &[0x12])?;
-        assert!(rt; found.as_slice() == [Some("sound")].as_slice());
+        assert!(rt; is_named(alloc, &lone(&image), 0x12, "sound")?);
         assert_eq!(rt;
             refusal(names(alloc, &lone(&image), &[0x12, 0x22])),
             Some(ErrorKind::InvalidDwarf)
