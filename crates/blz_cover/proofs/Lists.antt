@@ -57,26 +57,25 @@ fails_at p (y ∷ xs) k x none at = by (p y) refl none k at (λ i. fails_at p xs
     by false is none zero at rest = let same : y ≡ x = cc in rw (← same) is
     by false is none (suc k) at rest = rest k none at
 
--- two lists with the same answers have the same first item
+-- of two lists with the same answers both have an item that passes or neither, and their first ones stand at one place
+tests_alike : {X Y : Type 0} (p : X → Bool) (q : Y → Bool) (xs : List X) (ys : List Y) → length xs ≡ length ys
+    → ((k : ℕ) (x : X) (y : Y) → slice_get xs k ≡ Some x → slice_get ys k ≡ Some y → p x ≡ q y)
+    → (list_any p xs ≡ list_any q ys) × (position_or_len p xs ≡ position_or_len q ys)
+tests_alike p q [] [] same each = (refl, refl)
+tests_alike p q [] (y ∷ ys) same each = absurd (omega arith)
+tests_alike p q (x ∷ xs) [] same each = absurd (omega arith)
+tests_alike p q (x ∷ xs) (y ∷ ys) same each =
+    let rest = tests_alike p q xs ys (omega arith) (λ k. each (suc k)) in
+    let first = each zero x y refl refl in
+    (rw (first, rest.0) refl, rw (first, rest.1) refl)
+
 pub list_any-alike : {X Y : Type 0} (p : X → Bool) (q : Y → Bool) (xs : List X) (ys : List Y) → length xs ≡ length ys
     → ((k : ℕ) (x : X) (y : Y) → slice_get xs k ≡ Some x → slice_get ys k ≡ Some y → p x ≡ q y) → list_any p xs ≡ list_any q ys
-list_any-alike p q [] [] same each = refl
-list_any-alike p q [] (y ∷ ys) same each = absurd (omega arith)
-list_any-alike p q (x ∷ xs) [] same each = absurd (omega arith)
-list_any-alike p q (x ∷ xs) (y ∷ ys) same each =
-    let rest = list_any-alike p q xs ys (omega arith) (λ k. each (suc k)) in
-    let first = each zero x y refl refl in
-    cc
+list_any-alike p q xs ys same each = (tests_alike p q xs ys same each).0
 
 pub position_or_len-alike : {X Y : Type 0} (p : X → Bool) (q : Y → Bool) (xs : List X) (ys : List Y) → length xs ≡ length ys
     → ((k : ℕ) (x : X) (y : Y) → slice_get xs k ≡ Some x → slice_get ys k ≡ Some y → p x ≡ q y) → position_or_len p xs ≡ position_or_len q ys
-position_or_len-alike p q [] [] same each = refl
-position_or_len-alike p q [] (y ∷ ys) same each = absurd (omega arith)
-position_or_len-alike p q (x ∷ xs) [] same each = absurd (omega arith)
-position_or_len-alike p q (x ∷ xs) (y ∷ ys) same each =
-    let rest = position_or_len-alike p q xs ys (omega arith) (λ k. each (suc k)) in
-    let first = each zero x y refl refl in
-    rw (first, rest) refl
+position_or_len-alike p q xs ys same each = (tests_alike p q xs ys same each).1
 
 -- distinct items are apart
 apart_in_order : {X : Type 0} (e : X → X → Bool) (xs : List X) (j k : ℕ) (x y : X) → IsDistinct e xs → slice_get xs j ≡ Some x → slice_get xs k ≡ Some y → j < k → e x y ≡ false
