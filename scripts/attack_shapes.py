@@ -171,6 +171,22 @@ def units_of_tails_of_a_table(n):
 
 
 @shape
+def units_of_two_sizes_of_one_table_of_flags(n):
+    shapes = {ROOT: root([], 1), FUNCTION: Abbreviation(DW_TAG_VARIABLE, 0, [FLAG] * n)}
+    below = entry(shapes, ROOT) + bytes([FUNCTION]) * n + b"\0"
+    units = [unit(below), unit(below, address_size=4)]
+    sets = announced(0, [(BASE, 4)]) + announced(len(units[0]), [(BASE + 4, 4)])
+    return Attack(dwarf(shapes, b"".join(units), aranges=sets), [BASE, BASE + 4])
+
+
+@shape
+def units_of_two_sizes_of_one_table(n):
+    table = b"".join(abbreviation(k + 1, root([], 0)) for k in range(3 * n)) + b"\0"
+    units = unit(uleb(1)) + unit(uleb(1), address_size=4)
+    return Attack(dwarf(table, units * (n // 2 + 1)), [0])
+
+
+@shape
 def units_of_one_table(n):
     table = b"".join(abbreviation(k + 1, root([FLAG], 0)) for k in range(3 * n)) + b"\0"
     return Attack(dwarf(table, unit(uleb(1)) * n), [0])

@@ -89,9 +89,9 @@ def entry(shapes, code, *values):
     return data
 
 
-def unit(entries, kind=DW_UT_COMPILE, abbreviations_at=0, unit_id=None):
-    """A unit of DWARF 5 with addresses of 8 bytes."""
-    header = struct.pack("<HBBI", 5, kind, 8, abbreviations_at)
+def unit(entries, kind=DW_UT_COMPILE, abbreviations_at=0, unit_id=None, address_size=8):
+    """A unit of DWARF 5."""
+    header = struct.pack("<HBBI", 5, kind, address_size, abbreviations_at)
     return with_length(header + (b"" if unit_id is None else struct.pack("<Q", unit_id)) + entries)
 
 

@@ -1,37 +1,38 @@
 -- What units share is what stands at its offset.
-use Rattle.std.proofs.Common.{◌≡◌, ◌≢◌, ℕ, false, List, Option, Some, None, option_map, refl, subst, arith, inl, inr}
+use Rattle.std.proofs.Common.{◌≡◌, ◌≢◌, ℕ, true, false, List, Option, Some, None, option_map, refl, sym, subst, ◌∙◌, arith, inl, inr}
 use Rattle.std.specs.Prelude.{IfSome}
 use Rattle.std.specs.Arc.{arc_value}
 use Rattle.std.specs.declared.alloc.Global.{Global}
 use Rattle.std.specs.declared.sync.Arc.{Arc}
 use Rattle.std.specs.BTreeMap.{BTreeMap, get, IsEmpty, Updates}
-use Rattle.std.specs.Ordering.{nat_cmp, is_eq}
-use Rattle.std.proofs.lemmas.Bool.{cases_eq}
+use Rattle.std.specs.Ordering.{Ordering, Less, Equal, Greater, nat_cmp, is_eq, ordering_then}
+use Rattle.std.proofs.lemmas.Bool.{cases_Bool, cases_eq, false≢true}
 use Rattle.std.proofs.lemmas.Grind.{common_steps}
 use Rattle.blz_info.specs.FileSections.{FileSections}
 use Rattle.blz_info.specs.AbbreviationTables.{abbreviations}
 use Rattle.blz_info.specs.Abbrevs.{Abbrev}
+use Rattle.blz_info.specs.declared.units.UnitHeader.{UnitHeader}
 use Rattle.blz_ranges.specs.declared.span.Span.{Span}
 use Rattle.blz_units.specs.declared.shared_lines.LinesKey.{LinesKey}
 use Rattle.blz_units.specs.declared.shared_lines.ProgramSpans.{ProgramSpans}
 use Rattle.blz_units.specs.declared.shared_parts.SharedParts.{SharedParts}
 use Rattle.blz_units.specs.BuiltUnits.{line_header}
-use Rattle.blz_units.specs.Sharing.{AreShared, AreSpansAt, spans_kept, spans_told, table_kept}
+use Rattle.blz_units.specs.Sharing.{AreShared, AreSpansAt, sizes_of, spans_kept, spans_told, table_cmp, table_kept}
 
 abbrev IsProgramAt : FileSections → ℕ → ProgramSpans → Type 0
 IsProgramAt s at k = AreSpansAt s at k.key k.spans.items
 
-none_kept : {V : Type 0} (m : BTreeMap ℕ V) (at : ℕ) → IsEmpty m → get nat_cmp m at ≡ None
-none_kept m at e = rw e refl
+none_kept : {K V : Type 0} (cmp : K → K → Ordering) (m : BTreeMap K V) (key : K) → IsEmpty m → get cmp m key ≡ None
+none_kept cmp m key e = rw e refl
 
-if_empty : {V : Type 0} (m : BTreeMap ℕ V) (P : ℕ → V → Type 0) → IsEmpty m → (at : ℕ) → IfSome (get nat_cmp m at) (P at)
-if_empty m P e at = rw (none_kept m at e) tt
+if_empty : {K V : Type 0} (cmp : K → K → Ordering) (m : BTreeMap K V) (P : K → V → Type 0) → IsEmpty m → (key : K) → IfSome (get cmp m key) (P key)
+if_empty cmp m P e key = rw (none_kept cmp m key e) tt
 
 pub new_shared : (s : FileSections) (p : SharedParts) → IsEmpty p.tables → IsEmpty p.headers → IsEmpty p.spans → AreShared s p
 new_shared s p tables headers spans = record {
-  tables = if_empty p.tables (λ at table. abbreviations s.«abbrev».bytes at ≡ Some (arc_value table)) tables;
-  headers = if_empty p.headers (λ at size. line_header s at size ≡ Some tt) headers;
-  spans = if_empty p.spans (IsProgramAt s) spans;
+  tables = if_empty table_cmp p.tables (λ key table. abbreviations s.«abbrev».bytes key.1 ≡ Some (arc_value table)) tables;
+  headers = if_empty nat_cmp p.headers (λ at size. line_header s at size ≡ Some tt) headers;
+  spans = if_empty nat_cmp p.spans (IsProgramAt s) spans;
 }
 
 is_eq-apart : (x y : ℕ) → x ≢ y → is_eq (nat_cmp x y) ≡ false
@@ -49,8 +50,8 @@ told_by : {V A : Type 0} (view : V → A) (o : Option V) (P : A → Type 0) (x :
 told_by view None P x told e = absurd cc
 told_by view (Some v) P x told e = let same : view v ≡ x = cc in subst P same told
 
-pub table_told : (s : FileSections) (p : SharedParts) (at : ℕ) (table : List Abbrev) → AreShared s p → Some table ≡ table_kept p at → abbreviations s.«abbrev».bytes at ≡ Some table
-table_told s p at table shared e = told_by arc_value (get nat_cmp p.tables at) (λ t. abbreviations s.«abbrev».bytes at ≡ Some t) table (shared.tables at) e
+pub table_told : (s : FileSections) (p : SharedParts) (h : UnitHeader) (table : List Abbrev) → AreShared s p → Some table ≡ table_kept p h → abbreviations s.«abbrev».bytes h.«abbrev» ≡ Some table
+table_told s p h table shared e = told_by arc_value (get table_cmp p.tables (sizes_of h, h.«abbrev»)) (λ t. abbreviations s.«abbrev».bytes h.«abbrev» ≡ Some t) table (shared.tables (sizes_of h, h.«abbrev»)) e
 
 header_by : (s : FileSections) (at size : ℕ) (o : Option ℕ) → IfSome o (λ k. line_header s at k ≡ Some tt) → o ≡ Some size → line_header s at size ≡ Some tt
 header_by s at size None told e = absurd cc
@@ -69,9 +70,28 @@ spans_told_at s p at key spans shared e = spans_by s at (get nat_cmp p.spans at)
 
 -- ---- one part more, or none
 
+-- the second parts of keys that are the same
+same_second : (a b : ℕ × ℕ) → is_eq (table_cmp a b) ≡ true → a.1 ≡ b.1
+same_second a b e = elim (cases_eq a.1 b.1) [
+  | inl same ↦ same
+  | inr ne ↦ absurd (false≢true (sym (second_of (nat_cmp a.0 b.0) (nat_cmp a.1 b.1) (is_eq-apart a.1 b.1 ne)) ∙ e))
+]
+  where
+    second_of : (o p : Ordering) → is_eq p ≡ false → is_eq (ordering_then o p) ≡ false
+    second_of Less p e = refl
+    second_of Equal p e = e
+    second_of Greater p e = refl
+
+-- one table more of which the same holds
+more_tables : {V : Type 0} (old new : BTreeMap (ℕ × ℕ) V) (key : ℕ × ℕ) (v : V) (P : ℕ → V → Type 0) → Updates table_cmp old new key (Some v) → P key.1 v → ((k : ℕ × ℕ) → IfSome (get table_cmp old k) (P k.1)) → (k : ℕ × ℕ) → IfSome (get table_cmp new k) (P k.1)
+more_tables old new key v P u here told k = elim (cases_Bool (is_eq (table_cmp key k))) [
+  | inl same ↦ rw (u.0 k, same) (subst (λ (n : ℕ). P n v) (same_second key k same) here)
+  | inr apart ↦ rw (u.0 k, apart) (told k)
+]
+
 module _ (s : FileSections) (old new : SharedParts) where
   pub table_same : new.tables.entries ≡ old.tables.entries → new.headers ≡ old.headers → new.spans ≡ old.spans → AreShared s old → AreShared s new
-  table_same e h k shared = record { tables = λ at. rw e (shared.tables at); headers = rw h shared.headers; spans = rw k shared.spans }
+  table_same e h k shared = record { tables = λ key. rw e (shared.tables key); headers = rw h shared.headers; spans = rw k shared.spans }
 
   pub header_same : new.headers.entries ≡ old.headers.entries → new.tables ≡ old.tables → new.spans ≡ old.spans → AreShared s old → AreShared s new
   header_same e t k shared = record { tables = rw t shared.tables; headers = λ at. rw e (shared.headers at); spans = rw k shared.spans }
@@ -82,9 +102,9 @@ module _ (s : FileSections) (old new : SharedParts) where
 abbrev Table : Type 0
 Table = Arc (List Abbrev) Global
 
-pub table_more : (s : FileSections) (old new : SharedParts) (at : ℕ) (table : Table) → Updates nat_cmp old.tables new.tables at (Some table) → new.headers ≡ old.headers → new.spans ≡ old.spans → abbreviations s.«abbrev».bytes at ≡ Some (arc_value table) → AreShared s old → AreShared s new
-table_more s old new at table u h p here shared = record {
-  tables = more_kept old.tables new.tables at table (λ k t. abbreviations s.«abbrev».bytes k ≡ Some (arc_value t)) u here shared.tables;
+pub table_more : (s : FileSections) (old new : SharedParts) (key : ℕ × ℕ) (table : Table) → Updates table_cmp old.tables new.tables key (Some table) → new.headers ≡ old.headers → new.spans ≡ old.spans → abbreviations s.«abbrev».bytes key.1 ≡ Some (arc_value table) → AreShared s old → AreShared s new
+table_more s old new key table u h p here shared = record {
+  tables = more_tables old.tables new.tables key table (λ at t. abbreviations s.«abbrev».bytes at ≡ Some (arc_value t)) u here shared.tables;
   headers = rw h shared.headers;
   spans = rw p shared.spans;
 }

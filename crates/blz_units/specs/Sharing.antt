@@ -1,9 +1,9 @@
 -- What the units of some sections share: tables of abbreviations, headers of line programs and what they cover, by their
 -- offsets.
-use Rattle.std.specs.Prelude.{◌≡◌, ℕ, ◌+◌, ◌-◌, ◌/◌, ◌&&◌, nat_le, List, Option, Some, None, IfSome, option_map, if◌then◌else◌}
+use Rattle.std.specs.Prelude.{◌≡◌, ℕ, ◌+◌, ◌-◌, ◌*◌, ◌/◌, ◌&&◌, nat_le, ◌==◌, List, Option, Some, None, IfSome, option_map, unwrap_or, if◌then◌else◌}
 use Rattle.std.specs.Arc.{arc_value}
 use Rattle.std.specs.BTreeMap.{get}
-use Rattle.std.specs.Ordering.{nat_cmp}
+use Rattle.std.specs.Ordering.{Ordering, nat_cmp, ordering_then}
 use Rattle.blz_info.specs.AbbreviationTables.{abbreviations}
 use Rattle.blz_info.specs.Abbrevs.{Abbrev}
 use Rattle.blz_info.specs.FileSections.{FileSections}
@@ -18,9 +18,21 @@ use Rattle.blz_units.specs.declared.shared_parts.SharedParts.{SharedParts}
 use Rattle.blz_units.specs.BuiltUnits.{line_header}
 use Rattle.blz_units.specs.UnitTables.{sequences_of}
 
--- the table that is kept of an offset
-abbrev pub table_kept : SharedParts → ℕ → Option (List Abbrev)
-table_kept p at = option_map arc_value (get nat_cmp p.tables at)
+-- the sizes of the fields of a unit as one number
+abbrev pub sizes_of : UnitHeader → ℕ
+sizes_of h = h.version * 4 + (if h.wide then 2 else 0) + (if h.address_size == 8 then 1 else 0)
+
+-- tables stand in the order of the sizes that they are ready for, and then of their offsets
+abbrev pub table_cmp : ℕ × ℕ → ℕ × ℕ → Ordering
+table_cmp x y = ordering_then (nat_cmp x.0 y.0) (nat_cmp x.1 y.1)
+
+-- the table that is kept of a unit
+abbrev pub table_kept : SharedParts → UnitHeader → Option (List Abbrev)
+table_kept p h = option_map arc_value (get table_cmp p.tables (sizes_of h, h.«abbrev»))
+
+-- how many abbreviations are kept for units of some sizes
+abbrev pub count_kept : SharedParts → ℕ → ℕ
+count_kept p sizes = unwrap_or (get nat_cmp p.counts sizes) 0
 
 -- How many abbreviations are kept with some more of a section of so many bytes, where there is room for them.
 abbrev pub count_with : ℕ → ℕ → ℕ → Option ℕ
@@ -43,6 +55,6 @@ AreSpansAt s at key spans = (h : UnitHeader) (r : UnitRoot) → lines_key h r �
 
 -- What is kept is what stands at its offset.
 pub record AreShared (s : FileSections) (p : SharedParts) : Type 0 where
-  pub tables : (at : ℕ) → IfSome (get nat_cmp p.tables at) (λ table. abbreviations s.«abbrev».bytes at ≡ Some (arc_value table))
+  pub tables : (key : ℕ × ℕ) → IfSome (get table_cmp p.tables key) (λ table. abbreviations s.«abbrev».bytes key.1 ≡ Some (arc_value table))
   pub headers : (at : ℕ) → IfSome (get nat_cmp p.headers at) (λ size. line_header s at size ≡ Some tt)
   pub spans : (at : ℕ) → IfSome (get nat_cmp p.spans at) (λ k. AreSpansAt s at k.key k.spans.items)

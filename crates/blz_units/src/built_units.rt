@@ -1,5 +1,6 @@
 //! Units that are built, where they are kept.
 ghost use Rattle.std.specs.Prelude.{◌≡◌, true, List, [], Option, IfOk};
+ghost use Rattle.std.specs.BTreeMap.{IsEmpty};
 ghost use Rattle.std.specs.Bool.{OnTrue};
 ghost use Rattle.std.specs.List.{slice_get, slice_set};
 ghost use Rattle.blz_model.specs.Part.{Exactly};
@@ -64,7 +65,7 @@ impl SideUnits {
     pub fn new(alloc: Global) -> SideUnits
         ensures units { result.units.items ≡ [] }
         ensures shared { (s : FileSections) → AreShared s result.shared }
-        ensures count { result.shared.count ≡ 0 }
+        ensures counts { IsEmpty result.shared.counts }
     {
         SideUnits {
             units: Vec::new(alloc),

@@ -14,6 +14,7 @@ pub mod long_entries;
 pub mod look;
 mod shared_lines;
 pub mod shared_parts;
+mod shared_tables;
 pub mod unit_list;
 pub mod unit_table;
 pub mod units_at;

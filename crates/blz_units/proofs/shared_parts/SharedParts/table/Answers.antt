@@ -7,4 +7,4 @@ use Rattle.blz_units.proofs.shared_parts.SharedParts.table.Goals as goal
 
 pub returns-in-Some-clause-value : goal.returns-in-Some-clause-value
 returns-in-Some-clause-value c =
-    ap or_invalid (table_told (sections_view c.args.sections.now) c.args.self.now c.args.header.now.«abbrev» (arc_value c.in-Some.table) c.requires (rw c.in-Some.is at c.in_ok-kept.ensures))
+    ap or_invalid (table_told (sections_view c.args.sections.now) c.args.self.now c.args.header.now (arc_value c.in-Some.table) c.requires (rw c.in-Some.is at c.in_ok-kept.ensures))
