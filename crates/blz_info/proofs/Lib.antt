@@ -10,6 +10,7 @@ pub mod AttributeSteps
 pub mod AbbreviationIndex
 pub mod Marked
 pub mod AbbreviationSteps
+pub mod Tails
 pub mod Ahead
 pub mod Preorder
 pub mod HeadsLead

@@ -1,12 +1,13 @@
 -- Abbreviation tables (DWARF 5 section 7.5.3).
 use Rattle.std.specs.Prelude.{ℕ, zero, suc, Bool, true, false, ◌&&◌, pos, List, [], ◌∷◌, ◌++◌, length, Option, Some, None, ◌==◌, if◌then◌else◌}
-use Rattle.std.specs.Prelude.{is_some}
+use Rattle.std.specs.Prelude.{◌≡◌, is_some, IfSome, drop}
+use Rattle.std.specs.List.{slice_get}
 use Rattle.blz_constants.specs.declared.dwarf.TheConstants as dwarf
 use Rattle.blz_model.specs.Reads.{Read, ◌>>=◌}
 use Rattle.blz_bytes.specs.Pieces.{byte}
 use Rattle.blz_model.specs.LebNumbers.{uleb, sleb}
 use Rattle.blz_info.specs.declared.abbreviations.AttrSpec.{AttrSpec}
-use Rattle.blz_info.specs.Abbrevs.{Abbrev, of_code}
+use Rattle.blz_info.specs.Abbrevs.{Abbrev, Declared, of_code}
 
 -- a name and a form, and behind DW_FORM_implicit_const the value itself
 unfoldable pub spec_at : List ℕ → ℕ → Read AttrSpec
@@ -56,3 +57,7 @@ table_in (suc n) so_far bytes at = do
 -- The table at an offset. Each of its abbreviations takes bytes, so there are fewer of them than bytes.
 unfoldable pub abbreviations : List ℕ → ℕ → Option (List Abbrev)
 abbreviations bytes at = table_in (length bytes) [] bytes at
+
+-- At each place of the declarations stands the table of those that begin there and behind it.
+abbrev pub IsReadFrom : List ℕ → Declared → Type 0
+IsReadFrom bytes d = (number : ℕ) → IfSome (slice_get d.places number) (λ at. abbreviations bytes at ≡ Some (drop number d.list))

@@ -1,13 +1,10 @@
-//! Abbreviations: what the entries of a unit have in common.
-ghost use Rattle.std.specs.Prelude.{◌≡◌, ◌++◌, ◌∷◌, [], ◌==◌, length, IfSome, IfErr, IfOk, OnOk, None};
-ghost use Rattle.blz_error.specs.declared.kind.ErrorKind.TheVariants.{OutOfMemory};
-ghost use Rattle.std.specs.Option.{option_copied};
+//! Abbreviations: what the entries of one code have in common.
+ghost use Rattle.std.specs.Prelude.{◌≡◌, [], ◌==◌, length, IfSome, IfOk};
 ghost use Rattle.blz_model.specs.Part.{Gives};
 ghost use Rattle.blz_info.specs.Marks.{or_invalid};
-ghost use Rattle.blz_info.specs.Abbrevs.{of_code};
 ghost use Rattle.blz_info.specs.AttributeRuns.{Passes, Reads};
 ghost use Rattle.blz_info.specs.Wanted.{any_placing};
-ghost use Rattle.blz_info.specs.AbbreviationTables.{spec_at, is_last, specs_in, has_children, abbreviation_at, has_code, abbreviations};
+ghost use Rattle.blz_info.specs.AbbreviationTables.{spec_at, is_last, specs_in, has_children, abbreviation_at};
 
 use crate::encoding::Encoding;
 use crate::fault::invalid;
@@ -16,8 +13,7 @@ use crate::runs::Runs;
 use blz_bytes::{sleb_at, u8_at, uleb_at};
 use blz_constants::dwarf;
 use blz_error::Result;
-use std::alloc::{AllocError, Global};
-use std::collections::BTreeMap;
+use std::alloc::Global;
 use std::marker::Model;
 
 /// An attribute of an abbreviation: its name, its form, and the value of `DW_FORM_implicit_const`, else 0.
@@ -31,7 +27,7 @@ pub struct AttrSpec {
 /// What the entries of one code have in common (DWARF 5 section 7.5.3).
 #[derive(Drop)]
 pub struct Abbreviation {
-    code: u64,
+    pub(crate) code: u64,
     /// The tag of the entries.
     pub tag: u64,
     /// Whether they have children.
@@ -93,129 +89,6 @@ impl Abbreviation {
             Some(runs) => Some(runs),
             None => None,
         }
-    }
-}
-
-/// The abbreviations of a unit, as a finite map from their codes.
-#[derive(Drop)]
-pub struct Abbreviations {
-    table: Vec<Abbreviation>,
-    // the first so many have the codes 1, 2, 3 and so on, as compilers write them
-    ordered: usize,
-    // where each other code stands
-    others: BTreeMap<u64, usize>,
-}
-
-impl Model for Abbreviations {
-    ghost use Rattle.std.specs.Prelude.{List};
-    ghost use Rattle.blz_info.specs.Abbrevs.{Abbrev, IsIndexed};
-
-    ghost Value = { List Abbrev };
-
-    ghost view = { λ a. a.table.items };
-
-    ghost invariant = { λ a. IsIndexed a.ordered a.others a.table.items };
-}
-
-impl Abbreviations {
-    fn empty(alloc: Global) -> Abbreviations
-        ensures { result ≡ [] }
-    {
-        Abbreviations {
-            table: Vec::new(alloc),
-            ordered: 0,
-            others: BTreeMap::new(alloc),
-        }
-    }
-
-    /// The abbreviation of a code; None exactly where there is none.
-    #[inline(always)]
-    pub fn get(&self, code: u64) -> Option<&Abbreviation>
-        ensures { option_copied result ≡ of_code code self.now }
-    {
-        if code > 0 && code <= self.ordered as u64 {
-            return self.table.get(code as usize - 1);
-        }
-        let place = self.others.get(&code)?;
-        self.table.get(*place)
-    }
-
-    /// How many abbreviations the table keeps.
-    pub fn len(&self) -> usize
-        ensures { result ≡ length self.now }
-    {
-        self.table.len()
-    }
-
-    fn has(&self, code: u64) -> bool
-        ensures { result ≡ has_code code self.now }
-    {
-        self.get(code).is_some()
-    }
-
-    fn add(&mut self, abbreviation: Abbreviation) -> Result<()>
-        requires { of_code abbreviation.code self.old ≡ None }
-        ensures ok { OnOk result (self.new ≡ self.old ++ abbreviation ∷ []) }
-        ensures err { IfErr result (λ e. e.kind ≡ OutOfMemory) }
-    {
-        let code = abbreviation.code;
-        let place = self.table.len();
-        self.table.push(abbreviation)?;
-        if self.ordered == place && code == place as u64 + 1 {
-            self.ordered = place + 1;
-            return Ok(());
-        }
-        if let Err(fault) = self.others.insert(code, place) {
-            self.table.pop();
-            return Err(AllocError::from(fault).into());
-        }
-        Ok(())
-    }
-}
-
-impl Abbreviations {
-    /// The abbreviations at an offset of `.debug_abbrev` (DWARF 5 section 7.5.3). InvalidDwarf exactly where they are
-    /// not whole, or a code or a children byte is not as it has to be.
-    pub fn parse(alloc: Global, abbrev: &[u8], at: u64) -> Result<Abbreviations>
-        ensures { Gives (λ t. t) result (or_invalid (abbreviations «abbrev».now at)) }
-    {
-        let encoding = Encoding {
-            version: 5,
-            wide: false,
-            address_size: 8,
-        };
-        Abbreviations::parse_for(alloc, abbrev, at, encoding)
-    }
-
-    /// The same, ready for units whose fields have the sizes of an encoding: their entries are walked over faster.
-    pub fn parse_for(
-        alloc: Global,
-        abbrev: &[u8],
-        at: u64,
-        encoding: Encoding,
-    ) -> Result<Abbreviations>
-        ensures { Gives (λ t. t) result (or_invalid (abbreviations «abbrev».now at)) }
-    {
-        if at > abbrev.len() as u64 {
-            return Err(invalid("abbreviations lie outside their section"));
-        }
-        let mut table = Abbreviations::empty(alloc);
-        let mut place = at as usize;
-        for _ in 0..abbrev.len() {
-            let Some((code, next)) = uleb_at(abbrev, place) else {
-                return Err(invalid("an abbreviation has no code"));
-            };
-            if code == 0 {
-                return Ok(table);
-            }
-            if table.has(code) {
-                return Err(invalid("an abbreviation code stands twice"));
-            }
-            let (abbreviation, next) = abbreviation_at(alloc, encoding, code, abbrev, next)?;
-            table.add(abbreviation)?;
-            place = next;
-        }
-        Err(invalid("abbreviations do not end"))
     }
 }
 
@@ -281,8 +154,9 @@ fn has_children(flag: u8) -> Option<bool>
     }
 }
 
+/// The abbreviation behind its code, ready for the sizes of a unit, and the place after it.
 #[tactic(auto, unfolding(crate::specs::AbbreviationTables::abbreviation_at))]
-fn abbreviation_at(
+pub(crate) fn abbreviation_at(
     alloc: Global,
     encoding: Encoding,
     code: u64,

@@ -8,7 +8,7 @@ ghost use Rattle.blz_info.specs.Passing.{past, past_one};
 ghost use Rattle.blz_info.specs.Walks.{Steps, IsNext, walk_from, source_of, info_base, opened, next_of, value_of, skipped_of};
 ghost use Rattle.blz_info.specs.Wanted.{wanted_of};
 
-use crate::abbreviations::{Abbreviation, Abbreviations, AttrSpec};
+use crate::abbreviations::{Abbreviation, AttrSpec};
 use crate::attributes::{attribute, passed};
 use crate::behind::over;
 use crate::encoding::Encoding;
@@ -17,6 +17,7 @@ use crate::passing::Passing;
 use crate::ready::next_wanted;
 use crate::runs::{Runs, passed_by};
 use crate::section::{Section, Sections, cut};
+use crate::table::Abbreviations;
 use crate::text::{StrBase, StrPart};
 use crate::units::UnitHeader;
 use crate::value::AttrValue;
