@@ -115,6 +115,29 @@ def units_of_many_languages(n):
 
 
 @shape
+def functions_of_many_languages(n):
+    # without an address it would not be looked at
+    languages = constants([DW_AT_LANGUAGE], n) + [(DW_AT_LOW_PC, DW_FORM_FLAG_PRESENT)]
+    return Attack(one_unit({ROOT: root(), FUNCTION: subprogram(languages)}, bytes([FUNCTION]) * 2 * n), [BASE])
+
+
+# each name that is looked at with a number of each kind: -1, which is one byte, 0 and 1
+KINDS = [(name, DW_FORM_IMPLICIT_CONST, number) for name in TELLING for number in (0x7F, 0, 1)]
+
+
+@shape
+def functions_told_again_far_behind(n):
+    shapes = {ROOT: root(), FUNCTION: subprogram(KINDS + [FLAG] * n + KINDS)}
+    return Attack(one_unit(shapes, bytes([FUNCTION]) * 2 * n), [BASE])
+
+
+@shape
+def functions_told_again_in_turn(n):
+    shapes = {ROOT: root(), FUNCTION: subprogram([KINDS[k % len(KINDS)] for k in range(n)])}
+    return Attack(one_unit(shapes, bytes([FUNCTION]) * 2 * n), [BASE])
+
+
+@shape
 def variables_of_many_flags(n):
     shapes = {ROOT: root(), FUNCTION: Abbreviation(DW_TAG_VARIABLE, 0, [FLAG] * n)}
     return Attack(one_unit(shapes, bytes([FUNCTION]) * 2 * n), [BASE])

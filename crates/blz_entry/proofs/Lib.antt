@@ -4,4 +4,5 @@ pub mod FoldSteps
 pub mod RangesSettled
 pub mod RootSteps
 pub mod RootSettled
+pub mod RootLanguage
 pub mod SetSteps

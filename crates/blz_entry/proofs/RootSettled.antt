@@ -1,8 +1,9 @@
 -- Attributes of a root that take no bytes: the last of a name and kind settles what the earlier ones did.
-use Rattle.std.proofs.Common.{◌≡◌, ◌∙◌, ℕ, true, false, eqb, Option, Some, None, refl, sym, ap, subst, inl, inr}
+use Rattle.std.proofs.Common.{◌≡◌, ◌∙◌, ℕ, List, true, false, eqb, Option, Some, None, refl, sym, ap, subst, inl, inr}
 use Rattle.std.specs.Prelude.{◌⊎◌}
 use Rattle.std.proofs.lemmas.Bool.{cases_Bool, eqb-true}
 use Rattle.blz_model.specs.Reads.{◌>>=◌}
+use Rattle.blz_info.specs.declared.abbreviations.AttrSpec.{AttrSpec}
 use Rattle.blz_info.specs.declared.section.Sections.{Sections}
 use Rattle.blz_info.specs.declared.units.UnitHeader.{UnitHeader}
 use Rattle.blz_info.specs.declared.value.AttrValue.{AttrValue}
@@ -15,7 +16,7 @@ use Rattle.blz_entry.specs.declared.root.RootValues.{RootValues}
 use Rattle.blz_entry.specs.declared.root.UnitRoot.{UnitRoot}
 use Rattle.blz_entry.proofs.RangesSettled.{IsPut, range_idle, high_put, list_put}
 use Rattle.blz_entry.proofs.RootSteps.{noted_ignores, root_ignores}
-use Rattle.blz_entry.proofs.Settled.{IsSettled, LooksAt, idle}
+use Rattle.blz_entry.proofs.Settled.{IsSettled, LooksAt, SkipsLanguages, idle, skips_all}
 
 -- ---- what is noted
 
@@ -201,3 +202,11 @@ root_settles s h n v bare = elim (cases_Bool (eqb n 0x11)) [
 
 pub root_looks : (s : Sections) (h : UnitHeader) → LooksAt UnitRoot (root_step s h)
 root_looks s h = record { ignores = root_ignores s h; settles = λ n v bare language. root_settles s h n v bare }
+
+-- no language changes them
+language_idle : (s : Sections) (h : UnitHeader) (root : UnitRoot) (v : AttrValue) → root_step s h root (0x13, v) ≡ Some root
+unfolding root_step range_step
+language_idle s h root v = refl
+
+pub root_skips : (s : Sections) (h : UnitHeader) (root : UnitRoot) (specs : List AttrSpec) → SkipsLanguages (root_step s h) root specs
+root_skips s h root specs = skips_all (root_step s h) root (language_idle s h root) specs

@@ -1,11 +1,12 @@
 -- Steps over attributes, of which one that is told again settles what an earlier one did.
 use Rattle.std.proofs.Common.{◌≡◌, ◌∙◌, ℕ, true, false, eqb, List, [], ◌∷◌, Option, Some, None, refl, sym, ap, inl, inr}
-use Rattle.std.specs.Prelude.{◌⊎◌}
+use Rattle.std.proofs.lemmas.Bool.{eqb-true}
+use Rattle.std.specs.Prelude.{◌⊎◌, ⊤}
 use Rattle.blz_model.specs.Reads.{◌>>=◌}
 use Rattle.blz_info.specs.Contents.{Contents}
 use Rattle.blz_info.specs.Forms.{udata}
 use Rattle.blz_info.specs.Attributes.{attribute, attributes}
-use Rattle.blz_info.specs.Wanted.{is_wanted, same_kind, any_alike, tells}
+use Rattle.blz_info.specs.Wanted.{is_wanted, bare_value, same_kind, any_alike, tells}
 use Rattle.blz_info.specs.declared.abbreviations.AttrSpec.{AttrSpec}
 use Rattle.blz_info.specs.declared.encoding.Encoding.{Encoding}
 use Rattle.blz_info.specs.declared.text.StrBase.{StrBase}
@@ -31,6 +32,23 @@ idle S step n v h = record { put = λ s. s; sets = h; past = λ s a. inl refl; o
 pub record LooksAt (S : Type 0) (step : S → ℕ × AttrValue → Option S) : Type 0 where
   pub ignores : (s : S) (n : ℕ) (v : AttrValue) → is_wanted n ≡ false → step s (n, v) ≡ Some s
   pub settles : (n : ℕ) (v : AttrValue) → IsBare v → eqb n 0x13 ≡ false → IsSettled S step n v
+
+-- a language without bytes changes nothing
+abbrev pub SkipsLanguage : {S : Type 0} → (S → ℕ × AttrValue → Option S) → S → AttrSpec → Type 0
+SkipsLanguage step s a = (v : AttrValue) → bare_value a ≡ Some v → eqb a.name 0x13 ≡ true → step s (a.name, v) ≡ Some s
+
+-- nor does any of those that stand before the next attribute that tells something
+abbrev pub SkipsLanguages : {S : Type 0} → (S → ℕ × AttrValue → Option S) → S → List AttrSpec → Type 0
+SkipsLanguages step s [] = ⊤
+SkipsLanguages step s (a ∷ rest) = tells a rest ≡ false → SkipsLanguage step s a × SkipsLanguages step s rest
+
+skips_one : {S : Type 0} (step : S → ℕ × AttrValue → Option S) (s : S) → ((v : AttrValue) → step s (0x13, v) ≡ Some s) → (a : AttrSpec) → SkipsLanguage step s a
+skips_one step s h a v bare language = let same = eqb-true a.name 0x13 language in rw same (h v)
+
+-- where no language changes anything
+pub skips_all : {S : Type 0} (step : S → ℕ × AttrValue → Option S) (s : S) → ((v : AttrValue) → step s (0x13, v) ≡ Some s) → (specs : List AttrSpec) → SkipsLanguages step s specs
+skips_all step s h [] = tt
+skips_all step s h (a ∷ rest) = λ untold. (skips_one step s h a, skips_all step s h rest)
 
 then_all : {S : Type 0} (step : S → ℕ × AttrValue → Option S) (put : S → S) (xs : List (ℕ × AttrValue)) (o : Option S) → ((t : S) → fold_maybe step (put t) xs ≡ fold_maybe step t xs) → ((o >>= λ t. Some (put t)) >>= λ t. fold_maybe step t xs) ≡ (o >>= λ t. fold_maybe step t xs)
 then_all step put xs None h = refl
@@ -64,13 +82,17 @@ settled_by {S = S} step n v h s (b ∷ rest) e base c at r reads later = elim (l
 ]
 
 -- an attribute that does not tell anything before others changes nothing
-pub untold_step : {S : Type 0} (step : S → ℕ × AttrValue → Option S) (k : LooksAt S step) (s : S) (a : AttrSpec) (rest : List AttrSpec) (e : Encoding) (base : StrBase) (c : Contents) (at next : ℕ) (v : AttrValue) (r : List (ℕ × AttrValue) × ℕ) → attribute a e base c at ≡ Some (v, next) → tells a rest ≡ false → attributes rest e base c next ≡ Some r → fold_maybe step s ((a.name, v) ∷ r.0) ≡ fold_maybe step s r.0
-untold_step {S = S} step k s a rest e base c at next v r read h reads = elim (untold a rest h) [
+pub untold_step : {S : Type 0} (step : S → ℕ × AttrValue → Option S) (k : LooksAt S step) (s : S) (a : AttrSpec) (rest : List AttrSpec) (e : Encoding) (base : StrBase) (c : Contents) (at next : ℕ) (v : AttrValue) (r : List (ℕ × AttrValue) × ℕ) → SkipsLanguage step s a → attribute a e base c at ≡ Some (v, next) → tells a rest ≡ false → attributes rest e base c next ≡ Some r → fold_maybe step s ((a.name, v) ∷ r.0) ≡ fold_maybe step s r.0
+untold_step {S = S} step k s a rest e base c at next v r skips read h reads = elim (untold a rest h) [
   | inl other ↦ ap (λ (o : Option S). o >>= λ t. fold_maybe step t r.0) (k.ignores s a.name v other)
-  | inr again ↦
-      let settled = k.settles a.name again.value (is_bare a again.value again.bare) again.no_language in
-      let value : v ≡ again.value = ap (λ (r : AttrValue × ℕ). r.0) (some_is (sym read ∙ bare_read a again.value e base c at again.bare)) in
+  | inr elsewhere ↦
+      let value : v ≡ elsewhere.value = ap (λ (r : AttrValue × ℕ). r.0) (some_is (sym read ∙ bare_read a elsewhere.value e base c at elsewhere.bare)) in
       ap (λ (x : AttrValue). step s (a.name, x) >>= λ t. fold_maybe step t r.0) value
-      ∙ ap (λ (o : Option S). o >>= λ t. fold_maybe step t r.0) (settled.sets s)
-      ∙ settled_by step a.name again.value settled s rest e base c next r reads again.later
+      ∙ elim elsewhere.by [
+        | inl language ↦ ap (λ (o : Option S). o >>= λ t. fold_maybe step t r.0) (skips elsewhere.value elsewhere.bare language)
+        | inr again ↦
+            let settled = k.settles a.name elsewhere.value (is_bare a elsewhere.value elsewhere.bare) again.0 in
+            ap (λ (o : Option S). o >>= λ t. fold_maybe step t r.0) (settled.sets s)
+            ∙ settled_by step a.name elsewhere.value settled s rest e base c next r reads again.1
+      ]
 ]

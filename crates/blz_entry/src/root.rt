@@ -120,7 +120,10 @@ fn noted(values: RootValues, name: u64, value: AttrValue) -> RootValues
 fn noted_over(mut entries: Entries<'_, '_>) -> Option<RootValues>
     ensures { result ≡ over_pending noted_step nothing_noted entries.entry }
 {
-    let mut values = nothing_noted();
+    let mut values = RootValues {
+        language: entries.bare_language(),
+        ..nothing_noted()
+    };
     loop {
         let (name, value) = match entries.next_wanted() {
             Ok(Some(found)) => found,

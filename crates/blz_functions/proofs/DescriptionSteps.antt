@@ -23,7 +23,7 @@ use Rattle.blz_functions.specs.declared.referred.Visited.TheVariants.{Named}
 use Rattle.blz_functions.specs.Describing.{Refer, tells_range, tells_site, with_call_site, description_step, described}
 use Rattle.blz_functions.specs.Leaves.{UnitParts, range_step_in, source_in}
 use Rattle.blz_functions.specs.Naming.{is_reference, unless_linked, name_step, visit_from, visit_end, linkage_of, name_behind, link_behind}
-use Rattle.blz_functions.proofs.IgnoredAttributes.{LeadsNowhere, description_looks, is_other, other_linkage, other_behind, other_link, bare_linkage, bare_behind}
+use Rattle.blz_functions.proofs.IgnoredAttributes.{LeadsNowhere, IsOther, description_looks, is_other, language_is_other, language_skips, other_linkage, other_behind, other_link, bare_linkage, bare_behind}
 
 -- what stands at a place as the value of an attribute
 abbrev pub value_at : UnitParts → AttrSpec → ℕ → Option (AttrValue × ℕ)
@@ -103,7 +103,7 @@ described_past refer u nowhere d a others at next v read h =
     let e = (source_in u).encoding in
     let base = (source_in u).base in
     let s = (source_in u).section in
-    rw read (untold_more (description_step refer u) d (a.name, v) (attributes others e base s next) (λ r reads. untold_step (description_step refer u) (description_looks refer u nowhere) d a others e base s at next v r read h reads))
+    rw read (untold_more (description_step refer u) d (a.name, v) (attributes others e base s next) (λ r reads. untold_step (description_step refer u) (description_looks refer u nowhere) d a others e base s at next v r (language_skips refer u d a) read h reads))
 
 pub described_more : (refer : Refer) (u : UnitParts) → LeadsNowhere refer → (d e : Description) (specs rest : List AttrSpec) (at next n : ℕ) (v : AttrValue) → wanted_at u specs at ≡ Some (Some (n, v), (rest, next)) → description_step refer u d (n, v) ≡ Some e → described refer u d specs at ≡ described refer u e rest next
 unfolding wanted_in
@@ -191,18 +191,23 @@ visit_again u a others name link next v later = elim (cases_Bool (is_reference a
   | inr other ↦ rw other refl
 ]
 
+visit_other : (u : UnitParts) (a : AttrSpec) (others : List AttrSpec) (name : Option StrPlace) (link : Option AttrValue) (at next : ℕ) (v : AttrValue) → value_at u a at ≡ Some (v, next) → IsOther a.name → visit_from u (a ∷ others) name link at ≡ visit_from u others name link next
+visit_other u a others name link at next v read other =
+    visit_on u a others name link at next v read (other_linkage u a.name v other) ∙ rw (other_behind u a.name v name other, other_link a.name v link other) refl
+
 visit_past : (u : UnitParts) (a : AttrSpec) (others : List AttrSpec) (name : Option StrPlace) (link : Option AttrValue) (at next : ℕ) (v : AttrValue) → value_at u a at ≡ Some (v, next) → tells a others ≡ false → visit_from u (a ∷ others) name link at ≡ visit_from u others name link next
 visit_past u a others name link at next v read h = elim (untold a others h) [
-  | inl unwanted ↦
-      let other = is_other a.name unwanted in
-      visit_on u a others name link at next v read (other_linkage u a.name v other) ∙ rw (other_behind u a.name v name other, other_link a.name v link other) refl
-  | inr again ↦
-      let value : v ≡ again.value = ap (λ (r : AttrValue × ℕ). r.0) (some_is (sym read ∙ bare_read a again.value (source_in u).encoding (source_in u).base (source_in u).section at again.bare)) in
-      let bare : IsBare v = subst IsBare (sym value) (is_bare a again.value again.bare) in
-      let later : any_alike a.name v others ≡ true = ap (λ (w : AttrValue). any_alike a.name w others) value ∙ again.later in
-      visit_on u a others name link at next v read (bare_linkage u a.name v bare)
-      ∙ ap (λ (o : Option StrPlace). visit_from u others o (link_behind a.name v link) next) (bare_behind u a.name v name bare)
-      ∙ visit_again u a others name link next v later
+  | inl unwanted ↦ visit_other u a others name link at next v read (is_other a.name unwanted)
+  | inr elsewhere ↦ elim elsewhere.by [
+    | inl language ↦ visit_other u a others name link at next v read (subst IsOther (sym (eqb-true a.name 0x13 language)) language_is_other)
+    | inr again ↦
+        let value : v ≡ elsewhere.value = ap (λ (r : AttrValue × ℕ). r.0) (some_is (sym read ∙ bare_read a elsewhere.value (source_in u).encoding (source_in u).base (source_in u).section at elsewhere.bare)) in
+        let bare : IsBare v = subst IsBare (sym value) (is_bare a elsewhere.value elsewhere.bare) in
+        let later : any_alike a.name v others ≡ true = ap (λ (w : AttrValue). any_alike a.name w others) value ∙ again.1 in
+        visit_on u a others name link at next v read (bare_linkage u a.name v bare)
+        ∙ ap (λ (o : Option StrPlace). visit_from u others o (link_behind a.name v link) next) (bare_behind u a.name v name bare)
+        ∙ visit_again u a others name link next v later
+  ]
 ]
 
 pub visit_more : (u : UnitParts) (specs rest : List AttrSpec) (name : Option StrPlace) (link : Option AttrValue) (at next n : ℕ) (v : AttrValue) → wanted_at u specs at ≡ Some (Some (n, v), (rest, next)) → linkage_of u n v ≡ None → visit_from u specs name link at ≡ visit_from u rest (name_behind u n v name) (link_behind n v link) next

@@ -5,6 +5,7 @@ use Rattle.std.proofs.lemmas.Bool.{cases_Bool, eqb-true, ne_eqb, lt-ltb}
 use Rattle.blz_model.specs.Reads.{◌>>=◌}
 use Rattle.blz_info.specs.Forms.{udata}
 use Rattle.blz_info.specs.Wanted.{is_wanted, same_kind}
+use Rattle.blz_info.specs.declared.abbreviations.AttrSpec.{AttrSpec}
 use Rattle.blz_info.specs.declared.text.StrPlace.{StrPlace}
 use Rattle.blz_info.specs.declared.value.AttrValue.{AttrValue}
 use Rattle.blz_info.proofs.BareValues.{IsBare}
@@ -13,7 +14,7 @@ use Rattle.blz_entry.specs.StringPlaces.{string_of}
 use Rattle.blz_entry.specs.declared.ranges.RangeAttributes.{RangeAttributes}
 use Rattle.blz_entry.proofs.RangesSettled.{IsPut, range_idle, high_put, list_put}
 use Rattle.blz_entry.proofs.RootSteps.{apart}
-use Rattle.blz_entry.proofs.Settled.{IsSettled, LooksAt, idle}
+use Rattle.blz_entry.proofs.Settled.{IsSettled, LooksAt, SkipsLanguage, idle}
 use Rattle.blz_functions.specs.Describing.{Refer, low_bits, kept_file, with_call_site, description_step}
 use Rattle.blz_functions.specs.Leaves.{UnitParts, lying, string_in, range_step_in}
 use Rattle.blz_functions.specs.Naming.{is_linkage_name, is_name, is_reference, or_else, referred, name_step, linkage_of, name_behind, link_behind}
@@ -64,11 +65,20 @@ other_ranges u r n v h = rw (h.low, h.high, h.ranges) refl
 other_site : (version : ℕ) (s : CallSite) (n : ℕ) (v : AttrValue) → IsOther n → with_call_site version s (n, v) ≡ s
 other_site version s n v h = rw (h.file, h.line, h.column) refl
 
-pub other_step : (refer : Refer) (u : UnitParts) (d : Description) (n : ℕ) (v : AttrValue) → is_wanted n ≡ false → description_step refer u d (n, v) ≡ Some d
+other_changes : (refer : Refer) (u : UnitParts) (d : Description) (n : ℕ) (v : AttrValue) → IsOther n → description_step refer u d (n, v) ≡ Some d
 unfolding description_step
-other_step refer u d n v h =
-    let other = is_other n h in
+other_changes refer u d n v other =
     rw (other_name refer u d.name n v other, other_ranges u d.ranges n v other, other_site u.header.version d.site n v other) refl
+
+pub other_step : (refer : Refer) (u : UnitParts) (d : Description) (n : ℕ) (v : AttrValue) → is_wanted n ≡ false → description_step refer u d (n, v) ≡ Some d
+other_step refer u d n v h = other_changes refer u d n v (is_other n h)
+
+-- nor does a language, which tells of a whole unit
+pub language_is_other : IsOther 0x13
+language_is_other = record { name = refl; low = refl; high = refl; origin = refl; specification = refl; ranges = refl; column = refl; file = refl; line = refl; linkage = refl; mips = refl }
+
+pub language_skips : (refer : Refer) (u : UnitParts) (d : Description) (a : AttrSpec) → SkipsLanguage (description_step refer u) d a
+language_skips refer u d a v bare language = let same = eqb-true a.name 0x13 language in rw same (other_changes refer u d 0x13 v language_is_other)
 
 pub other_linkage : (u : UnitParts) (n : ℕ) (v : AttrValue) → IsOther n → linkage_of u n v ≡ None
 other_linkage u n v h = rw (h.linkage, h.mips) refl

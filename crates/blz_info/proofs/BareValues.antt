@@ -1,4 +1,4 @@
--- Attributes that take no bytes, and those that are told again.
+-- Attributes that take no bytes, and those that are told elsewhere.
 use Rattle.std.proofs.Common.{◌≡◌, ◌∙◌, ℕ, ℤ, Bool, true, false, eqb, List, ◌∷◌, Option, Some, None, refl, sym, ap, inl, inr}
 use Rattle.std.specs.Prelude.{◌⊎◌, ◌&&◌, not}
 use Rattle.std.proofs.lemmas.Bool.{cases_Bool, eqb-true}
@@ -6,7 +6,7 @@ use Rattle.std.proofs.Math.Bool.{and-false}
 use Rattle.blz_info.specs.Contents.{Contents, field_at}
 use Rattle.blz_info.specs.Forms.{form_of, value_by, udata}
 use Rattle.blz_info.specs.Attributes.{is_offset, form_for, direct_attribute, attribute}
-use Rattle.blz_info.specs.Wanted.{is_wanted, bare_value, same_kind, of_kind, is_alike, any_alike, told_again, tells}
+use Rattle.blz_info.specs.Wanted.{is_wanted, bare_value, same_kind, of_kind, is_alike, any_alike, told_elsewhere, tells}
 use Rattle.blz_info.specs.declared.abbreviations.AttrSpec.{AttrSpec}
 use Rattle.blz_info.specs.declared.encoding.Encoding.{Encoding}
 use Rattle.blz_info.specs.declared.text.StrBase.{StrBase}
@@ -53,19 +53,18 @@ bare_read a v e base s at h = elim (cases_Bool (eqb a.form 0x21)) [
   ]
 ]
 
--- ---- an attribute that is told again
+-- ---- an attribute that is told elsewhere
 
-pub record IsToldAgain (a : AttrSpec) (behind : List AttrSpec) : Type 0 where
+pub record IsToldElsewhere (a : AttrSpec) (behind : List AttrSpec) : Type 0 where
   pub value : AttrValue
   pub bare : bare_value a ≡ Some value
-  pub no_language : eqb a.name 0x13 ≡ false
-  pub later : any_alike a.name value behind ≡ true
+  pub by : (eqb a.name 0x13 ≡ true) ⊎ ((eqb a.name 0x13 ≡ false) × (any_alike a.name value behind ≡ true))
 
-told_parts : (a : AttrSpec) (behind : List AttrSpec) (o : Option AttrValue) → bare_value a ≡ o → told_again a.name o behind ≡ true → IsToldAgain a behind
-told_parts a behind None is h = absurd cc
-told_parts a behind (Some v) is h = elim (cases_Bool (eqb a.name 0x13)) [
-  | inl language ↦ absurd (let k = rw language at h in cc)
-  | inr other ↦ let k = rw other at h in record { value = v; bare = is; no_language = other; later = k }
+told_by : (a : AttrSpec) (behind : List AttrSpec) (o : Option AttrValue) → bare_value a ≡ o → told_elsewhere a.name o behind ≡ true → IsToldElsewhere a behind
+told_by a behind None is h = absurd cc
+told_by a behind (Some v) is h = elim (cases_Bool (eqb a.name 0x13)) [
+  | inl language ↦ record { value = v; bare = is; by = inl language }
+  | inr other ↦ let k = rw other at h in record { value = v; bare = is; by = inr (other, k) }
 ]
 
 one_fails : (a b : Bool) → (a && not b) ≡ false → (a ≡ false) ⊎ (b ≡ true)
@@ -73,11 +72,11 @@ one_fails false b h = inl refl
 one_fails true false h = absurd cc
 one_fails true true h = inr refl
 
-pub untold : (a : AttrSpec) (behind : List AttrSpec) → tells a behind ≡ false → (is_wanted a.name ≡ false) ⊎ IsToldAgain a behind
+pub untold : (a : AttrSpec) (behind : List AttrSpec) → tells a behind ≡ false → (is_wanted a.name ≡ false) ⊎ IsToldElsewhere a behind
 unfolding tells
-untold a behind h = elim (one_fails (is_wanted a.name) (told_again a.name (bare_value a) behind) h) [
+untold a behind h = elim (one_fails (is_wanted a.name) (told_elsewhere a.name (bare_value a) behind) h) [
   | inl other ↦ inl other
-  | inr again ↦ inr (told_parts a behind (bare_value a) refl again)
+  | inr elsewhere ↦ inr (told_by a behind (bare_value a) refl elsewhere)
 ]
 
 -- ---- the later one

@@ -6,7 +6,7 @@ use Rattle.blz_info.specs.Attributes.{form_for, attribute}
 use Rattle.blz_info.specs.Contents.{Contents}
 use Rattle.blz_info.specs.Forms.{value_by}
 use Rattle.blz_info.specs.Sizes.{over, behind_form, behind, attribute_size, size_together}
-use Rattle.blz_info.specs.Wanted.{tells, any_placing}
+use Rattle.blz_info.specs.Wanted.{bare_language, tells, any_placing}
 use Rattle.blz_info.specs.declared.abbreviations.AttrSpec.{AttrSpec}
 use Rattle.blz_info.specs.declared.encoding.Encoding.{Encoding}
 use Rattle.blz_info.specs.declared.form.Form.{Form}
@@ -70,8 +70,9 @@ AreRuns reading e (r ∷ rest) tail specs =
     AreSkipped reading e r.skip (take r.count specs) (drop r.count specs) × (IsLookedAt reading e r (slice_get specs r.count) behind × AreRuns reading e rest tail behind)
 
 -- attributes that are passed over by runs
-abbrev pub Passes : Encoding → Runs → List AttrSpec → Type 0
-Passes e r specs = AreRuns false e r.runs.items r.tail specs
+pub record Passes (e : Encoding) (r : Runs) (specs : List AttrSpec) : Type 0 where
+  pub runs : AreRuns false e r.runs.items r.tail specs
+  pub language : r.language ≡ bare_language specs
 
 -- attributes that are left where so many runs were read
 pub record Reads (e : Encoding) (taken : ℕ) (r : Runs) (specs : List AttrSpec) : Type 0 where

@@ -61,15 +61,20 @@ abbrev pub any_alike : ℕ → AttrValue → List AttrSpec → Bool
 any_alike name v [] = false
 any_alike name v (b ∷ rest) = is_alike name v b || any_alike name v rest
 
--- An attribute without bytes is told again by a later one of its name and kind, which decides. Of DW_AT_language the
--- first one decides.
-abbrev pub told_again : ℕ → Option AttrValue → List AttrSpec → Bool
-told_again name None behind = false
-told_again name (Some v) behind = if name == dwarf.DW_AT_language then false else any_alike name v behind
+-- the value of the first DW_AT_language, where that one takes no bytes
+abbrev pub bare_language : List AttrSpec → Option AttrValue
+bare_language [] = None
+bare_language (a ∷ rest) = if a.name == dwarf.DW_AT_language then bare_value a else bare_language rest
 
--- an attribute before others is wanted, and none of them tells it again
+-- An attribute without bytes is told elsewhere: by a later one of its name and kind, which decides; or, of DW_AT_language,
+-- of which the first one decides, by `bare_language`.
+abbrev pub told_elsewhere : ℕ → Option AttrValue → List AttrSpec → Bool
+told_elsewhere name None behind = false
+told_elsewhere name (Some v) behind = (name == dwarf.DW_AT_language) || any_alike name v behind
+
+-- an attribute before others is wanted, and is not told elsewhere
 unfoldable pub tells : AttrSpec → List AttrSpec → Bool
-tells a behind = is_wanted a.name && not (told_again a.name (bare_value a) behind)
+tells a behind = is_wanted a.name && not (told_elsewhere a.name (bare_value a) behind)
 
 -- ---- the next one
 

@@ -6,7 +6,7 @@ ghost use Rattle.blz_model.specs.Part.{Exactly, Good, Broken};
 ghost use Rattle.blz_info.specs.Attributes.{passed};
 ghost use Rattle.blz_info.specs.Passing.{past, past_one};
 ghost use Rattle.blz_info.specs.Walks.{Steps, IsNext, walk_from, source_of, info_base, opened, next_of, value_of, skipped_of};
-ghost use Rattle.blz_info.specs.Wanted.{wanted_of};
+ghost use Rattle.blz_info.specs.Wanted.{bare_language, wanted_of};
 
 use crate::abbreviations::{Abbreviation, AttrSpec};
 use crate::attributes::{attribute, passed};
@@ -21,6 +21,7 @@ use crate::table::Abbreviations;
 use crate::text::{StrBase, StrPart};
 use crate::units::UnitHeader;
 use crate::value::AttrValue;
+use crate::wanted::bare_language;
 use blz_bytes::uleb_at;
 use blz_error::Result;
 use std::marker::Model;
@@ -277,14 +278,25 @@ impl<'s, 'b> Entries<'s, 'b> {
         Ok(value)
     }
 
+    /// The first `DW_AT_language` of the attributes that were not read, where it takes no bytes; `next_wanted` gives no
+    /// such one.
+    pub fn bare_language(&self) -> Option<AttrValue>
+        ensures { result ≡ bare_language self.now.pending }
+    {
+        match self.passing {
+            Some(runs) => runs.language,
+            None => bare_language(self.pending),
+        }
+    }
+
     /// The next attribute of the entry that tells what a function, an inlined call or a unit is, with its name, and None
     /// where none is left: its names (`DW_AT_name`, `DW_AT_linkage_name`, `DW_AT_MIPS_linkage_name`), where they stand
     /// (`DW_AT_abstract_origin`, `DW_AT_specification`), what it covers (`DW_AT_low_pc`, `DW_AT_high_pc`,
     /// `DW_AT_ranges`), where it is called (`DW_AT_call_file`, `DW_AT_call_line`, `DW_AT_call_column`), and of a unit its
     /// lines, its language, its directory and its bases (`DW_AT_stmt_list`, `DW_AT_language`, `DW_AT_comp_dir`,
     /// `DW_AT_str_offsets_base`, `DW_AT_addr_base`, `DW_AT_rnglists_base`). Those before it are passed over, and so is one
-    /// without bytes that a later one of its name tells again. InvalidDwarf exactly where it or one of them has no value, and
-    /// then nothing has changed.
+    /// without bytes that a later one of its name tells again, and each language without bytes, of which `bare_language`
+    /// tells the first. InvalidDwarf exactly where it or one of them has no value, and then nothing has changed.
     #[inline(always)]
     #[tactic(auto, unfolding(crate::specs::Wanted::wanted_of))]
     pub fn next_wanted(&mut self) -> Result<Option<(u64, AttrValue)>>

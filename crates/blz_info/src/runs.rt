@@ -2,7 +2,7 @@
 ghost use Rattle.std.specs.Prelude.{◌≡◌, ◌≤◌, ◌<◌, ◌+◌, ◌^◌, ◌&&◌, length, drop, true, IfSome, IfOk, MatchOption, option_map};
 ghost use Rattle.blz_info.specs.Contents.{section_view};
 ghost use Rattle.blz_info.specs.Attributes.{attribute};
-ghost use Rattle.blz_info.specs.Wanted.{tells, wanted_in, met_view};
+ghost use Rattle.blz_info.specs.Wanted.{bare_language, tells, wanted_in, met_view};
 ghost use Rattle.blz_info.specs.AttributeRuns.{wants, skipped_size, form_at, behind_by, value_by_form, passed_by, AreRuns, run_of};
 
 use crate::abbreviations::AttrSpec;
@@ -13,7 +13,7 @@ use crate::form::{Form, form_of};
 use crate::section::Section;
 use crate::text::StrBase;
 use crate::value::{AttrValue, value_by};
-use crate::wanted::{Met, tells};
+use crate::wanted::{Met, bare_language, tells};
 use blz_constants::dwarf;
 use std::alloc::{AllocError, Global};
 
@@ -38,6 +38,8 @@ pub struct Run {
 pub struct Runs {
     pub(crate) runs: Vec<Run>,
     pub(crate) tail: usize,
+    /// The first language of the attributes, where it takes no bytes: no run leads to it.
+    pub(crate) language: Option<AttrValue>,
 }
 
 /// Where attributes are read, the one at an index tells something.
@@ -127,7 +129,8 @@ impl Runs {
         encoding: Encoding,
         reading: bool,
     ) -> Result<Runs, AllocError>
-        ensures { IfOk result (λ r. AreRuns reading encoding r.runs.items r.tail specs.now) }
+        ensures runs { IfOk result (λ r. AreRuns reading encoding r.runs.items r.tail specs.now) }
+        ensures language { IfOk result (λ r. r.language ≡ bare_language specs.now) }
     {
         let mut runs = Vec::new(alloc);
         let mut tail: usize = 0;
@@ -146,7 +149,11 @@ impl Runs {
             tail = 0;
             count = 0;
         }
-        Ok(Runs { runs, tail })
+        Ok(Runs {
+            runs,
+            tail,
+            language: bare_language(specs),
+        })
     }
 }
 

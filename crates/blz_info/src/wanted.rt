@@ -2,7 +2,7 @@
 //! called, or what holds for a whole unit.
 ghost use Rattle.std.specs.Prelude.{◌≡◌, ◌≤◌, ◌<◌, ◌+◌, ◌^◌, length, drop, Some, IfSome, MatchOption, option_map};
 ghost use Rattle.blz_info.specs.Contents.{section_view};
-ghost use Rattle.blz_info.specs.Wanted.{is_wanted, is_placing, any_placing, bare_value, same_kind, is_alike, any_alike, told_again, tells, wanted_in, met_view};
+ghost use Rattle.blz_info.specs.Wanted.{is_wanted, is_placing, any_placing, bare_value, same_kind, is_alike, any_alike, bare_language, told_elsewhere, tells, wanted_in, met_view};
 
 use crate::abbreviations::AttrSpec;
 use crate::attributes::attribute;
@@ -123,24 +123,36 @@ fn any_alike(name: u64, value: AttrValue, specs: &[AttrSpec]) -> bool
     false
 }
 
-/// A later attribute tells this one again: neither takes bytes, and they have one name and values of one kind. So the
-/// later one decides, but of languages the first does.
-fn told_again(spec: AttrSpec, behind: &[AttrSpec]) -> bool
-    ensures { result ≡ told_again spec.name (bare_value spec) behind.now }
+/// The value of the first `DW_AT_language`, where that one takes no bytes.
+pub(crate) fn bare_language(specs: &[AttrSpec]) -> Option<AttrValue>
+    ensures { result ≡ bare_language specs.now }
+{
+    for spec in specs {
+        if spec.name == dwarf::DW_AT_language {
+            return bare_value(*spec);
+        }
+    }
+    None
+}
+
+/// The attribute takes no bytes, and is told elsewhere: by a later one that takes none either, of its name and a value
+/// of its kind, which decides; or as `bare_language`, since of languages the first decides.
+fn told_elsewhere(spec: AttrSpec, behind: &[AttrSpec]) -> bool
+    ensures { result ≡ told_elsewhere spec.name (bare_value spec) behind.now }
 {
     match bare_value(spec) {
-        Some(value) if spec.name != dwarf::DW_AT_language => any_alike(spec.name, value, behind),
-        _ => false,
+        Some(value) => { spec.name == dwarf::DW_AT_language || any_alike(spec.name, value, behind) }
+        None => false,
     }
 }
 
-/// The attribute at an index is wanted, and none behind it tells it again.
+/// The attribute at an index is wanted, and is not told elsewhere.
 #[tactic(auto, unfolding(crate::specs::Wanted::tells))]
 pub(crate) fn tells(spec: AttrSpec, specs: &[AttrSpec], index: usize) -> bool
     requires { index < length specs.now }
     ensures { result ≡ tells spec (drop (index + 1) specs.now) }
 {
-    is_wanted(spec.name) && !told_again(spec, &specs[index + 1..])
+    is_wanted(spec.name) && !told_elsewhere(spec, &specs[index + 1..])
 }
 
 /// The next wanted one of some attributes.

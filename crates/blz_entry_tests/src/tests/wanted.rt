@@ -95,6 +95,24 @@ fn of_attributes_without_bytes_the_last_of_a_name_and_kind_is_wanted(
     Ok(())
 }
 
+// languages of a unit: an implicit constant of 12, a byte, and an implicit constant of 4
+const LANGUAGES: &[u8] = b"\x01\x11\0\x13\x21\x0c\x13\x0b\x13\x21\x04\0\0\0";
+
+#[test]
+fn of_languages_without_bytes_the_first_is_told_by_the_abbreviation(
+    rt: HostRuntime,
+) -> Result<(), Fail> {
+    let moves = RelocationMap::new(rt.alloc());
+    let abbreviations = Abbreviations::parse(rt.alloc(), LANGUAGES, 0)?;
+    let mut entries = entries_at(b"\x01\x09", &moves, &abbreviations, 0)?;
+    entries.next_entry()?.ok_or("an entry")?;
+    assert_eq!(rt; entries.bare_language(), Some(AttrValue::Signed(12)));
+    let found = wanted(rt.alloc(), &mut entries)?;
+    assert_eq!(rt; found.as_slice(), [(0x13, AttrValue::Const(9))].as_slice());
+    assert!(rt; entries.bare_language().is_none());
+    Ok(())
+}
+
 #[test]
 fn an_entry_of_which_some_was_read_is_passed_over(rt: HostRuntime) -> Result<(), Fail> {
     let moves = RelocationMap::new(rt.alloc());

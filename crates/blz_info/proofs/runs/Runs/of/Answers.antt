@@ -18,5 +18,5 @@ pub loop-index-preserved : goal.loop-index-preserved
 loop-index-preserved c =
     rw c.in_ok-push.ensures.items (made_more _ _ _ _ _ c.args.specs.now _ _ _ _ c.loop-index-test.true c.loop-index.invariant c.wants-wanted.ensures c.run_of-run.ensures)
 
-pub returns : goal.returns
-returns c = all_made _ _ _ _ _ c.args.specs.now _ c.loop-index-test.false c.loop-index.invariant
+pub returns-clause-runs : goal.returns-clause-runs
+returns-clause-runs c = all_made _ _ _ _ _ c.args.specs.now _ c.loop-index-test.false c.loop-index.invariant
