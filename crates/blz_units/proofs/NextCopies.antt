@@ -1,17 +1,17 @@
 -- The best of all ranges and those after it, by the ranges that are kept.
-use Rattle.std.proofs.Common.{◌≡◌, ℕ, zero, suc, ◌+◌, ◌<◌, ◌≤◌, Bool, true, false, ltb, eqb, List, [], ◌∷◌, length, map, Option, Some, None, refl, sym, ap, subst, ◌∙◌, arith, inl, inr, ◌⊎◌}
-use Rattle.std.specs.Prelude.{◌&&◌, ◌||◌, option_map, IfSome}
+use Rattle.std.proofs.Common.{◌≡◌, ℕ, zero, suc, ◌+◌, ◌<◌, ◌≤◌, Bool, true, List, [], ◌∷◌, map, Option, Some, None, refl, sym, ap, subst, ◌∙◌, arith, inl, inr, ◌⊎◌}
+use Rattle.std.specs.Prelude.{◌&&◌, option_map}
 use Rattle.std.specs.List.{slice_get}
-use Rattle.std.proofs.lemmas.Bool.{cases_Bool, cases_lt, and_parts, and_from, or_cases, or_left, or_right, ltb-true, lt-ltb, eqb-true, eq-eqb}
+use Rattle.std.proofs.lemmas.Bool.{cases_lt, and_parts, and_from, or_cases, or_left, or_right, ltb-true, lt-ltb, eqb-true, eq-eqb}
 use Rattle.std.proofs.lemmas.Option.{slice_get-map, get_or_from_slice_get}
 use Rattle.blz_ranges.specs.declared.span.Span.{Span}
 use Rattle.blz_ranges.specs.declared.placed.Placed.{Placed}
 use Rattle.blz_ranges.specs.Best.{best, covers, comes_after, next, no_span, placed, NotAfter, IsBest, IsBestAt}
-use Rattle.blz_ranges.specs.Owned.{Owned, items_of, owner_at}
+use Rattle.blz_ranges.specs.Owned.{Owned, items_of}
 use Rattle.blz_ranges.proofs.BestOf.{best_is, best_is_best}
 use Rattle.blz_units.specs.declared.announced.Place.{Place}
-use Rattle.blz_units.specs.Copies.{Copy, begin_alike, begun, full_place, goes_on, has_next, moved, place_of_copy, restarted, same_number, told, AreInRows, IsPlaced}
-use Rattle.blz_units.proofs.Copies.{copy_place, AreCopies, IsCopyIn, Stands}
+use Rattle.blz_units.specs.Copies.{Copy, full_place, restarted, told, AreInRows, IsPlaced}
+use Rattle.blz_units.proofs.Copies.{copy_place, AreCopies}
 
 -- ---- ranges after another one
 

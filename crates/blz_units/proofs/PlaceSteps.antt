@@ -1,5 +1,5 @@
 -- What is next among the ranges that are kept stands for what is next among all.
-use Rattle.std.proofs.Common.{◌≡◌, ℕ, zero, suc, ◌+◌, ◌*◌, ◌^◌, ◌<◌, ◌≤◌, Bool, true, false, eqb, List, [], ◌∷◌, length, map, Option, Some, None, refl, sym, ap, subst, ◌∙◌, arith, inl, inr, ◌⊎◌}
+use Rattle.std.proofs.Common.{◌≡◌, ℕ, zero, suc, ◌+◌, ◌*◌, ◌<◌, ◌≤◌, Bool, true, false, eqb, List, [], ◌∷◌, length, Option, Some, None, refl, sym, ap, subst, ◌∙◌, arith, inl, inr, ◌⊎◌}
 use Rattle.std.specs.Prelude.{◌&&◌, option_map}
 use Rattle.std.specs.List.{slice_get}
 use Rattle.std.proofs.lemmas.Bool.{cases_lt, and_parts, and_from, eqb-true, eq-eqb, false≢true}
@@ -10,9 +10,9 @@ use Rattle.blz_ranges.specs.Groups.{AreApart}
 use Rattle.blz_ranges.specs.Owned.{Owned, items_of, owner_at}
 use Rattle.blz_ranges.proofs.BestOf.{best_is, best_is_best}
 use Rattle.blz_units.specs.declared.announced.Place.{Place}
-use Rattle.blz_units.specs.Copies.{Announced, Copy, announced_all, announced_copies, are_alike, begun, full_place, goes_on, has_next, moved, restarted, same_number, told, AreInRows, IsPlaced, StandsFor}
+use Rattle.blz_units.specs.Copies.{Announced, Copy, announced_all, announced_copies, begun, full_place, goes_on, has_next, moved, restarted, same_number, told, AreInRows, IsPlaced, StandsFor}
 use Rattle.blz_units.proofs.Copies.{are_copies, within, AreCopies}
-use Rattle.blz_units.proofs.NextCopies.{as_kept, best_none, best_some, has_item, is_at, is_next, item_at, kept_next, moved_next, moved_placed, next_is, next_placed, none_next, own_row, placed_kept, restarted_next, restarted_placed, some_is, stands_before, HasItem, IsAt, IsNext, IsNextAt}
+use Rattle.blz_units.proofs.NextCopies.{as_kept, best_none, best_some, has_item, is_at, is_next, item_at, kept_next, moved_next, moved_placed, next_is, next_placed, none_next, placed_kept, restarted_next, restarted_placed, some_is, stands_before, IsAt, IsNext}
 
 module _ (a : Announced) (rows : AreInRows a.kept.ranges a.keepers) (addr : ℕ) where
   abbrev kept : List (Owned Span)

@@ -1,4 +1,4 @@
-use Rattle.std.proofs.Common.{◌≡◌, Option, ℕ, ◌∙◌, subst}
+use Rattle.std.proofs.Common.{subst}
 use Rattle.blz_units.specs.Copies.{announced_all, announced_copies, full_place, StandsFor}
 use Rattle.blz_units.proofs.TurnSteps.{first_place, after_place}
 use Rattle.blz_units.proofs.units_at.next_place.Goals as goal

@@ -1,7 +1,7 @@
-use Rattle.std.proofs.Common.{◌≡◌, ◌<◌, ◌≤◌, List, length, ℕ, sym, ap, ◌∙◌, arith}
+use Rattle.std.proofs.Common.{◌≡◌, List, sym, ap, ◌∙◌}
 use Rattle.blz_ranges.specs.declared.span.Span.{Span}
 use Rattle.blz_ranges.specs.Best.{next}
-use Rattle.blz_ranges.specs.Owned.{Owned, items_of}
+use Rattle.blz_ranges.specs.Owned.{items_of}
 use Rattle.blz_ranges.proofs.OwnedItems.{items_owned, within_owned}
 use Rattle.blz_units.specs.Copies.{AreInRows}
 use Rattle.blz_units.proofs.Copies.{within}

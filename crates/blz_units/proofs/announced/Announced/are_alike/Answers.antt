@@ -1,10 +1,8 @@
-use Rattle.std.proofs.Common.{◌≡◌, ◌∙◌, true, false, Bool, List, ℕ, Option, refl, sym, ap}
-use Rattle.std.specs.Prelude.{◌&&◌}
+use Rattle.std.proofs.Common.{◌≡◌, ◌∙◌, true, false, refl, sym}
 use Rattle.std.specs.List.{slice_get}
-use Rattle.blz_ranges.specs.declared.span.Span.{Span}
 use Rattle.blz_ranges.specs.Owned.{items_of, owner_at}
 use Rattle.blz_ranges.proofs.OwnedItems.{items_owned}
-use Rattle.blz_units.specs.Copies.{are_alike, begin_alike, same_number}
+use Rattle.blz_units.specs.Copies.{begin_alike, same_number}
 use Rattle.blz_units.proofs.announced.Announced.are_alike.Goals as goal
 
 pub returns-then-not-same_number-clause-is : goal.returns-then-not-same_number-clause-is

@@ -1,7 +1,3 @@
-use Rattle.std.proofs.Common.{◌≡◌, ℕ, List, map, sym, ap, ◌∙◌, subst}
-use Rattle.blz_ranges.specs.declared.span.Span.{Span}
-use Rattle.blz_ranges.specs.Keyed.{IsAccepted, begin_key}
-use Rattle.blz_ranges.specs.Owned.{owned, items_of}
 use Rattle.blz_ranges.proofs.OwnedItems.{items_owned}
 use Rattle.blz_units.proofs.announced.Announced.build.Goals as goal
 

@@ -1,9 +1,9 @@
-use Rattle.std.proofs.Common.{◌≡◌, List, Option, ℕ, sym, ap, ◌∙◌, subst}
+use Rattle.std.proofs.Common.{◌≡◌, List, sym, ap, ◌∙◌}
 use Rattle.blz_ranges.specs.declared.span.Span.{Span}
 use Rattle.blz_ranges.specs.Best.{best}
 use Rattle.blz_ranges.specs.Owned.{items_of}
 use Rattle.blz_ranges.proofs.OwnedItems.{items_owned}
-use Rattle.blz_units.specs.Copies.{Announced, announced_all, begun, AreInRows, StandsFor}
+use Rattle.blz_units.specs.Copies.{Announced, AreInRows}
 use Rattle.blz_units.proofs.PlaceSteps.{first_stands, first_cost}
 use Rattle.blz_units.proofs.announced.Announced.first.Goals as goal
 
