@@ -110,3 +110,31 @@ def tails_of_a_range_list_each_behind_its_base(n):
     begin = DW_RLE_BASE_ADDRESS << 56
     lists = [bytes([DW_RLE_START_END]) + struct.pack("<QQ", begin, begin + 1 + k) for k in range(n)]
     return functions_of_tails(b"".join(lists), [at + 8 for at in begins_of(lists)])
+
+
+# ---- lists that the roots of units name
+
+
+@shape
+def one_range_list_without_ranges_of_units(n):
+    shapes = {ROOT: root(RANGES, 0)}
+    data, first = range_lists(offset_pair(1, 1) * n + b"\0")
+    return Attack(dwarf(shapes, unit(entry(shapes, ROOT, first)) * n, rnglists=data), [0])
+
+
+@shape
+def one_range_list_of_units_of_two_bases(n):
+    # the list has a base of its own, so the units announce the same ranges
+    shapes = {ROOT: root([(DW_AT_LOW_PC, DW_FORM_ADDR), *RANGES], 0)}
+    data, first = range_lists(based(BASE) + pairs(n) + b"\0")
+    units = unit(entry(shapes, ROOT, 0, first)) + unit(entry(shapes, ROOT, 1, first))
+    return Attack(dwarf(shapes, units * n, rnglists=data), [0])
+
+
+@shape
+def tails_of_a_range_list_of_units(n):
+    shapes = {ROOT: root(RANGES, 0)}
+    lists = pairs_of_a_size(n)
+    data, first = range_lists(b"".join(lists) + b"\0")
+    units = [unit(entry(shapes, ROOT, first + begin)) for begin in begins_of(lists)]
+    return Attack(dwarf(shapes, b"".join(units), rnglists=data), [0])

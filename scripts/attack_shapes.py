@@ -56,9 +56,9 @@ def one_range_list_of_units(n):
 @shape
 def two_range_lists_of_units_in_turn(n):
     shapes = {ROOT: root(RANGES, 0)}
-    half = pairs(n) + b"\0"
-    data, first = range_lists(half + half)
-    units = unit(entry(shapes, ROOT, first)) + unit(entry(shapes, ROOT, first + len(half)))
+    lists = [pairs(n) + b"\0", pairs(n + 1) + b"\0"]
+    data, first = range_lists(b"".join(lists))
+    units = unit(entry(shapes, ROOT, first)) + unit(entry(shapes, ROOT, first + len(lists[0])))
     return Attack(dwarf(shapes, units * n, rnglists=data), [0])
 
 
