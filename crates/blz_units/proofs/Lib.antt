@@ -16,3 +16,4 @@ pub mod Choosing
 pub mod PutItems
 pub mod Shared
 pub mod SharedLines
+pub mod RootKeys

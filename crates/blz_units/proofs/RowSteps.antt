@@ -1,14 +1,14 @@
 -- One unit more among those whose lists are kept once.
-use Rattle.std.proofs.Common.{◌≡◌, ℕ, zero, suc, ◌+◌, ◌-◌, ◌<◌, ◌≤◌, Bool, true, false, eqb, List, [], ◌∷◌, ◌++◌, length, map, drop, Option, Some, None, refl, sym, ap, subst, ◌∙◌, append_assoc, length-append, arith, inl, inr, ◌⊎◌}
+use Rattle.std.proofs.Common.{◌≡◌, ℕ, suc, ◌+◌, ◌-◌, ◌<◌, ◌≤◌, eqb, List, [], ◌∷◌, ◌++◌, length, map, drop, Some, refl, sym, ap, subst, ◌∙◌, append_assoc, length-append, arith, inl, inr, ◌⊎◌}
 use Rattle.std.specs.Prelude.{Result, Ok, Err, IfOk}
 use Rattle.std.specs.List.{slice_get}
-use Rattle.std.proofs.lemmas.Bool.{cases_Bool, eqb-true, eq-eqb, ne_eqb}
-use Rattle.std.proofs.lemmas.List.{append-nil, length-map}
+use Rattle.std.proofs.lemmas.Bool.{cases_Bool, eq-eqb, ne_eqb}
+use Rattle.std.proofs.lemmas.List.{append-nil}
 use Rattle.blz_ranges.specs.declared.span.Span.{Span}
 use Rattle.blz_ranges.specs.Owned.{Owned, filled_up, own_all, owned}
 use Rattle.blz_ranges.proofs.OwnedItems.{length_filled, owned_more}
 use Rattle.blz_ranges.proofs.ListEnds.{in_front, at_end, last_or}
-use Rattle.blz_units.specs.Copies.{Copy, KeptRanges, all_kept, all_ranges, copies, copies_of, list_of, told, with_list, AreInRows, AreKeptOnce, IsLastList, IsWithUnit}
+use Rattle.blz_units.specs.Copies.{Copy, KeptRanges, all_ranges, copies, copies_of, list_of, told, with_list, AreInRows, AreKeptOnce, IsOnceMore, IsWithUnit}
 use Rattle.blz_units.proofs.Copies.{in_either, within, IsBehind}
 use Rattle.blz_units.proofs.NextCopies.{mapped, some_is}
 
@@ -192,6 +192,24 @@ list_kept spans new all owners more keepers from k e same is = record {
       subst (λ (u : ℕ). list_of (owned all more) u ≡ drop (length spans) all) n (rw (is, e) (own_list (owned spans owners) keepers k.rows new ∙ sym (dropped spans new)));
 }
 
+pub again_unit : (k : KeptRanges) (rows : AreInRows k.ranges k.keepers) (keeper : ℕ) (is : slice_get k.keepers (length k.keepers - 1) ≡ Some keeper) → IsOnceMore k (record { ranges = k.ranges; keepers = k.keepers ++ keeper ∷ [] })
+again_unit k rows keeper is = λ spans last.
+    let count = length-append k.keepers (keeper ∷ []) in
+    record {
+      all = again_all k.ranges k.keepers rows keeper spans (last.list keeper is);
+      count = count;
+      last = record { some = omega arith; list = λ other has. last.list other (is ∙ ap (λ (n : ℕ). Some n) (last_is k.keepers keeper other has)) };
+    }
+
+pub list_unit : (k : KeptRanges) (rows : AreInRows k.ranges k.keepers) (spans : List Span) → IsWithUnit k spans (with_list k spans)
+list_unit k rows spans =
+    let count = length-append k.keepers (length k.keepers ∷ []) in
+    record {
+      all = list_all k.ranges k.keepers rows spans;
+      count = count;
+      last = record { some = omega arith; list = λ other has. subst (λ (n : ℕ). list_of (k.ranges ++ own_all (length k.keepers) spans) n ≡ spans) (last_is k.keepers (length k.keepers) other has) (own_list k.ranges k.keepers rows spans) };
+    }
+
 -- a list behind the others, as it is put there
 module _ (spans new all : List Span) (owners more keepers next : List ℕ) (from unit last count : ℕ) (k : AreKeptOnce spans owners keepers from)
     (is_unit : unit ≡ length keepers) (is_last : last ≡ length spans) (is_all : all ≡ spans ++ new) (is_count : count ≡ length all) (is_more : more ≡ filled_up owners unit count) (is_next : next ≡ keepers ++ unit ∷ []) where
@@ -210,14 +228,11 @@ module _ (spans new all : List Span) (owners more keepers next : List ℕ) (from
   pub put_kept : AreKeptOnce all more next last
   put_kept = rw (is_next, is_unit, is_last) (list_kept spans new all owners more keepers from k is_all same_length more_owned)
 
-  pub put_view : record { ranges = owned all more; keepers = next } ≡ with_list (record { ranges = owned spans owners; keepers = keepers }) new
+  put_view : record { ranges = owned all more; keepers = next } ≡ with_list (record { ranges = owned spans owners; keepers = keepers }) new
   put_view = rw (more_owned, is_next, is_unit) refl
 
-pub again_unit : (k : KeptRanges) (rows : AreInRows k.ranges k.keepers) (keeper : ℕ) (spans : List Span) → IsLastList k keeper spans → IsWithUnit k spans (record { ranges = k.ranges; keepers = k.keepers ++ keeper ∷ [] })
-again_unit k rows keeper spans is = record { all = again_all k.ranges k.keepers rows keeper spans is.is; count = length-append k.keepers (keeper ∷ []) }
-
-pub list_unit : (k : KeptRanges) (rows : AreInRows k.ranges k.keepers) (spans : List Span) → IsWithUnit k spans (with_list k spans)
-list_unit k rows spans = record { all = list_all k.ranges k.keepers rows spans; count = length-append k.keepers (length k.keepers ∷ []) }
+  pub put_unit : IsWithUnit (record { ranges = owned spans owners; keepers = keepers }) new (record { ranges = owned all more; keepers = next })
+  put_unit = subst (IsWithUnit (record { ranges = owned spans owners; keepers = keepers }) new) (sym put_view) (list_unit (record { ranges = owned spans owners; keepers = keepers }) k.rows new)
 
 pub no_rows : AreKeptOnce [] [] [] 0
 no_rows = record {

@@ -99,7 +99,7 @@ unfolding table_of
 table_same s h g r q header wide base =
     covered_behind (program_of _ header) _ _ (λ state. covered_by state.sequences _ _ (names_same s h g r q header.version header.paths.directories state.files wide base))
 
-lines_same : (s : Sections) (h g : UnitHeader) (r q : UnitRoot) (at : ℕ) → lines_key h r ≡ lines_key g q → sequences_of (maybe_table s h r (Some at)) ≡ sequences_of (maybe_table s g q (Some at))
+pub lines_same : (s : Sections) (h g : UnitHeader) (r q : UnitRoot) (at : ℕ) → lines_key h r ≡ lines_key g q → sequences_of (maybe_table s h r (Some at)) ≡ sequences_of (maybe_table s g q (Some at))
 unfolding table_at
 lines_same s h g r q at e =
     let size : h.address_size ≡ g.address_size = ap (λ (k : LinesKey). k.address_size) e in

@@ -1,6 +1,6 @@
 -- What units announce, kept once for those in a row that announce one list, and all that it stands for. The first of such
 -- units is the keeper of each of them, and what is kept belongs to keepers.
-use Rattle.std.specs.Prelude.{◌≡◌, ℕ, suc, ◌+◌, ◌-◌, ◌≤◌, Bool, true, false, List, [], ◌∷◌, ◌++◌, length, drop, map, Option, Some, None, IfSome, ◌&&◌, ◌==◌, if◌then◌else◌, option_map}
+use Rattle.std.specs.Prelude.{◌≡◌, ℕ, suc, ◌+◌, ◌-◌, ◌<◌, ◌≤◌, Bool, true, false, List, [], ◌∷◌, ◌++◌, length, drop, map, Option, Some, None, IfSome, ◌&&◌, ◌==◌, if◌then◌else◌, option_map}
 use Rattle.std.specs.List.{slice_get}
 use Rattle.blz_ranges.specs.declared.span.Span.{Span}
 use Rattle.blz_ranges.specs.Best.{covers}
@@ -72,19 +72,24 @@ pub record AreKeptOnce (spans : List Span) (owners keepers : List ℕ) (last : �
   pub within : last ≤ length spans
   pub list : (keeper : ℕ) → slice_get keepers (length keepers - 1) ≡ Some keeper → list_of (owned spans owners) keeper ≡ drop last spans
 
--- the last unit has a keeper, and announces a list
-pub record IsLastList (k : KeptRanges) (keeper : ℕ) (spans : List Span) : Type 0 where
-  pub last : slice_get k.keepers (length k.keepers - 1) ≡ Some keeper
-  pub is : list_of k.ranges keeper ≡ spans
+-- There is a last unit, and it announces a list.
+pub record IsLastList (k : KeptRanges) (spans : List Span) : Type 0 where
+  pub some : 0 < length k.keepers
+  pub list : (keeper : ℕ) → slice_get k.keepers (length k.keepers - 1) ≡ Some keeper → list_of k.ranges keeper ≡ spans
 
 -- one unit more, which is its own keeper
 abbrev pub with_list : KeptRanges → List Span → KeptRanges
 with_list k spans = record { ranges = k.ranges ++ own_all (length k.keepers) spans; keepers = k.keepers ++ length k.keepers ∷ [] }
 
--- one unit more
+-- one unit more, which announces a list
 pub record IsWithUnit (old : KeptRanges) (spans : List Span) (new : KeptRanges) : Type 0 where
   pub all : all_kept new ≡ all_kept old ++ own_all (length old.keepers) spans
   pub count : length new.keepers ≡ length old.keepers + 1
+  pub last : IsLastList new spans
+
+-- one unit more, which announces what the last one does
+abbrev pub IsOnceMore : KeptRanges → KeptRanges → Type 0
+IsOnceMore old new = (spans : List Span) → IsLastList old spans → IsWithUnit old spans new
 
 -- ---- the ranges that cover an address, one after the other
 

@@ -1,5 +1,7 @@
 pub mod BuiltUnits
 pub mod Sharing
+pub mod RootKeys
+pub mod Keeping
 pub mod Sets
 pub mod UnitTables
 pub mod UnitLists

@@ -74,14 +74,6 @@ announces s sets h =
     if is_type h.kind then Some None else (
     if is_partial h.kind then Some (Some []) else by_pairs (named s.aranges h.start sets) (built s h))
 
--- ranges behind others, and whether there is a unit that has them
-abbrev pub added : List Span → Option (List Span) → List Span × Bool
-added old None = (old, false)
-added old (Some spans) = (old ++ spans, true)
-
-abbrev pub added_to : List Span → Option (Option (List Span)) → Option (List Span × Bool)
-added_to old spans = spans >>= λ new. Some (added old new)
-
 -- the ranges of a root behind others
 abbrev pub root_behind : UnitParts → List Span → Option (List Span)
 root_behind u old = root_spans u >>= λ spans. Some (old ++ spans)

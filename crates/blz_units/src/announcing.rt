@@ -1,5 +1,6 @@
 //! What a unit announces.
-ghost use Rattle.std.specs.Prelude.{◌≡◌, ◌≢◌, ◌++◌, Option, Some, is_some, IfOk, IfSome, MatchResult, OnOk, option_map};
+ghost use Rattle.std.specs.Prelude.{◌≡◌, ◌≢◌, ◌++◌, Option, Some, IfOk, MatchResult, OnOk, option_map};
+ghost use Rattle.std.specs.Bool.{OnTrue};
 ghost use Rattle.blz_error.specs.declared.kind.ErrorKind.TheVariants.{OutOfMemory};
 ghost use Rattle.blz_model.specs.Part.{Good, Gives};
 ghost use Rattle.blz_info.specs.Marks.{or_invalid};
@@ -8,14 +9,17 @@ ghost use Rattle.blz_line.specs.UnitLines.{OrderedLines};
 ghost use Rattle.blz_units.specs.BuiltUnits.{built, built_view, files_view, BuiltFits, IsReadable};
 ghost use Rattle.blz_units.specs.KeptParts.{IsPartOf};
 ghost use Rattle.blz_functions.specs.Opened.{open_view};
+ghost use Rattle.blz_units.specs.Keeping.{HasPartOf, IsToldOr};
+ghost use Rattle.blz_units.specs.RootKeys.{IsKeyOf, IsToldByLast};
 ghost use Rattle.blz_units.specs.Sharing.{AreShared};
 ghost use Rattle.blz_units.specs.declared.dwarf.Origin.TheVariants.{Main};
 ghost use Rattle.blz_units.specs.UnitLists.{IsInPlace};
-ghost use Rattle.blz_units.specs.UnitTables.{added_to, announces, by_root, is_type, is_partial, lines_in, root_behind, sequences_of};
+ghost use Rattle.blz_units.specs.UnitTables.{announces, by_root, is_type, is_partial, lines_in, root_behind, sequences_of};
 
 use crate::address_sets::AddressSets;
 use crate::built_unit::{BuiltUnit, may_be_split};
 use crate::dwarf::{Dwarf, Origin};
+use crate::root_key::{RootKey, is_of_last, program_key, ranges_key};
 use crate::shared_lines::{ProgramSpans, lines_key};
 use crate::shared_parts::SharedParts;
 use blz_bytes::AsTheyStand;
@@ -25,6 +29,17 @@ use blz_functions::OpenUnit;
 use blz_line::{LineSequence, Lines};
 use blz_model::Cache;
 use std::alloc::{AllocError, Global};
+
+/// What a unit announces, and what is kept of the unit itself: the unit where it had to be built.
+#[derive(Drop)]
+pub enum Announcement {
+    /// Nothing: it is not kept.
+    NotKept,
+    /// What the last unit does, by the key of its root.
+    Again(Cache<BuiltUnit>),
+    /// Some ranges, with the key of its root where that tells them.
+    Ranges(Vec<Span>, Cache<BuiltUnit>, Option<RootKey>),
+}
 
 /// Whether a unit is a type unit.
 pub fn is_type(kind: UnitKind) -> bool
@@ -154,21 +169,25 @@ fn append_shared(
     }
 }
 
-/// Appends the ranges of the root of a unit, and where there are none what the sequences of its lines cover.
+/// Appends the ranges of the root of a unit, and where there are none what the sequences of its lines cover. Gives the key
+/// by which that is told.
 fn append_root(
     alloc: Global,
     shared: &mut SharedParts,
     unit: &OpenUnit<'_, '_>,
     out: &mut Vec<Span>,
-) -> Result<()>
+) -> Result<RootKey>
     requires { AreShared (open_view unit.now).sections shared.old }
     ensures value { Gives (λ _. out.new.items) result (or_invalid (root_behind (open_view unit.now) out.old.items)) }
+    ensures key { IfOk result (IsKeyOf (open_view unit.now)) }
     ensures shared { AreShared (open_view unit.now).sections shared.new }
 {
+    let ranges = ranges_key(unit);
     if unit.append_ranges(&unit.root.ranges, out)? {
-        return Ok(());
+        return Ok(RootKey::ByRanges(ranges));
     }
-    append_shared(alloc, shared, unit, out)
+    append_shared(alloc, shared, unit, out)?;
+    Ok(RootKey::ByLines(ranges, program_key(unit)))
 }
 
 /// The same of a unit of the main file that is built.
@@ -178,12 +197,13 @@ fn append_unit(
     shared: &mut SharedParts,
     unit: &BuiltUnit,
     out: &mut Vec<Span>,
-) -> Result<()>
+) -> Result<RootKey>
     requires readable { IsReadable dwarf.now }
     requires fits { BuiltFits (files_view dwarf.now) unit.now }
     requires main { unit.now.origin ≡ Main }
     requires shared { AreShared (files_view dwarf.now).main shared.old }
     ensures value { Gives (λ _. out.new.items) result (or_invalid (root_behind (built_view (files_view dwarf.now) unit.now) out.old.items)) }
+    ensures key { IfOk result (IsKeyOf (built_view (files_view dwarf.now) unit.now)) }
     ensures shared { AreShared (files_view dwarf.now).main shared.new }
 {
     append_root(alloc, shared, &unit.open(dwarf), out)
@@ -207,61 +227,94 @@ fn kept_of(
     Cache::Value(unit)
 }
 
-/// Appends what a unit that no set names announces, and gives what is kept of it; None where it is not kept, as it cannot
-/// be built.
-fn append_built(
+/// Whether a unit announces what the key of the last one tells.
+fn repeats_last(dwarf: &Dwarf<'_, '_>, unit: &BuiltUnit, last: Option<RootKey>) -> bool
+    requires readable { IsReadable dwarf.now }
+    requires fits { BuiltFits (files_view dwarf.now) unit.now }
+    ensures { OnTrue result (IsToldByLast last (built_view (files_view dwarf.now) unit.now)) }
+{
+    is_of_last(last, &unit.open(dwarf))
+}
+
+/// What a unit announces that is built: nothing is read where the key of the last one tells it.
+fn announced_by(
     alloc: Global,
     dwarf: &Dwarf<'_, '_>,
     shared: &mut SharedParts,
     header: &UnitHeader,
-    out: &mut Vec<Span>,
-) -> Result<Option<Cache<BuiltUnit>>>
+    unit: BuiltUnit,
+    last: Option<RootKey>,
+) -> Result<Announcement>
+    requires readable { IsReadable dwarf.now }
+    requires fits { BuiltFits (files_view dwarf.now) unit }
+    requires main { unit.origin ≡ Main }
+    requires is { or_invalid (built (files_view dwarf.now).main header.now) ≡ Good (built_view (files_view dwarf.now) unit) }
+    requires shared { AreShared (files_view dwarf.now).main shared.old }
+    ensures told { IsToldOr (files_view dwarf.now).main last (by_root (built (files_view dwarf.now).main header.now)) result }
+    ensures part { IfOk result (HasPartOf (files_view dwarf.now) header.now) }
+    ensures shared { AreShared (files_view dwarf.now).main shared.new }
+{
+    if repeats_last(dwarf, &unit, last) {
+        return Ok(Announcement::Again(kept_of(dwarf, shared, header, unit)));
+    }
+    let mut spans = Vec::new(alloc);
+    let key = append_unit(alloc, dwarf, shared, &unit, &mut spans)?;
+    let part = kept_of(dwarf, shared, header, unit);
+    Ok(Announcement::Ranges(spans, part, Some(key)))
+}
+
+/// What a unit announces that no set names. It is not kept where it cannot be built.
+fn announced_by_root(
+    alloc: Global,
+    dwarf: &Dwarf<'_, '_>,
+    shared: &mut SharedParts,
+    header: &UnitHeader,
+    last: Option<RootKey>,
+) -> Result<Announcement>
     requires readable { IsReadable dwarf.now }
     requires in_place { IsInPlace header.now }
     requires shared { AreShared (files_view dwarf.now).main shared.old }
-    ensures value { Gives (λ kept. (out.new.items, is_some kept)) result (or_invalid (added_to out.old.items (by_root (built (files_view dwarf.now).main header.now)))) }
-    ensures part { IfOk result (λ kept. IfSome kept (IsPartOf (files_view dwarf.now) header.now)) }
+    ensures told { IsToldOr (files_view dwarf.now).main last (by_root (built (files_view dwarf.now).main header.now)) result }
+    ensures part { IfOk result (HasPartOf (files_view dwarf.now) header.now) }
     ensures shared { AreShared (files_view dwarf.now).main shared.new }
 {
-    let unit = match BuiltUnit::of_file(alloc, dwarf, shared, Origin::Main, header) {
-        Ok(unit) => unit,
+    match BuiltUnit::of_file(alloc, dwarf, shared, Origin::Main, header) {
+        Ok(unit) => announced_by(alloc, dwarf, shared, header, unit, last),
         Err(fault) => {
             unless_memory(fault)?;
-            return Ok(None);
-        }
-    };
-    append_unit(alloc, dwarf, shared, &unit, out)?;
-    Ok(Some(kept_of(dwarf, shared, header, unit)))
+            Ok(Announcement::NotKept)
+        },
+    }
 }
 
-/// Appends what a unit announces, and gives what is kept of it: the unit itself where it had to be built; None where the
-/// unit is not kept. InvalidDwarf exactly where the list of ranges of its root is needed and has no value.
+/// What a unit announces, by the key of the last one where that tells it. InvalidDwarf exactly where the list of ranges of
+/// its root is needed and has no value.
 #[tactic(auto, unfolding(crate::specs::UnitTables::announces))]
-pub fn append_announced(
+pub fn announced(
     alloc: Global,
     dwarf: &Dwarf<'_, '_>,
     sets: &AddressSets,
     shared: &mut SharedParts,
     header: &UnitHeader,
-    out: &mut Vec<Span>,
-) -> Result<Option<Cache<BuiltUnit>>>
+    last: Option<RootKey>,
+) -> Result<Announcement>
     requires readable { IsReadable dwarf.now }
     requires in_place { IsInPlace header.now }
     requires shared { AreShared (files_view dwarf.now).main shared.old }
-    ensures value { Gives (λ kept. (out.new.items, is_some kept)) result (or_invalid (added_to out.old.items (announces (files_view dwarf.now).main sets.now header.now))) }
-    ensures part { IfOk result (λ kept. IfSome kept (IsPartOf (files_view dwarf.now) header.now)) }
+    ensures told { IsToldOr (files_view dwarf.now).main last (announces (files_view dwarf.now).main sets.now header.now) result }
+    ensures part { IfOk result (HasPartOf (files_view dwarf.now) header.now) }
     ensures shared { AreShared (files_view dwarf.now).main shared.new }
 {
     if is_type(header.kind) {
-        return Ok(None);
+        return Ok(Announcement::NotKept);
     }
+    let mut spans = Vec::new(alloc);
     if is_partial(header.kind) {
-        return Ok(Some(Cache::Empty));
+        return Ok(Announcement::Ranges(spans, Cache::Empty, None));
     }
-    let before = out.len();
-    sets.append_ranges(&dwarf.main.aranges, header.start, out)?;
-    if out.len() > before {
-        return Ok(Some(Cache::Empty));
+    sets.append_ranges(&dwarf.main.aranges, header.start, &mut spans)?;
+    if !spans.is_empty() {
+        return Ok(Announcement::Ranges(spans, Cache::Empty, None));
     }
-    append_built(alloc, dwarf, shared, header, out)
+    announced_by_root(alloc, dwarf, shared, header, last)
 }

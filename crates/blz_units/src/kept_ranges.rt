@@ -1,9 +1,8 @@
 //! The ranges that units announce, while the units are read.
-ghost use Rattle.std.specs.Prelude.{◌≡◌, ◌-◌, ◌++◌, ◌∷◌, [], length, IfOk, IfSome, Some};
+ghost use Rattle.std.specs.Prelude.{◌≡◌, ◌<◌, [], length, IfOk};
 ghost use Rattle.std.specs.Bool.{OnTrue};
-ghost use Rattle.std.specs.List.{slice_get};
 ghost use Rattle.blz_ranges.specs.Owned.{owned};
-ghost use Rattle.blz_units.specs.Copies.{with_list, AreInRows, IsLastList, IsWithUnit};
+ghost use Rattle.blz_units.specs.Copies.{AreInRows, IsLastList, IsOnceMore, IsWithUnit};
 
 use blz_ranges::{Span, own};
 use std::alloc::{AllocError, Global};
@@ -59,30 +58,29 @@ impl KeptRanges {
         }
     }
 
-    /// The keeper of the last unit, where that announces a list.
-    fn keeper_of(&self, spans: &[Span]) -> Option<usize>
-        ensures last { IfSome result (λ keeper. IsLastList self.now keeper spans.now) }
-        ensures rows { AreInRows self.now.ranges self.now.keepers }
+    /// Whether the last unit announces a list.
+    fn has_last(&self, spans: &[Span]) -> bool
+        ensures { OnTrue result (IsLastList self.now spans.now) }
     {
-        let keeper = self.keepers.last().copied()?;
-        if are_same(&self.spans[self.last..], spans) {
-            return Some(keeper);
+        if self.keepers.is_empty() {
+            return false;
         }
-        None
+        are_same(&self.spans[self.last..], spans)
     }
 
     /// One unit more, which announces what the last one does.
-    fn again(mut self, keeper: usize) -> Result<KeptRanges, AllocError>
-        requires { slice_get self.keepers (length self.keepers - 1) ≡ Some keeper }
-        ensures { IfOk result (λ k. k ≡ record { ranges = self.ranges; keepers = self.keepers ++ keeper ∷ [] }) }
+    pub fn again(mut self) -> Result<KeptRanges, AllocError>
+        requires { 0 < length self.keepers }
+        ensures { IfOk result (IsOnceMore self) }
     {
+        let keeper = self.keepers[self.keepers.len() - 1];
         self.keepers.push(keeper)?;
         Ok(self)
     }
 
     /// One unit more, with ranges of its own.
     fn with_list(mut self, spans: &[Span]) -> Result<KeptRanges, AllocError>
-        ensures { IfOk result (λ k. k ≡ with_list self spans.now) }
+        ensures { IfOk result (IsWithUnit self spans.now) }
     {
         let unit = self.keepers.len();
         let last = self.spans.len();
@@ -95,11 +93,12 @@ impl KeptRanges {
 
     /// One unit more, which announces some ranges.
     pub fn with_unit(self, spans: &[Span]) -> Result<KeptRanges, AllocError>
-        ensures { IfOk result (λ k. IsWithUnit self spans.now k) }
+        ensures { IfOk result (IsWithUnit self spans.now) }
     {
-        match self.keeper_of(spans) {
-            Some(keeper) => self.again(keeper),
-            None => self.with_list(spans),
+        if self.has_last(spans) {
+            self.again()
+        } else {
+            self.with_list(spans)
         }
     }
 

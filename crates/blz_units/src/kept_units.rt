@@ -1,22 +1,22 @@
 //! The units of a file that are kept, and the ranges that they announce.
-ghost use Rattle.std.specs.Prelude.{◌≡◌, ◌++◌, ◌∷◌, [], length, IfOk};
+ghost use Rattle.std.specs.Prelude.{◌≡◌, ◌+◌, ◌++◌, ◌∷◌, [], None, length, IfOk};
 ghost use Rattle.blz_model.specs.Part.{Gives};
 ghost use Rattle.blz_info.specs.Marks.{or_invalid};
 ghost use Rattle.blz_units.specs.BuiltUnits.{files_view, IsReadable};
+ghost use Rattle.blz_units.specs.Keeping.{units_told, IsLastKey};
 ghost use Rattle.blz_units.specs.KeptParts.{SideFits};
 ghost use Rattle.blz_units.specs.declared.built_units.Side.TheVariants.{File};
-ghost use Rattle.blz_ranges.specs.Owned.{own_all};
-ghost use Rattle.blz_units.specs.Copies.{all_kept};
 ghost use Rattle.blz_units.specs.UnitLists.{EndBefore, IsInPlace};
 ghost use Rattle.blz_units.specs.UnitTables.{with_unit, no_units, units_kept};
 
 use crate::address_sets::AddressSets;
-use crate::announcing::append_announced;
+use crate::announcing::{Announcement, announced};
 use crate::built_units::SideUnits;
 use crate::dwarf::Dwarf;
 use crate::kept_ranges::KeptRanges;
+use crate::root_key::RootKey;
 use crate::unit_list::UnitList;
-use blz_entry::{Span, UnitHeader, UnitHeaders};
+use blz_entry::{UnitHeader, UnitHeaders};
 use blz_error::Result;
 use std::alloc::{AllocError, Global};
 use std::marker::Model;
@@ -26,45 +26,47 @@ use std::marker::Model;
 pub struct KeptUnits {
     kept: UnitList,
     ranges: KeptRanges,
+    /// What tells what the last unit announces, where its root does.
+    key: Option<RootKey>,
 }
 
 impl Model for KeptUnits {
     ghost use Rattle.std.specs.Prelude.{◌≡◌, length};
-    ghost use Rattle.blz_units.specs.Copies.{all_kept};
-    ghost use Rattle.blz_units.specs.UnitTables.{KeptUnits};
+    ghost use Rattle.blz_units.specs.Keeping.{Keeping};
 
-    ghost Value = { KeptUnits };
+    ghost Value = { Keeping };
 
-    ghost view = { λ k. record { kept = k.kept; announced = all_kept k.ranges } };
+    ghost view = { λ k. record { kept = k.kept; ranges = k.ranges; key = k.key } };
 
     ghost invariant = { λ k. length k.ranges.keepers ≡ length k.kept };
 }
 
-/// Keeps a unit with what it announces.
+/// One unit more, with the ranges as they are kept then.
 fn keep(
     mut kept: UnitList,
     ranges: KeptRanges,
     header: UnitHeader,
-    spans: &[Span],
+    key: Option<RootKey>,
 ) -> std::result::Result<KeptUnits, AllocError>
     requires in_place { IsInPlace header }
     requires behind { EndBefore kept header.start }
-    requires same { length ranges.keepers ≡ length kept }
-    ensures { IfOk result (λ k. k ≡ record { kept = kept ++ header ∷ []; announced = all_kept ranges ++ own_all (length kept) spans.now }) }
+    requires count { length ranges.keepers ≡ length kept + 1 }
+    ensures { IfOk result (λ k. k ≡ record { kept = kept ++ header ∷ []; ranges = ranges; key = key }) }
 {
-    let ranges = ranges.with_unit(spans)?;
     kept.push(header)?;
-    Ok(KeptUnits { kept, ranges })
+    Ok(KeptUnits { kept, ranges, key })
 }
 
 impl KeptUnits {
     #[tactic(auto, unfolding(crate::specs::Copies::copies))]
     fn new(alloc: Global) -> KeptUnits
-        ensures { result ≡ no_units }
+        ensures told { units_told result ≡ no_units }
+        ensures key { result.key ≡ None }
     {
         KeptUnits {
             kept: UnitList::new(alloc),
             ranges: KeptRanges::new(alloc),
+            key: None,
         }
     }
 
@@ -80,21 +82,27 @@ impl KeptUnits {
         requires readable { IsReadable dwarf.now }
         requires in_place { IsInPlace header }
         requires behind { EndBefore self.kept header.start }
+        requires last { IsLastKey (files_view dwarf.now).main self }
         requires fits { SideFits (files_view dwarf.now) File self.kept built.old }
-        ensures value { Gives (λ k. k) result (or_invalid (with_unit (files_view dwarf.now).main sets.now self header)) }
+        ensures value { Gives units_told result (or_invalid (with_unit (files_view dwarf.now).main sets.now (units_told self) header)) }
         ensures behind { IfOk result (λ k. EndBefore k.kept header.end) }
+        ensures last { IfOk result (IsLastKey (files_view dwarf.now).main) }
         ensures fits { IfOk result (λ k. SideFits (files_view dwarf.now) File k.kept built.new) }
     {
-        let KeptUnits { kept, ranges } = self;
-        let mut spans = Vec::new(alloc);
-        let part = append_announced(alloc, dwarf, sets, &mut built.shared, &header, &mut spans)?;
-        match part {
-            Some(unit) => {
-                let units = keep(kept, ranges, header, spans.as_slice())?;
+        let KeptUnits { kept, ranges, key } = self;
+        let told = announced(alloc, dwarf, sets, &mut built.shared, &header, key)?;
+        match told {
+            Announcement::NotKept => Ok(KeptUnits { kept, ranges, key }),
+            Announcement::Again(unit) => {
+                let ranges = ranges.again()?;
                 built.units.push(unit)?;
-                Ok(units)
+                Ok(keep(kept, ranges, header, key)?)
             },
-            None => Ok(KeptUnits { kept, ranges }),
+            Announcement::Ranges(spans, unit, key) => {
+                let ranges = ranges.with_unit(spans.as_slice())?;
+                built.units.push(unit)?;
+                Ok(keep(kept, ranges, header, key)?)
+            },
         }
     }
 
@@ -106,7 +114,7 @@ impl KeptUnits {
         sets: &AddressSets,
     ) -> Result<(KeptUnits, SideUnits)>
         requires { IsReadable dwarf.now }
-        ensures value { Gives (λ r. r.0) result (or_invalid (units_kept (files_view dwarf.now).main sets.now)) }
+        ensures value { Gives (λ r. units_told r.0) result (or_invalid (units_kept (files_view dwarf.now).main sets.now)) }
         ensures fits { IfOk result (λ r. SideFits (files_view dwarf.now) File r.0.kept r.1) }
     {
         let mut headers = UnitHeaders::new(dwarf.main.info);
@@ -121,7 +129,7 @@ impl KeptUnits {
     /// The units, and the ranges that they announce.
     pub fn into_parts(self) -> (UnitList, KeptRanges)
         ensures kept { result.0 ≡ self.kept }
-        ensures announced { all_kept result.1 ≡ self.announced }
+        ensures ranges { result.1 ≡ self.ranges }
     {
         (self.kept, self.ranges)
     }

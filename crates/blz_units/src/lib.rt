@@ -12,6 +12,7 @@ mod kept_ranges;
 mod kept_units;
 pub mod long_entries;
 pub mod look;
+mod root_key;
 mod shared_lines;
 pub mod shared_parts;
 mod shared_tables;

@@ -37,7 +37,7 @@ pub fn lines_key(header: &UnitHeader, root: &UnitRoot) -> LinesKey
 
 impl LinesKey {
     #[tactic(auto, using(crate::proofs::SharedLines::same_key))]
-    fn is(self, other: LinesKey) -> bool
+    pub fn is(self, other: LinesKey) -> bool
         ensures { OnTrue result (self ≡ other) }
     {
         if self.address_size == other.address_size

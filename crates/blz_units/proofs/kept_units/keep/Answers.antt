@@ -5,7 +5,6 @@ pub invariant_of-result : goal.invariant_of-result
 invariant_of-result c =
     let a = ap length c.in_ok-push.ensures in
     let b = length-append c.args.kept (c.args.header ∷ []) in
-    let d = c.in_ok-ranges.ensures.count in
-    let e = c.requires.same in
-    let same : length c.in_ok-ranges.ranges.keepers ≡ length c.push.new.self = omega arith in
+    let d = c.requires.count in
+    let same : length c.args.ranges.keepers ≡ length c.push.new.self = omega arith in
     same

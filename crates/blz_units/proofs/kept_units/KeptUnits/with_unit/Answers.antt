@@ -1,60 +1,106 @@
-use Rattle.std.proofs.Common.{List, refl, ap, sym, subst, arith}
+use Rattle.std.proofs.Common.{List, refl, ap, subst, sym, arith}
 use Rattle.std.proofs.lemmas.Result.{err_from_is_err_and}
 use Rattle.blz_info.specs.Marks.{or_invalid}
-use Rattle.blz_info.specs.declared.units.UnitHeader.{UnitHeader}
-use Rattle.blz_info.proofs.Marked.{good_some}
-use Rattle.blz_units.specs.UnitLists.{EndBefore}
-use Rattle.blz_units.specs.UnitTables.{KeptUnits, with_unit}
+use Rattle.blz_ranges.specs.declared.span.Span.{Span}
 use Rattle.blz_units.specs.BuiltUnits.{files_view}
+use Rattle.blz_units.specs.Copies.{IsWithUnit}
 use Rattle.blz_units.specs.KeptParts.{SideFits}
+use Rattle.blz_units.specs.Keeping.{Keeping, units_told}
+use Rattle.blz_units.specs.UnitTables.{announces, with_unit}
 use Rattle.blz_units.specs.declared.built_units.Side.TheVariants.{File}
 use Rattle.blz_units.proofs.BuiltSteps.{side_more, side_same}
-use Rattle.blz_units.proofs.KeepSteps.{kept_fails, kept_more, kept_same}
-use Rattle.blz_units.proofs.UnitsInPlace.{end_more, end_later}
+use Rattle.blz_units.proofs.KeepSteps.{again_next, kept_fails, kept_same, more_behind, next_key, next_more, same_behind, some_kept, view_behind, IsNext}
 use Rattle.blz_units.proofs.kept_units.KeptUnits.with_unit.Goals as goal
 
-pub returns-in_err-part-clause-value : goal.returns-in_err-part-clause-value
+pub returns-in_err-told-clause-value : goal.returns-in_err-told-clause-value
 unfolding with_unit
-returns-in_err-part-clause-value c =
+returns-in_err-told-clause-value c =
     let p = err_from_is_err_and c.from_residual.result c.from_residual.ensures.1 in
-    rw (p.1, p.2) (kept_fails c.args.self c.args.header _ _ _ c.in_err-part.ensures.value)
+    rw (p.1, p.2) (kept_fails (units_told c.args.self) c.args.header _ _ c.in_err-told.ensures.told)
+
+-- ---- a unit that is not kept
+
+pub returns-in-NotKept-clause-value : goal.returns-in-NotKept-clause-value
+unfolding with_unit
+returns-in-NotKept-clause-value c =
+    let is = rw c.in-NotKept.is at c.in_ok-told.ensures.told in
+    rw (← c.self.view_is) (ap or_invalid (kept_same _ c.args.header _ is))
+
+pub returns-in-NotKept-clause-behind : goal.returns-in-NotKept-clause-behind
+returns-in-NotKept-clause-behind c = same_behind c.args.self (record { kept = c.self.inside.kept; ranges = c.self.inside.ranges; key = c.self.inside.key }) c.self.view_is c.args.header c.requires.behind c.requires.in_place
+
+pub returns-in-NotKept-clause-fits : goal.returns-in-NotKept-clause-fits
+returns-in-NotKept-clause-fits c =
+    let f = files_view c.args.dwarf.now in
+    let before = subst (λ (k : Keeping). SideFits f File k.kept c.args.built.now) (sym c.self.view_is) c.requires.fits in
+    side_same f c.self.inside.kept c.args.built.now _ refl c.announced.ensures.shared before
+
+-- ---- a unit that announces what the last one does
+
+pub again-requires : goal.again-requires
+again-requires c = some_kept (files_view c.args.dwarf.now).main c.args.self (record { kept = c.self.inside.kept; ranges = c.self.inside.ranges; key = c.self.inside.key }) c.self.view_is c.requires.last (announces (files_view c.args.dwarf.now).main c.args.sets.now c.args.header) (rw c.in-Again.is at c.in_ok-told.ensures.told)
 
 pub keep-requires-clause-behind : goal.keep-requires-clause-behind
-keep-requires-clause-behind c = subst (λ (units : List UnitHeader). EndBefore units c.args.header.start) (sym (ap (λ (v : KeptUnits). v.kept) c.self.view_is)) c.requires.behind
+keep-requires-clause-behind c = view_behind c.args.self (record { kept = c.self.inside.kept; ranges = c.self.inside.ranges; key = c.self.inside.key }) c.self.view_is c.args.header c.requires.behind c.requires.in_place
 
-pub keep-requires-clause-same : goal.keep-requires-clause-same
-keep-requires-clause-same c = c.self.invariant
+pub keep-requires-clause-count : goal.keep-requires-clause-count
+keep-requires-clause-count c =
+    let next : IsNext (files_view c.args.dwarf.now).main c.self.inside.ranges c.in_ok-ranges-in-Again.ranges c.self.inside.key (announces (files_view c.args.dwarf.now).main c.args.sets.now c.args.header) = again_next (files_view c.args.dwarf.now).main c.args.self (record { kept = c.self.inside.kept; ranges = c.self.inside.ranges; key = c.self.inside.key }) c.self.view_is c.requires.last (announces (files_view c.args.dwarf.now).main c.args.sets.now c.args.header) (rw c.in-Again.is at c.in_ok-told.ensures.told) c.in_ok-ranges-in-Again.ranges c.in_ok-ranges-in-Again.ensures in
+    let count = next.with_unit.count in
+    let same = c.self.invariant in
+    omega arith
 
-pub returns-in-Some-clause-value : goal.returns-in-Some-clause-value
+pub returns-in_ok-keep-in-Again-clause-value : goal.returns-in_ok-keep-in-Again-clause-value
 unfolding with_unit
-returns-in-Some-clause-value c =
-    let is = good_some _ _ (rw c.in-Some.is at c.in_ok-part.ensures.value) in
-    rw (← c.self.view_is, c.in_ok-units-in-Some.ensures, c.as_slice.ensures.value) (ap or_invalid (kept_more _ c.args.header _ _ _ c.new-spans.ensures.items is))
+returns-in_ok-keep-in-Again-clause-value c =
+    let next : IsNext (files_view c.args.dwarf.now).main c.self.inside.ranges c.in_ok-ranges-in-Again.ranges c.self.inside.key (announces (files_view c.args.dwarf.now).main c.args.sets.now c.args.header) = again_next (files_view c.args.dwarf.now).main c.args.self (record { kept = c.self.inside.kept; ranges = c.self.inside.ranges; key = c.self.inside.key }) c.self.view_is c.requires.last (announces (files_view c.args.dwarf.now).main c.args.sets.now c.args.header) (rw c.in-Again.is at c.in_ok-told.ensures.told) c.in_ok-ranges-in-Again.ranges c.in_ok-ranges-in-Again.ensures in
+    rw (← c.self.view_is, c.in_ok-keep-in-Again.ensures) (ap or_invalid (next_more (files_view c.args.dwarf.now).main (record { kept = c.self.inside.kept; ranges = c.self.inside.ranges; key = c.self.inside.key }) c.args.header c.in_ok-ranges-in-Again.ranges c.self.inside.key (announces (files_view c.args.dwarf.now).main c.args.sets.now c.args.header) c.self.invariant next))
 
-pub returns-in-Some-clause-behind : goal.returns-in-Some-clause-behind
-returns-in-Some-clause-behind c =
-    let behind = subst (λ (units : List UnitHeader). EndBefore units c.args.header.start) (sym (ap (λ (v : KeptUnits). v.kept) c.self.view_is)) c.requires.behind in
-    subst (λ (units : List UnitHeader). EndBefore units c.args.header.end) (sym (ap (λ (v : KeptUnits). v.kept) c.in_ok-units-in-Some.ensures)) (end_more c.self.inside.kept c.args.header c.args.header.start behind (omega arith) c.requires.in_place)
+pub returns-in_ok-keep-in-Again-clause-behind : goal.returns-in_ok-keep-in-Again-clause-behind
+returns-in_ok-keep-in-Again-clause-behind c = more_behind c.args.self (record { kept = c.self.inside.kept; ranges = c.self.inside.ranges; key = c.self.inside.key }) c.self.view_is c.args.header c.requires.behind c.requires.in_place c.in_ok-keep-in-Again.field-0 c.in_ok-ranges-in-Again.ranges c.self.inside.key c.in_ok-keep-in-Again.ensures
 
-pub returns-clause-value : goal.returns-clause-value
+pub returns-in_ok-keep-in-Again-clause-last : goal.returns-in_ok-keep-in-Again-clause-last
+returns-in_ok-keep-in-Again-clause-last c =
+    let next : IsNext (files_view c.args.dwarf.now).main c.self.inside.ranges c.in_ok-ranges-in-Again.ranges c.self.inside.key (announces (files_view c.args.dwarf.now).main c.args.sets.now c.args.header) = again_next (files_view c.args.dwarf.now).main c.args.self (record { kept = c.self.inside.kept; ranges = c.self.inside.ranges; key = c.self.inside.key }) c.self.view_is c.requires.last (announces (files_view c.args.dwarf.now).main c.args.sets.now c.args.header) (rw c.in-Again.is at c.in_ok-told.ensures.told) c.in_ok-ranges-in-Again.ranges c.in_ok-ranges-in-Again.ensures in
+    rw c.in_ok-keep-in-Again.ensures (next_key (files_view c.args.dwarf.now).main c.self.inside.ranges c.in_ok-ranges-in-Again.ranges c.self.inside.key (announces (files_view c.args.dwarf.now).main c.args.sets.now c.args.header) next)
+
+pub returns-in_ok-keep-in-Again-clause-fits : goal.returns-in_ok-keep-in-Again-clause-fits
+returns-in_ok-keep-in-Again-clause-fits c =
+    let f = files_view c.args.dwarf.now in
+    let before = subst (λ (k : Keeping). SideFits f File k.kept c.args.built.now) (sym c.self.view_is) c.requires.fits in
+    side_more f c.self.inside.kept _ c.args.built.now _ c.args.header c.in-Again.unit (ap (λ (k : Keeping). k.kept) c.in_ok-keep-in-Again.ensures) c.in_ok-push-in-Again.ensures.items (rw c.in-Again.is at c.in_ok-told.ensures.part) c.announced.ensures.shared before
+
+-- ---- a unit with ranges of its own
+
+pub keep-requires-in-Ranges-clause-behind : goal.keep-requires-in-Ranges-clause-behind
+keep-requires-in-Ranges-clause-behind c = view_behind c.args.self (record { kept = c.self.inside.kept; ranges = c.self.inside.ranges; key = c.self.inside.key }) c.self.view_is c.args.header c.requires.behind c.requires.in_place
+
+pub keep-requires-in-Ranges-clause-count : goal.keep-requires-in-Ranges-clause-count
+keep-requires-in-Ranges-clause-count c =
+    let told = rw c.in-Ranges.is at c.in_ok-told.ensures.told in
+    let next : IsNext (files_view c.args.dwarf.now).main c.self.inside.ranges c.in_ok-ranges-in-Ranges.ranges c.in-Ranges.key (announces (files_view c.args.dwarf.now).main c.args.sets.now c.args.header) = record { spans = c.in-Ranges.spans.items; is = told.0; with_unit = subst (λ (l : List Span). IsWithUnit c.self.inside.ranges l c.in_ok-ranges-in-Ranges.ranges) c.as_slice.ensures.value c.in_ok-ranges-in-Ranges.ensures; are = told.1 } in
+    let count = next.with_unit.count in
+    let same = c.self.invariant in
+    omega arith
+
+pub returns-in_ok-keep-in-Ranges-clause-value : goal.returns-in_ok-keep-in-Ranges-clause-value
 unfolding with_unit
-returns-clause-value c =
-    let is = good_some _ _ (rw c.in-None.is at c.in_ok-part.ensures.value) in
-    rw (← c.self.view_is) (ap or_invalid (kept_same _ c.args.header _ _ _ is))
+returns-in_ok-keep-in-Ranges-clause-value c =
+    let told = rw c.in-Ranges.is at c.in_ok-told.ensures.told in
+    let next : IsNext (files_view c.args.dwarf.now).main c.self.inside.ranges c.in_ok-ranges-in-Ranges.ranges c.in-Ranges.key (announces (files_view c.args.dwarf.now).main c.args.sets.now c.args.header) = record { spans = c.in-Ranges.spans.items; is = told.0; with_unit = subst (λ (l : List Span). IsWithUnit c.self.inside.ranges l c.in_ok-ranges-in-Ranges.ranges) c.as_slice.ensures.value c.in_ok-ranges-in-Ranges.ensures; are = told.1 } in
+    rw (← c.self.view_is, c.in_ok-keep-in-Ranges.ensures) (ap or_invalid (next_more (files_view c.args.dwarf.now).main (record { kept = c.self.inside.kept; ranges = c.self.inside.ranges; key = c.self.inside.key }) c.args.header c.in_ok-ranges-in-Ranges.ranges c.in-Ranges.key (announces (files_view c.args.dwarf.now).main c.args.sets.now c.args.header) c.self.invariant next))
 
-pub returns-clause-behind : goal.returns-clause-behind
-returns-clause-behind c =
-    let behind = subst (λ (units : List UnitHeader). EndBefore units c.args.header.start) (sym (ap (λ (v : KeptUnits). v.kept) c.self.view_is)) c.requires.behind in
-    end_later c.self.inside.kept c.args.header.start c.args.header.end behind (omega arith)
+pub returns-in_ok-keep-in-Ranges-clause-behind : goal.returns-in_ok-keep-in-Ranges-clause-behind
+returns-in_ok-keep-in-Ranges-clause-behind c = more_behind c.args.self (record { kept = c.self.inside.kept; ranges = c.self.inside.ranges; key = c.self.inside.key }) c.self.view_is c.args.header c.requires.behind c.requires.in_place c.in_ok-keep-in-Ranges.field-0 c.in_ok-ranges-in-Ranges.ranges c.in-Ranges.key c.in_ok-keep-in-Ranges.ensures
 
-pub returns-in-Some-clause-fits : goal.returns-in-Some-clause-fits
-returns-in-Some-clause-fits c =
+pub returns-in_ok-keep-in-Ranges-clause-last : goal.returns-in_ok-keep-in-Ranges-clause-last
+returns-in_ok-keep-in-Ranges-clause-last c =
+    let told = rw c.in-Ranges.is at c.in_ok-told.ensures.told in
+    let next : IsNext (files_view c.args.dwarf.now).main c.self.inside.ranges c.in_ok-ranges-in-Ranges.ranges c.in-Ranges.key (announces (files_view c.args.dwarf.now).main c.args.sets.now c.args.header) = record { spans = c.in-Ranges.spans.items; is = told.0; with_unit = subst (λ (l : List Span). IsWithUnit c.self.inside.ranges l c.in_ok-ranges-in-Ranges.ranges) c.as_slice.ensures.value c.in_ok-ranges-in-Ranges.ensures; are = told.1 } in
+    rw c.in_ok-keep-in-Ranges.ensures (next_key (files_view c.args.dwarf.now).main c.self.inside.ranges c.in_ok-ranges-in-Ranges.ranges c.in-Ranges.key (announces (files_view c.args.dwarf.now).main c.args.sets.now c.args.header) next)
+
+pub returns-in_ok-keep-in-Ranges-clause-fits : goal.returns-in_ok-keep-in-Ranges-clause-fits
+returns-in_ok-keep-in-Ranges-clause-fits c =
     let f = files_view c.args.dwarf.now in
-    let before = subst (λ (units : List UnitHeader). SideFits f File units c.args.built.now) (sym (ap (λ (v : KeptUnits). v.kept) c.self.view_is)) c.requires.fits in
-    side_more f c.self.inside.kept _ c.args.built.now _ c.args.header c.in-Some.unit (ap (λ (v : KeptUnits). v.kept) c.in_ok-units-in-Some.ensures) c.in_ok-push-in-Some.ensures.items (rw c.in-Some.is at c.in_ok-part.ensures.part) c.append_announced.ensures.shared before
-
-pub returns-clause-fits : goal.returns-clause-fits
-returns-clause-fits c =
-    let f = files_view c.args.dwarf.now in
-    let before = subst (λ (units : List UnitHeader). SideFits f File units c.args.built.now) (sym (ap (λ (v : KeptUnits). v.kept) c.self.view_is)) c.requires.fits in
-    side_same f c.self.inside.kept c.args.built.now _ refl c.append_announced.ensures.shared before
+    let before = subst (λ (k : Keeping). SideFits f File k.kept c.args.built.now) (sym c.self.view_is) c.requires.fits in
+    side_more f c.self.inside.kept _ c.args.built.now _ c.args.header c.in-Ranges.unit (ap (λ (k : Keeping). k.kept) c.in_ok-keep-in-Ranges.ensures) c.in_ok-push-in-Ranges.ensures.items (rw c.in-Ranges.is at c.in_ok-told.ensures.part) c.announced.ensures.shared before

@@ -5,6 +5,7 @@ use Rattle.blz_entry.specs.declared.aranges.ArangeSet.{ArangeSet}
 use Rattle.blz_info.specs.declared.units.UnitHeader.{UnitHeader}
 use Rattle.blz_info.proofs.Marked.{good_some}
 use Rattle.blz_units.specs.BuiltUnits.{Files, files_view}
+use Rattle.blz_units.specs.Keeping.{units_told}
 use Rattle.blz_units.specs.Sets.{sets_from}
 use Rattle.blz_units.specs.UnitTables.{KeptUnits, sup_units, units_kept, units_of}
 use Rattle.blz_units.proofs.unit_table.UnitTable.read.Goals as goal
@@ -20,8 +21,8 @@ table_is f sups sets units p q r =
 
 pub returns-clause-table : goal.returns-clause-table
 returns-clause-table g c =
-    let is = table_is (files_view c.args.dwarf.now) c.in_ok-sups.sups c.in_ok-sets.sets c.in_ok-units.units (good_some _ _ c.in_ok-sups.ensures) (good_some _ _ c.in_ok-sets.ensures) (good_some _ _ c.in_ok-units.ensures.value) in
-    rw (c.into_parts-kept.ensures.kept, c.in_ok-announced.ensures.all, c.into_parts-kept.ensures.announced) (ap or_invalid is)
+    let is = table_is (files_view c.args.dwarf.now) c.in_ok-sups.sups c.in_ok-sets.sets (units_told c.in_ok-units.units) (good_some _ _ c.in_ok-sups.ensures) (good_some _ _ c.in_ok-sets.ensures) (good_some _ _ c.in_ok-units.ensures.value) in
+    rw (c.into_parts-kept.ensures.kept, c.in_ok-announced.ensures.all, c.into_parts-kept.ensures.ranges) (ap or_invalid is)
 
 pub returns-clause-fits : goal.returns-clause-fits
 returns-clause-fits g c = rw c.into_parts-kept.ensures.kept c.in_ok-units.ensures.fits

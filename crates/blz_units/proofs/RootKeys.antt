@@ -1,0 +1,132 @@
+-- What the root of a unit announces depends on its key alone.
+use Rattle.std.proofs.Common.{◌≡◌, ℕ, zero, suc, ◌+◌, Bool, true, false, List, [], ◌∷◌, ◌++◌, Option, Some, None, option_map, refl, sym, ap, ◌∙◌}
+use Rattle.std.specs.Prelude.{◌==◌, if◌then◌else◌}
+use Rattle.std.specs.Option.{option_to_list}
+use Rattle.std.proofs.lemmas.Bool.{false≢true}
+use Rattle.blz_model.specs.Reads.{◌>>=◌}
+use Rattle.blz_entry.specs.AddressIndexes.{address_of}
+use Rattle.blz_entry.specs.RangeLists.{base_behind, base_of_index, begin_by_index, both_by_index, coded_entry, coded_entry_at, is_end, list_length, range_entry_at, ranges_by, ranges_of, spans_from, spans_in, spelled, appended}
+use Rattle.blz_entry.specs.declared.root.UnitRoot.{UnitRoot}
+use Rattle.blz_functions.specs.Leaves.{UnitParts, lying, ranges_in}
+use Rattle.blz_info.specs.FileSections.{FileSections}
+use Rattle.blz_info.specs.declared.section.Sections.{Sections}
+use Rattle.blz_info.specs.declared.units.UnitHeader.{UnitHeader}
+use Rattle.blz_line.specs.UnitLines.{maybe_table}
+use Rattle.blz_ranges.specs.declared.span.Span.{Span}
+use Rattle.blz_units.specs.RootKeys.{list_key, program_at, program_key, ranges_by_key, ranges_key, IsKeyOf}
+use Rattle.blz_units.specs.UnitTables.{lines_in, or_sequences, sequences_of}
+use Rattle.blz_units.specs.declared.root_key.ListKey.{ListKey}
+use Rattle.blz_units.specs.declared.root_key.ProgramKey.{ProgramKey}
+use Rattle.blz_units.specs.declared.root_key.RangesKey.{RangesKey}
+use Rattle.blz_units.specs.declared.root_key.RangesKey.TheVariants.{Listed, Bounded}
+use Rattle.blz_units.specs.declared.root_key.RootKey.TheVariants.{ByRanges, ByLines}
+use Rattle.blz_units.proofs.Rooted.{bind_same}
+use Rattle.blz_units.proofs.SharedLines.{lines_same}
+
+pub same_list : (a b : ListKey) → a.version ≡ b.version → a.address_size ≡ b.address_size → a.low_pc ≡ b.low_pc → a.addr_base ≡ b.addr_base → a.offset ≡ b.offset → a ≡ b
+same_list a b version size low addr offset = λ i. record { version = version i; address_size = size i; low_pc = low i; addr_base = addr i; offset = offset i }
+
+pub same_program : (a b : ProgramKey) → a.lines ≡ b.lines → a.offset ≡ b.offset → a ≡ b
+same_program a b lines offset = λ i. record { lines = lines i; offset = offset i }
+
+-- ---- what is read by the key of a list
+
+-- the list of a unit is read as with the other fields of another one
+module _ (s : Sections) (h g : UnitHeader) (r q : UnitRoot) where
+  header : UnitHeader
+  header = record g { version = h.version; address_size = h.address_size }
+
+  root : UnitRoot
+  root = record q { low_pc = r.low_pc; addr_base = r.addr_base }
+
+  spans_same : (n base : ℕ) (front : List Span) (at : ℕ) → spans_in s h r n base front at ≡ spans_in s header root n base front at
+  unfolding header root spans_in range_entry_at coded_entry_at coded_entry base_of_index both_by_index begin_by_index address_of
+  spans_same zero base front at = refl
+  spans_same (suc n) base front at =
+      ap (λ (o : Option (List Span)). if at == list_length s h then Some front else o)
+      (bind_same (range_entry_at s h r at) _ _ (λ e. ap (λ (o : Option (List Span)). if is_end e.0 then Some front else o) (spans_same n (base_behind base e.0) (front ++ option_to_list (spelled h.version h.address_size base e.0)) e.1)))
+
+  list_same : (offset : ℕ) → h.version ≡ g.version → h.address_size ≡ g.address_size → r.low_pc ≡ q.low_pc → r.addr_base ≡ q.addr_base → spans_from [] s h r offset ≡ spans_from [] s g q offset
+  unfolding header root spans_from
+  list_same offset version size low addr =
+      spans_same (list_length s h + 1) r.low_pc [] offset
+      ∙ (λ i. spans_from [] s (record g { version = version i; address_size = size i }) (record q { low_pc = low i; addr_base = addr i }) offset)
+
+-- ---- the ranges of a root
+
+bounds_in : RangesKey → Option Span
+bounds_in (Listed list) = None
+bounds_in (Bounded bounds) = bounds
+
+list_in : ListKey → RangesKey → ListKey
+list_in other (Listed list) = list
+list_in other (Bounded bounds) = other
+
+abbrev spans_by : UnitParts → Option ℕ → Option (List Span)
+spans_by u o = ranges_by o u.root.ranges (lying u.sections) u.header u.root
+
+by_same : (u v : UnitParts) (o p : Option ℕ) → v.sections ≡ u.sections → ranges_by_key u o ≡ ranges_by_key v p → spans_by v p ≡ spans_by u o
+unfolding bounds_in list_in
+by_same u v None None at e = ap (λ (b : Option Span). Some (option_to_list b)) (sym (ap bounds_in e))
+by_same u v None (Some offset) at e = absurd cc
+by_same u v (Some offset) None at e = absurd cc
+by_same u v (Some offset) (Some other) at e =
+    let key : list_key u offset ≡ list_key v other = ap (list_in (list_key u offset)) e in
+    ap (λ (s : FileSections). spans_from [] (lying s) v.header v.root other) at
+    ∙ (ap (λ (k : ListKey). spans_from [] (lying u.sections) v.header v.root k.offset) (sym key)
+    ∙ list_same (lying u.sections) v.header u.header v.root u.root offset (sym (ap (λ (k : ListKey). k.version) key)) (sym (ap (λ (k : ListKey). k.address_size) key)) (sym (ap (λ (k : ListKey). k.low_pc) key)) (sym (ap (λ (k : ListKey). k.addr_base) key)))
+
+ranges_same : (u v : UnitParts) → v.sections ≡ u.sections → ranges_key u ≡ ranges_key v → ranges_in v v.root.ranges ≡ ranges_in u u.root.ranges
+unfolding ranges_in ranges_of
+ranges_same u v at e = by_same u v u.root.ranges.ranges_offset v.root.ranges.ranges_offset at e
+
+-- ---- the lines
+
+abbrev lines_by : UnitParts → Option ℕ → List Span
+lines_by u o = sequences_of (maybe_table (lying u.sections) u.header u.root o)
+
+some_program : ProgramKey → Option ProgramKey → ProgramKey
+some_program other None = other
+some_program other (Some key) = key
+
+lines_by_same : (u v : UnitParts) (o p : Option ℕ) → v.sections ≡ u.sections → option_map (program_at u) o ≡ option_map (program_at v) p → lines_by v p ≡ lines_by u o
+unfolding some_program
+lines_by_same u v None None at e = refl
+lines_by_same u v None (Some offset) at e = absurd cc
+lines_by_same u v (Some offset) None at e = absurd cc
+lines_by_same u v (Some offset) (Some other) at e =
+    let key : program_at u offset ≡ program_at v other = ap (some_program (program_at u offset)) e in
+    ap (λ (s : FileSections). sequences_of (maybe_table (lying s) v.header v.root (Some other))) at
+    ∙ (ap (λ (k : ProgramKey). sequences_of (maybe_table (lying u.sections) v.header v.root (Some k.offset))) (sym key)
+    ∙ lines_same (lying u.sections) v.header u.header v.root u.root offset (sym (ap (λ (k : ProgramKey). k.lines) key)))
+
+sequences_same : (u v : UnitParts) → v.sections ≡ u.sections → program_key u ≡ program_key v → sequences_of (lines_in v) ≡ sequences_of (lines_in u)
+sequences_same u v at e = lines_by_same u v u.root.line v.root.line at e
+
+-- ---- what a root announces
+
+abbrev or_lines : UnitParts → Option (List Span) → Option (List Span)
+or_lines u o = o >>= λ spans. Some (or_sequences u spans)
+
+flag_of : Option (List Span × Bool) → Bool
+flag_of None = false
+flag_of (Some r) = r.1
+
+some_same : (u v : UnitParts) (o : Option (List Span)) (old new : List Span) → (o >>= appended old) ≡ Some (new, true) → or_lines v o ≡ or_lines u o
+unfolding flag_of
+some_same u v None old new e = refl
+some_same u v (Some []) old new e = absurd (false≢true (ap flag_of e))
+some_same u v (Some (s ∷ spans)) old new e = refl
+
+or_same : (u v : UnitParts) (o : Option (List Span)) → sequences_of (lines_in v) ≡ sequences_of (lines_in u) → or_lines v o ≡ or_lines u o
+or_same u v None e = refl
+or_same u v (Some []) e = ap (λ (l : List Span). Some l) e
+or_same u v (Some (s ∷ spans)) e = refl
+
+-- a root with a range is told by its ranges
+pub ranges_tell : (u : UnitParts) (old new : List Span) → (ranges_in u u.root.ranges >>= appended old) ≡ Some (new, true) → IsKeyOf u (ByRanges (ranges_key u))
+ranges_tell u old new e = λ v at told. ap (or_lines v) (ranges_same u v at told) ∙ some_same u v (ranges_in u u.root.ranges) old new e
+
+-- and each by its ranges and its lines
+pub lines_tell : (u : UnitParts) → IsKeyOf u (ByLines (ranges_key u) (program_key u))
+lines_tell u = λ v at told. ap (or_lines v) (ranges_same u v at told.0) ∙ or_same u v (ranges_in u u.root.ranges) (sequences_same u v at told.1)

@@ -1,0 +1,56 @@
+-- By what the root of a unit tells what the unit announces: as little of the unit as that depends on.
+use Rattle.std.specs.Prelude.{◌≡◌, ℕ, List, Option, Some, None, option_map}
+use Rattle.blz_entry.specs.RangeLists.{bounds_of, not_empty}
+use Rattle.blz_functions.specs.Leaves.{UnitParts}
+use Rattle.blz_info.specs.FileSections.{FileSections}
+use Rattle.blz_ranges.specs.declared.span.Span.{Span}
+use Rattle.blz_units.specs.declared.root_key.ListKey.{ListKey}
+use Rattle.blz_units.specs.declared.root_key.ProgramKey.{ProgramKey}
+use Rattle.blz_units.specs.declared.root_key.RangesKey.{RangesKey}
+use Rattle.blz_units.specs.declared.root_key.RangesKey.TheVariants.{Listed, Bounded}
+use Rattle.blz_units.specs.declared.root_key.RootKey.{RootKey}
+use Rattle.blz_units.specs.declared.root_key.RootKey.TheVariants.{ByRanges, ByLines}
+use Rattle.blz_units.specs.Sharing.{lines_key}
+use Rattle.blz_units.specs.UnitTables.{root_spans}
+
+-- how a unit reads the list of ranges at an offset
+abbrev pub list_key : UnitParts → ℕ → ListKey
+list_key u offset = record {
+  version = u.header.version;
+  address_size = u.header.address_size;
+  low_pc = u.root.low_pc;
+  addr_base = u.root.addr_base;
+  offset = offset;
+}
+
+-- what tells the ranges of a root: its list where it has one, and else its bounds
+abbrev pub ranges_by_key : UnitParts → Option ℕ → RangesKey
+ranges_by_key u None = Bounded (not_empty (bounds_of u.root.ranges))
+ranges_by_key u (Some offset) = Listed (list_key u offset)
+
+abbrev pub ranges_key : UnitParts → RangesKey
+ranges_key u = ranges_by_key u u.root.ranges.ranges_offset
+
+-- how a unit reads its line program
+abbrev pub program_at : UnitParts → ℕ → ProgramKey
+program_at u at = record { lines = lines_key u.header u.root; offset = at }
+
+abbrev pub program_key : UnitParts → Option ProgramKey
+program_key u = option_map (program_at u) u.root.line
+
+-- A key tells what a unit announces; a unit with ranges is not asked for its line program.
+abbrev pub IsToldBy : RootKey → UnitParts → Type 0
+IsToldBy (ByRanges ranges) u = ranges ≡ ranges_key u
+IsToldBy (ByLines ranges program) u = (ranges ≡ ranges_key u) × (program ≡ program_key u)
+
+abbrev pub IsToldByLast : Option RootKey → UnitParts → Type 0
+IsToldByLast None u = ⊥
+IsToldByLast (Some key) u = IsToldBy key u
+
+-- Each unit of the same sections that is told by a key announces what the unit does.
+abbrev pub IsKeyOf : UnitParts → RootKey → Type 0
+IsKeyOf u key = (v : UnitParts) → v.sections ≡ u.sections → IsToldBy key v → root_spans v ≡ root_spans u
+
+-- Each unit of some sections that is told by a key announces these ranges.
+abbrev pub AreSpansOf : FileSections → List Span → RootKey → Type 0
+AreSpansOf s spans key = (v : UnitParts) → v.sections ≡ s → IsToldBy key v → root_spans v ≡ Some spans
