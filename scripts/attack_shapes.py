@@ -181,16 +181,46 @@ def announced_units_of_one_program(n):
     return announced_units({ROOT: root([*RANGE, LINES], 0)}, n, line=plain_program(many_rows(16 * n)))
 
 
+def tails_of_a_table(n, end=b"\0"):
+    """A table of n abbreviations, and units of each of its tails, the longest first. Each code is another one, since a code
+    that stands twice ends the reading."""
+    table, units = b"", []
+    for code in range(n, 0, -1):
+        units.append(unit(uleb(code), abbreviations_at=len(table)))
+        table += abbreviation(code, root([FLAG], 0))
+    return table + end, units
+
+
 @shape
 def units_of_tails_of_a_table(n):
-    # each code is another one, since a code that stands twice ends the reading
-    table = b"".join(abbreviation(n - k, root([FLAG], 0)) for k in range(n)) + b"\0"
-    offsets, at = [], 0
-    for k in range(n):
-        offsets.append(at)
-        at += len(abbreviation(n - k, root([FLAG], 0)))
-    units = [unit(uleb(n - k), abbreviations_at=offset) for k, offset in enumerate(offsets)]
+    table, units = tails_of_a_table(n)
     return Attack(dwarf(table, b"".join(units)), [0])
+
+
+@shape
+def units_of_tails_of_a_table_the_shortest_first(n):
+    table, units = tails_of_a_table(n)
+    return Attack(dwarf(table, b"".join(reversed(units))), [0])
+
+
+@shape
+def units_of_tails_of_a_table_without_an_end(n):
+    table, units = tails_of_a_table(n, b"")
+    return Attack(dwarf(table, b"".join(units)), [0])
+
+
+@shape
+def units_of_one_table_without_an_end(n):
+    table = b"".join(abbreviation(k + 1, root([FLAG], 0)) for k in range(3 * n))
+    return Attack(dwarf(table, unit(uleb(1)) * n), [0])
+
+
+@shape
+def units_of_tables_within_an_abbreviation(n):
+    # a code, a tag and no children where a table begins, and else an attribute, its form and its value
+    each = bytes([DW_AT_EXTERNAL, DW_FORM_IMPLICIT_CONST, 0])
+    units = [unit(bytes([DW_AT_EXTERNAL]), abbreviations_at=len(each) * k) for k in range(n)]
+    return Attack(dwarf(each * 4 * n + bytes(3), b"".join(units)), [0])
 
 
 @shape

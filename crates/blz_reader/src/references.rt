@@ -25,7 +25,6 @@ use blz_units::long_entries::{LongEntry, SeenEntry, attribute_count};
 use blz_units::unit_table::UnitTable;
 use std::alloc::{AllocError, Global};
 use std::marker::Model;
-use std::ops::Deref;
 
 /// How many entries a name is looked for over.
 const MOST_ENTRIES: usize = 16;
@@ -98,7 +97,7 @@ pub fn open_in<'u>(unit: &'u BuiltUnit, dwarf: &Dwarf<'u, 'u>) -> OpenUnit<'u, '
     OpenUnit {
         sections: dwarf.whole_sections(&unit.origin),
         header: unit.header,
-        abbreviations: unit.abbreviations.deref(),
+        abbreviations: &unit.abbreviations,
         root: unit.root,
     }
 }

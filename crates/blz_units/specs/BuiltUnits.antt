@@ -1,6 +1,5 @@
 -- Units that are built, and the unit that a unit is read from (DWARF 5 sections 3.1 and 7.3.5).
 use Rattle.std.specs.Prelude.{◌≡◌, ℕ, ◌+◌, ◌^◌, ◌<◌, ◌≤◌, Bool, true, false, List, [], length, Option, Some, None, IfSome, option_map, ◌==◌, if◌then◌else◌}
-use Rattle.std.specs.Arc.{arc_value}
 use Rattle.std.specs.FinMap as map
 use Rattle.blz_model.specs.Reads.{◌>>=◌}
 use Rattle.blz_moves.specs.Relocations.{OffsetMap}
@@ -192,7 +191,7 @@ parts_of s h read = record { sections = s; header = h; table = read.0; root = re
 
 -- what a built unit stands for
 abbrev pub built_view : Files → BuiltUnit → UnitParts
-built_view f u = record { sections = sections_from f u.origin; header = u.header; table = arc_value u.abbreviations; root = u.root }
+built_view f u = record { sections = sections_from f u.origin; header = u.header; table = u.abbreviations; root = u.root }
 
 -- A unit belongs to files.
 pub record BuiltFits (f : Files) (u : BuiltUnit) : Type 0 where

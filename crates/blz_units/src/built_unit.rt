@@ -1,6 +1,5 @@
 //! Units that are built, as places and numbers.
 ghost use Rattle.std.specs.Prelude.{◌≡◌, false, ◌≤◌, ◌<◌, ◌+◌, ◌^◌, ◌&&◌, length, is_some, IfOk, IfSome, Option};
-ghost use Rattle.std.specs.Arc.{arc_value};
 ghost use Rattle.blz_model.specs.Part.{Gives, Exactly};
 ghost use Rattle.blz_info.specs.Marks.{or_invalid};
 ghost use Rattle.blz_entry.specs.Roots.{root_of};
@@ -18,15 +17,13 @@ use blz_error::Result;
 use blz_functions::OpenUnit;
 use blz_split::SplitUnit;
 use std::alloc::Global;
-use std::ops::Deref;
-use std::sync::Arc;
 
 /// A unit that is built: its abbreviations and its root are read, and its line program has a header. Units with one table
 /// of abbreviations share it.
 #[derive(Drop)]
 pub struct BuiltUnit {
     pub header: UnitHeader,
-    pub abbreviations: Arc<Abbreviations>,
+    pub abbreviations: Abbreviations,
     pub root: UnitRoot,
     pub origin: Origin,
 }
@@ -103,14 +100,14 @@ fn read(
     sections: &Sections<'_, '_>,
     shared: &mut SharedParts,
     header: &UnitHeader,
-) -> Result<(Arc<Abbreviations>, UnitRoot)>
+) -> Result<(Abbreviations, UnitRoot)>
     requires fits { sections.now.shift + length sections.now.info.bytes.now < 2 ^ 64 }
     requires shared { AreShared (sections_view sections.now) shared.old }
-    ensures value { Gives (λ r. parts_of (sections_view sections.now) header.now (arc_value r.0, r.1)) result (or_invalid (built (sections_view sections.now) header.now)) }
+    ensures value { Gives (λ r. parts_of (sections_view sections.now) header.now (r.0, r.1)) result (or_invalid (built (sections_view sections.now) header.now)) }
     ensures shared { AreShared (sections_view sections.now) shared.new }
 {
     let abbreviations = shared.table(alloc, sections, header)?;
-    let root = root_of(sections, header, abbreviations.deref())?;
+    let root = root_of(sections, header, &abbreviations)?;
     check_lines(alloc, sections, shared, header, root.line)?;
     Ok((abbreviations, root))
 }
@@ -237,7 +234,7 @@ impl BuiltUnit {
         OpenUnit {
             sections: dwarf.sections(&self.origin),
             header: self.header,
-            abbreviations: self.abbreviations.deref(),
+            abbreviations: &self.abbreviations,
             root: self.root,
         }
     }

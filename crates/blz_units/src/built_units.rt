@@ -65,7 +65,7 @@ impl SideUnits {
     pub fn new(alloc: Global) -> SideUnits
         ensures units { result.units.items ≡ [] }
         ensures shared { (s : FileSections) → AreShared s result.shared }
-        ensures counts { IsEmpty result.shared.counts }
+        ensures bytes { IsEmpty result.shared.bytes }
     {
         SideUnits {
             units: Vec::new(alloc),

@@ -8,6 +8,7 @@ pub mod built_unit;
 pub mod built_units;
 pub mod caches;
 pub mod dwarf;
+mod gathered_tables;
 mod kept_ranges;
 mod kept_units;
 pub mod long_entries;

@@ -9,23 +9,27 @@ ghost use Rattle.blz_units.specs.Sharing.{AreShared};
 ghost use Rattle.blz_info.specs.FileSections.{FileSections, sections_view};
 
 use crate::shared_lines::ProgramSpans;
-use blz_entry::{Abbreviations, Sections};
+use blz_entry::{Declarations, Sections};
 use blz_error::Result;
 use blz_line::LineHeader;
 use std::alloc::{AllocError, Global};
 use std::collections::BTreeMap;
 use std::sync::Arc;
 
-/// The tables of abbreviations that were read, by the sizes of units that they are ready for and their offsets, the offsets
-/// at which line programs have headers, each with the size of addresses that it was read with, and what the programs of
-/// units without ranges cover.
+/// The declarations of abbreviations that were read, by the sizes of units that they are ready for and the offsets where they
+/// begin, the offsets at which line programs have headers, each with the size of addresses that it was read with, and what
+/// the programs of units without ranges cover.
 #[derive(Drop)]
 pub struct SharedParts {
-    pub tables: BTreeMap<(u64, u64), Arc<Abbreviations>>,
+    pub tables: BTreeMap<(u64, u64), Arc<Declarations>>,
     pub headers: BTreeMap<u64, u8>,
     pub spans: BTreeMap<u64, ProgramSpans>,
-    /// How many abbreviations the tables have that are ready for units of some sizes.
-    pub counts: BTreeMap<u64, usize>,
+    /// How many bytes the declarations take that are ready for units of some sizes.
+    pub bytes: BTreeMap<u64, u64>,
+    /// At which offsets there is no table.
+    pub broken: BTreeMap<u64, ()>,
+    /// For which sizes the tables of all units were sought.
+    pub gathered: BTreeMap<u64, ()>,
 }
 
 /// Asks for the header of the line program at an offset.
@@ -40,13 +44,15 @@ impl SharedParts {
     /// Nothing; takes no memory.
     pub fn new(alloc: Global) -> SharedParts
         ensures shared { (s : FileSections) → AreShared s result }
-        ensures counts { IsEmpty result.counts }
+        ensures bytes { IsEmpty result.bytes }
     {
         SharedParts {
             tables: BTreeMap::new(alloc),
             headers: BTreeMap::new(alloc),
             spans: BTreeMap::new(alloc),
-            counts: BTreeMap::new(alloc),
+            bytes: BTreeMap::new(alloc),
+            broken: BTreeMap::new(alloc),
+            gathered: BTreeMap::new(alloc),
         }
     }
 

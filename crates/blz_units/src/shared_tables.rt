@@ -1,24 +1,22 @@
 //! Tables of abbreviations that units share.
-ghost use Rattle.std.specs.Prelude.{◌≡◌, length, Some, is_some, option_map, IfOk};
+ghost use Rattle.std.specs.Prelude.{◌≡◌, true, length, drop, IfSome, IfOk, None, is_some};
 ghost use Rattle.std.specs.Arc.{arc_value};
-ghost use Rattle.blz_model.specs.Part.{Gives};
-ghost use Rattle.blz_info.specs.AbbreviationTables.{abbreviations};
-ghost use Rattle.blz_info.specs.FileSections.{sections_view};
+ghost use Rattle.blz_model.specs.Part.{Fails, Gives};
+ghost use Rattle.blz_info.specs.AbbreviationTables.{abbreviations, IsReadFrom};
+ghost use Rattle.blz_info.specs.Abbrevs.{Declared, bytes_of};
+ghost use Rattle.blz_info.specs.FileSections.{FileSections, sections_view};
 ghost use Rattle.blz_info.specs.Marks.{or_invalid};
-ghost use Rattle.blz_units.specs.Sharing.{count_kept, count_with, sizes_of, table_kept, AreShared};
+ghost use Rattle.blz_units.specs.Sharing.{bytes_kept, bytes_with, sizes_of, AreShared};
 
 use crate::shared_parts::SharedParts;
-use blz_entry::{Abbreviations, Sections, UnitHeader};
-use blz_error::Result;
+use blz_entry::{Abbreviations, Declarations, Sections, UnitHeader, invalid};
+use blz_error::{Error, ErrorKind, Result};
 use std::alloc::{AllocError, Global};
 use std::ops::Deref;
 use std::sync::Arc;
 
-/// The bytes of an abbreviation, at least: a code, a tag, whether there are children, and the two zeros that end it.
-const LEAST_ABBREVIATION: usize = 5;
-
 /// The sizes of the fields of a unit as one number, of which there are sixteen.
-fn sizes_of(header: &UnitHeader) -> u64
+pub fn sizes_of(header: &UnitHeader) -> u64
     ensures { result ≡ sizes_of header.now }
 {
     let wide = if header.wide { 2 } else { 0 };
@@ -26,124 +24,180 @@ fn sizes_of(header: &UnitHeader) -> u64
     header.version as u64 * 4 + wide + address
 }
 
-/// The abbreviations of a unit.
-fn read_table(
+/// The declarations of abbreviations from the offset of a unit on.
+pub fn read_declarations(
     alloc: Global,
     sections: &Sections<'_, '_>,
     header: &UnitHeader,
-) -> Result<Arc<Abbreviations>>
-    ensures { Gives arc_value result (or_invalid (abbreviations (sections_view sections.now).«abbrev».bytes header.now.«abbrev»)) }
+) -> Result<Arc<Declarations>>
+    ensures value { Gives (λ d. (arc_value {X = Declared} d).list) result (or_invalid (abbreviations (sections_view sections.now).«abbrev».bytes header.now.«abbrev»)) }
+    ensures places { IfOk result (λ d. IsReadFrom (sections_view sections.now).«abbrev».bytes (arc_value d)) }
 {
-    let table = Abbreviations::parse_for(
+    let declarations = Declarations::parse_for(
         alloc,
         sections.abbrev.bytes,
         header.abbrev,
         header.encoding(),
     )?;
-    Ok(Arc::new(alloc, table)?)
+    Ok(Arc::new(alloc, declarations)?)
 }
 
 impl SharedParts {
-    /// How many abbreviations are kept for units of some sizes.
-    fn count_kept(&self, sizes: u64) -> usize
-        ensures { result ≡ count_kept self.now sizes }
+    /// How many bytes the declarations take that are kept for units of some sizes.
+    fn bytes_kept(&self, sizes: u64) -> u64
+        ensures { result ≡ bytes_kept self.now sizes }
     {
-        match self.counts.get(&sizes) {
-            Some(count) => *count,
+        match self.bytes.get(&sizes) {
+            Some(bytes) => *bytes,
             None => 0,
         }
     }
 
-    /// How many they are with one table more, if there is room for it. An abbreviation takes five bytes at least, so there is
-    /// room for all tables of a section that do not lie within one another.
-    fn count_with(
+    /// How many they are with some more, if there is room for them: as many as the section has, so there is room for all
+    /// tables of a section that do not lie within one another.
+    fn bytes_with(
         &self,
         sections: &Sections<'_, '_>,
         sizes: u64,
-        table: &Abbreviations,
-    ) -> Option<usize>
-        ensures { result ≡ count_with (length sections.now.abbrev.bytes.now) (count_kept self.now sizes) (length table.now) }
+        declarations: &Declarations,
+    ) -> Option<u64>
+        ensures { result ≡ bytes_with (length sections.now.abbrev.bytes.now) (bytes_kept self.now sizes) (bytes_of declarations.now.places) }
     {
-        let room = sections.abbrev.bytes.len() / LEAST_ABBREVIATION;
-        let count = self.count_kept(sizes);
-        let more = table.len();
-        if count <= room && more <= room - count {
-            Some(count + more)
+        let room = sections.abbrev.bytes.len() as u64;
+        let kept = self.bytes_kept(sizes);
+        let more = declarations.bytes();
+        if kept <= room && more <= room - kept {
+            Some(kept + more)
         } else {
             None
         }
     }
 
-    /// Whether the table of a unit is kept.
-    pub fn keeps_table(&self, header: &UnitHeader) -> bool
-        ensures { result ≡ is_some (table_kept self.now header.now) }
+    /// The declarations that are kept of which the table of a unit is a tail, and how many stand before it. They are sought
+    /// among those that begin last before it.
+    fn kept_declarations(&self, header: &UnitHeader) -> Option<(&Arc<Declarations>, usize)>
+        ensures { (s : FileSections) → AreShared s self.now → IfSome result (λ r. abbreviations s.«abbrev».bytes header.now.«abbrev» ≡ Some (drop r.1 (arc_value r.0.now).list)) }
     {
-        self.tables
-            .get(&(sizes_of(header), header.abbrev))
-            .is_some()
+        let sizes = sizes_of(header);
+        let mut before = self.tables.range(..=(sizes, header.abbrev));
+        let (key, declarations) = before.next_back()?;
+        if key.0 != sizes {
+            return None;
+        }
+        let number = declarations.deref().number_at(header.abbrev)?;
+        Some((declarations, number))
     }
 
-    /// The table that is kept of a unit.
+    /// Whether the table of a unit is kept, by itself or in a longer one.
+    pub fn keeps_table(&self, header: &UnitHeader) -> bool
+        ensures { (s : FileSections) → AreShared s self.now → result ≡ true → is_some (abbreviations s.«abbrev».bytes header.now.«abbrev») ≡ true }
+    {
+        self.kept_declarations(header).is_some()
+    }
+
+    /// The table of a unit, where it is kept.
     fn kept_table(
         &self,
         header: &UnitHeader,
-    ) -> std::result::Result<Option<Arc<Abbreviations>>, AllocError>
-        ensures { IfOk result (λ o. option_map arc_value o ≡ table_kept self.now header.now) }
+    ) -> std::result::Result<Option<Abbreviations>, AllocError>
+        ensures { (s : FileSections) → AreShared s self.now → IfOk result (λ o. IfSome o (λ t. abbreviations s.«abbrev».bytes header.now.«abbrev» ≡ Some t)) }
     {
-        match self.tables.get(&(sizes_of(header), header.abbrev)) {
-            Some(table) => Ok(Some(Arc::try_clone(table)?)),
+        match self.kept_declarations(header) {
+            Some((declarations, number)) => {
+                let declarations = Arc::try_clone(declarations)?;
+                Ok(Some(Abbreviations::behind(declarations, number)))
+            }
             None => Ok(None),
         }
     }
 
-    /// Keeps the table of a unit, where there is room for it.
-    fn keep_table(
+    /// Keeps declarations for units of the sizes of one and from its offset on; false where there is no room for them.
+    pub fn keep_declarations(
         &mut self,
         sections: &Sections<'_, '_>,
         header: &UnitHeader,
-        table: &Arc<Abbreviations>,
-    ) -> std::result::Result<(), AllocError>
+        declarations: &Arc<Declarations>,
+    ) -> std::result::Result<bool, AllocError>
         requires shared { AreShared (sections_view sections.now) self.old }
-        requires table { abbreviations (sections_view sections.now).«abbrev».bytes header.now.«abbrev» ≡ Some (arc_value table.now) }
+        requires places { IsReadFrom (sections_view sections.now).«abbrev».bytes (arc_value declarations.now) }
         ensures { AreShared (sections_view sections.now) self.new }
     {
         let sizes = sizes_of(header);
-        let Some(count) = self.count_with(sections, sizes, table.deref()) else {
-            return Ok(());
+        let Some(bytes) = self.bytes_with(sections, sizes, declarations.deref()) else {
+            return Ok(false);
         };
-        self.counts.insert(sizes, count)?;
-        let table = Arc::try_clone(table)?;
-        self.tables.insert((sizes, header.abbrev), table)?;
-        Ok(())
+        self.bytes.insert(sizes, bytes)?;
+        let declarations = Arc::try_clone(declarations)?;
+        self.tables.insert((sizes, header.abbrev), declarations)?;
+        Ok(true)
     }
 
-    /// Reads the abbreviations of a unit, and keeps them where there is room.
+    /// Whether it was found that there is no table at an offset.
+    fn is_broken(&self, at: u64) -> bool
+        ensures { (s : FileSections) → AreShared s self.now → result ≡ true → abbreviations s.«abbrev».bytes at ≡ None }
+    {
+        self.broken.get(&at).is_some()
+    }
+
+    /// Notes that there is no table at an offset, unless it was memory that was wanting.
+    fn note_broken(
+        &mut self,
+        sections: &Sections<'_, '_>,
+        at: u64,
+        fault: &Error,
+    ) -> std::result::Result<(), AllocError>
+        requires shared { AreShared (sections_view sections.now) self.old }
+        requires fails { Fails fault.now.kind (or_invalid (abbreviations (sections_view sections.now).«abbrev».bytes at)) }
+        ensures { AreShared (sections_view sections.now) self.new }
+    {
+        match fault.kind() {
+            ErrorKind::OutOfMemory => Ok(()),
+            _ => {
+                self.broken.insert(at, ())?;
+                Ok(())
+            }
+        }
+    }
+
+    /// Reads the abbreviations of a unit, and keeps them where there is room. There is none only where tables lie within one
+    /// another, and so all of them are sought then, the longest first.
     fn read_and_keep(
         &mut self,
         alloc: Global,
         sections: &Sections<'_, '_>,
         header: &UnitHeader,
-    ) -> Result<Arc<Abbreviations>>
+    ) -> Result<Abbreviations>
         requires { AreShared (sections_view sections.now) self.old }
-        ensures value { Gives arc_value result (or_invalid (abbreviations (sections_view sections.now).«abbrev».bytes header.now.«abbrev»)) }
+        ensures value { Gives (λ t. t) result (or_invalid (abbreviations (sections_view sections.now).«abbrev».bytes header.now.«abbrev»)) }
         ensures shared { AreShared (sections_view sections.now) self.new }
     {
-        let table = read_table(alloc, sections, header)?;
-        self.keep_table(sections, header, &table)?;
-        Ok(table)
+        let declarations = match read_declarations(alloc, sections, header) {
+            Ok(declarations) => declarations,
+            Err(fault) => {
+                self.note_broken(sections, header.abbrev, &fault)?;
+                return Err(fault);
+            }
+        };
+        if !self.keep_declarations(sections, header, &declarations)? {
+            self.gather_once(alloc, sections, header)?;
+        }
+        Ok(Abbreviations::behind(declarations, 0))
     }
 
-    /// The abbreviations of a unit, read where none are kept of their offset that are ready for its sizes.
+    /// The abbreviations of a unit, read where none are kept that begin at its offset and are ready for its sizes.
     pub fn table(
         &mut self,
         alloc: Global,
         sections: &Sections<'_, '_>,
         header: &UnitHeader,
-    ) -> Result<Arc<Abbreviations>>
+    ) -> Result<Abbreviations>
         requires { AreShared (sections_view sections.now) self.old }
-        ensures value { Gives arc_value result (or_invalid (abbreviations (sections_view sections.now).«abbrev».bytes header.now.«abbrev»)) }
+        ensures value { Gives (λ t. t) result (or_invalid (abbreviations (sections_view sections.now).«abbrev».bytes header.now.«abbrev»)) }
         ensures shared { AreShared (sections_view sections.now) self.new }
     {
+        if self.is_broken(header.abbrev) {
+            return Err(invalid("abbreviations that were read before are broken"));
+        }
         let kept = self.kept_table(header)?;
         match kept {
             Some(table) => Ok(table),

@@ -38,7 +38,7 @@ pub struct UnitTable {
 }
 
 /// The headers of the units of a section, without type units.
-fn units_in(alloc: Global, info: Section<'_, '_>) -> Result<UnitList>
+pub fn units_in(alloc: Global, info: Section<'_, '_>) -> Result<UnitList>
     ensures { Gives (λ l. l) result (or_invalid (units_in (section_view info.entry))) }
 {
     let mut headers = UnitHeaders::new(info);

@@ -1,0 +1,92 @@
+//! Tables of abbreviations that lie within one another, kept whichever is named first.
+ghost use Rattle.blz_info.specs.FileSections.{sections_view};
+ghost use Rattle.blz_units.specs.Sharing.{AreShared};
+
+use crate::shared_parts::SharedParts;
+use crate::shared_tables::{read_declarations, sizes_of};
+use crate::unit_list::UnitList;
+use crate::unit_table::units_in;
+use blz_entry::{Sections, UnitHeader};
+use std::alloc::{AllocError, Global};
+
+/// The offsets of the tables of those units that have some sizes, the least first.
+fn offsets_of(alloc: Global, units: &UnitList, sizes: u64) -> Result<Vec<u64>, AllocError> {
+    let mut offsets = Vec::new(alloc);
+    for number in 0..units.len() {
+        if let Some(header) = units.get(number)
+            && sizes_of(&header) == sizes
+        {
+            offsets.push(header.abbrev)?;
+        }
+    }
+    offsets.sort_unstable();
+    Ok(offsets)
+}
+
+impl SharedParts {
+    /// Keeps the table of a unit, where it can be read and no longer one is kept; false where there is no room for it.
+    fn keep_longest(
+        &mut self,
+        alloc: Global,
+        sections: &Sections<'_, '_>,
+        header: &UnitHeader,
+    ) -> Result<bool, AllocError>
+        requires { AreShared (sections_view sections.now) self.old }
+        ensures { AreShared (sections_view sections.now) self.new }
+    {
+        if self.keeps_table(header) {
+            return Ok(true);
+        }
+        match read_declarations(alloc, sections, header) {
+            Ok(declarations) => self.keep_declarations(sections, header, &declarations),
+            Err(_) => Ok(true),
+        }
+    }
+
+    /// Keeps the tables of all units that have the sizes of one, by rising offsets, so that each is read before its tails,
+    /// and as long as there is room: as much again as for what was kept before.
+    fn gather(
+        &mut self,
+        alloc: Global,
+        sections: &Sections<'_, '_>,
+        header: &UnitHeader,
+    ) -> Result<(), AllocError>
+        requires { AreShared (sections_view sections.now) self.old }
+        ensures { AreShared (sections_view sections.now) self.new }
+    {
+        let Ok(units) = units_in(alloc, sections.info) else {
+            return Ok(());
+        };
+        let sizes = sizes_of(header);
+        let offsets = offsets_of(alloc, &units, sizes)?;
+        self.bytes.insert(sizes, 0)?;
+        for offset in offsets.as_slice() {
+            let unit = UnitHeader {
+                abbrev: *offset,
+                ..*header
+            };
+            if !self.keep_longest(alloc, sections, &unit)? {
+                return Ok(());
+            }
+        }
+        Ok(())
+    }
+
+    /// The same, once for units of each size.
+    pub fn gather_once(
+        &mut self,
+        alloc: Global,
+        sections: &Sections<'_, '_>,
+        header: &UnitHeader,
+    ) -> Result<(), AllocError>
+        requires { AreShared (sections_view sections.now) self.old }
+        ensures { AreShared (sections_view sections.now) self.new }
+    {
+        let sizes = sizes_of(header);
+        if self.gathered.get(&sizes).is_some() {
+            return Ok(());
+        }
+        self.gathered.insert(sizes, ())?;
+        self.gather(alloc, sections, header)
+    }
+}
