@@ -44,6 +44,15 @@ def one_range_list_of_units(n):
     return Attack(dwarf(shapes, unit(entry(shapes, ROOT, first)) * n, rnglists=data), [0])
 
 
+@shape
+def two_range_lists_of_units_in_turn(n):
+    shapes = {ROOT: root(RANGES, 0)}
+    lists = [pairs(n) + b"\0", pairs(n + 1) + b"\0"]
+    data, first = range_lists(b"".join(lists))
+    units = unit(entry(shapes, ROOT, first)) + unit(entry(shapes, ROOT, first + len(lists[0])))
+    return Attack(dwarf(shapes, units * n, rnglists=data), [0])
+
+
 # ---- lists that begin within one another
 
 

@@ -4,64 +4,6 @@ import struct
 
 from attack_parts import *  # noqa: F403
 
-# ---- range lists
-
-
-def pairs(count):
-    return b"".join(offset_pair(4 * k, 4 * k + 1) for k in range(count))
-
-
-def with_list(shapes, functions, lists):
-    data, first = range_lists(lists + b"\0")
-    return one_unit(shapes, *functions(first), rnglists=data)
-
-
-@shape
-def one_range_list_of_functions(n):
-    shapes = {ROOT: root(), FUNCTION: subprogram(RANGES)}
-    return Attack(with_list(shapes, lambda at: [entry(shapes, FUNCTION, at)] * n, pairs(n)), [BASE + 1])
-
-
-@shape
-def one_range_list_of_calls(n):
-    shapes = {ROOT: root(), OUTER: subprogram(RANGE, 1), CALL: Abbreviation(DW_TAG_INLINED_SUBROUTINE, 0, RANGES)}
-
-    def functions(at):
-        return [entry(shapes, OUTER, BASE, 0x10000)] + [entry(shapes, CALL, at)] * n + [b"\0"]
-
-    return Attack(with_list(shapes, functions, pairs(n)), [BASE + 1])
-
-
-@shape
-def tails_of_a_range_list(n):
-    shapes = {ROOT: root(), FUNCTION: subprogram(RANGES)}
-    size = len(offset_pair(BASE, BASE + 1))
-    lists = b"".join(offset_pair(BASE + k, BASE + k + 1) for k in range(n))
-    return Attack(with_list(shapes, lambda at: [entry(shapes, FUNCTION, at + size * k) for k in range(n)], lists), [BASE + 1])
-
-
-@shape
-def one_range_list_without_ranges(n):
-    shapes = {ROOT: root(), FUNCTION: subprogram(RANGES)}
-    return Attack(with_list(shapes, lambda at: [entry(shapes, FUNCTION, at)] * n, offset_pair(1, 1) * n), [BASE + 1])
-
-
-@shape
-def one_range_list_of_units(n):
-    shapes = {ROOT: root(RANGES, 0)}
-    data, first = range_lists(pairs(n) + b"\0")
-    return Attack(dwarf(shapes, unit(entry(shapes, ROOT, first)) * n, rnglists=data), [0])
-
-
-@shape
-def two_range_lists_of_units_in_turn(n):
-    shapes = {ROOT: root(RANGES, 0)}
-    lists = [pairs(n) + b"\0", pairs(n + 1) + b"\0"]
-    data, first = range_lists(b"".join(lists))
-    units = unit(entry(shapes, ROOT, first)) + unit(entry(shapes, ROOT, first + len(lists[0])))
-    return Attack(dwarf(shapes, units * n, rnglists=data), [0])
-
-
 # ---- attributes without bytes
 
 
