@@ -24,12 +24,23 @@ def one_range_list_of_functions(n):
     return functions_of_tails(pairs(n), [0] * n)
 
 
+def calls_of_a_list(n, children, behind):
+    """As many calls as ranges, each of which names the list of all ranges."""
+    call = Abbreviation(DW_TAG_INLINED_SUBROUTINE, children, RANGES)
+    shapes = {ROOT: lined_root(), OUTER: subprogram(RANGE, 1), CALL: call}
+    data, first = range_lists(pairs(n) + b"\0")
+    below = entry(shapes, OUTER, BASE, 0x10000) + entry(shapes, CALL, first) * n + behind + b"\0"
+    return Attack(one_lined_unit(shapes, below, rnglists=data), [BASE + 1])
+
+
 @shape
 def one_range_list_of_calls(n):
-    shapes = {ROOT: lined_root(), OUTER: subprogram(RANGE, 1), CALL: Abbreviation(DW_TAG_INLINED_SUBROUTINE, 0, RANGES)}
-    data, first = range_lists(pairs(n) + b"\0")
-    below = entry(shapes, OUTER, BASE, 0x10000) + entry(shapes, CALL, first) * n + b"\0"
-    return Attack(one_lined_unit(shapes, below, rnglists=data), [BASE + 1])
+    return calls_of_a_list(n, 0, b"")
+
+
+@shape
+def one_range_list_of_calls_within_one_another(n):
+    return calls_of_a_list(n, 1, b"\0" * n)
 
 
 @shape

@@ -90,58 +90,69 @@ same_again n (Some p) = better_same p (owned_by n p) refl
 
 -- ---- the owner of the best range
 
+-- the range of an item with its owner
+abbrev pub shown : {A : Type 0} → (A → Span) → Owned A → Owned Span
+shown span x = record { item = span x.item; owner = x.owner }
+
 -- a range at an index, and the same with its place
-record IsFoundAt (at : ℕ) (list : List (Owned Span)) (p : Placed) (o : Owned Span) : Type 0 where
+pub record IsFoundAt {A : Type 0} (span : A → Span) (at : ℕ) (list : List (Owned A)) (p : Placed) (o : Owned Span) : Type 0 where
   pub index : ℕ
   pub place_is : p.place ≡ at + index
-  pub is : slice_get list index ≡ Some o
+  pub item : Owned A
+  pub is : slice_get list index ≡ Some item
+  pub item_is : shown span item ≡ o
   pub span_is : p.span ≡ o.item
 
-abbrev IsFound : ℕ → List (Owned Span) → Option Placed → Option (Owned Span) → Type 0
-IsFound at list None None = Unit {0}
-IsFound at list None (Some o) = ⊥
-IsFound at list (Some p) None = ⊥
-IsFound at list (Some p) (Some o) = IsFoundAt at list p o
+abbrev pub IsFound : {A : Type 0} → (A → Span) → ℕ → List (Owned A) → Option Placed → Option (Owned Span) → Type 0
+IsFound span at list None None = Unit {0}
+IsFound span at list None (Some o) = ⊥
+IsFound span at list (Some p) None = ⊥
+IsFound span at list (Some p) (Some o) = IsFoundAt span at list p o
 
-found_behind : (at : ℕ) (x : Owned Span) (list : List (Owned Span)) (p : Option Placed) (o : Option (Owned Span)) → IsFound (at + 1) list p o → IsFound at (x ∷ list) p o
-found_behind at x list None None h = tt
-found_behind at x list None (Some o) h = h
-found_behind at x list (Some p) None h = h
-found_behind at x list (Some p) (Some o) h = record { index = suc h.index; place_is = omega (arith, h.place_is); is = h.is; span_is = h.span_is }
+module _ {A : Type 0} (span : A → Span) where
+  pub found_behind : (at : ℕ) (x : Owned A) (list : List (Owned A)) (p : Option Placed) (o : Option (Owned Span)) → IsFound span (at + 1) list p o → IsFound span at (x ∷ list) p o
+  found_behind at x list None None h = tt
+  found_behind at x list None (Some o) h = h
+  found_behind at x list (Some p) None h = h
+  found_behind at x list (Some p) (Some o) h = record { index = suc h.index; place_is = omega (arith, h.place_is); item = h.item; is = h.is; item_is = h.item_is; span_is = h.span_is }
 
-found_first : (at : ℕ) (x : Owned Span) (list : List (Owned Span)) → IsFoundAt at (x ∷ list) (record { place = at; span = x.item }) x
-found_first at x list = record { index = 0; place_is = omega arith; is = refl; span_is = refl }
+  found_first : (at : ℕ) (x : Owned A) (list : List (Owned A)) → IsFoundAt span at (x ∷ list) (record { place = at; span = span x.item }) (shown span x)
+  found_first at x list = record { index = 0; place_is = omega arith; item = x; is = refl; item_is = refl; span_is = refl }
 
-found_better : (at : ℕ) (x : Owned Span) (list : List (Owned Span)) (p : Option Placed) (o : Option (Owned Span)) → IsFound (at + 1) list p o → IsFound at (x ∷ list) (better (record { place = at; span = x.item }) p) (better_owned (Some x) o)
-found_better at x list None None h = found_first at x list
-found_better at x list None (Some o) h = absurd h
-found_better at x list (Some p) None h = absurd h
-found_better at x list (Some p) (Some o) h =
-    let same : p.span.begin ≡ o.item.begin = ap (λ (s : Span). s.begin) h.span_is in
-    elim (cases_Bool (ltb x.item.begin o.item.begin)) [
-      | inl lt ↦ let lt2 : ltb x.item.begin p.span.begin ≡ true = rw same lt in rw (lt2, lt) (record { index = suc h.index; place_is = omega (arith, h.place_is); is = h.is; span_is = h.span_is })
-      | inr ge ↦ let ge2 : ltb x.item.begin p.span.begin ≡ false = rw same ge in rw (ge2, ge) (found_first at x list)
-    ]
+  pub found_better : (at : ℕ) (x : Owned A) (list : List (Owned A)) (p : Option Placed) (o : Option (Owned Span)) → IsFound span (at + 1) list p o → IsFound span at (x ∷ list) (better (record { place = at; span = span x.item }) p) (better_owned (Some (shown span x)) o)
+  found_better at x list None None h = found_first at x list
+  found_better at x list None (Some o) h = absurd h
+  found_better at x list (Some p) None h = absurd h
+  found_better at x list (Some p) (Some o) h =
+      let same : p.span.begin ≡ o.item.begin = ap (λ (s : Span). s.begin) h.span_is in
+      elim (cases_Bool (ltb (span x.item).begin o.item.begin)) [
+        | inl lt ↦ let lt2 : ltb (span x.item).begin p.span.begin ≡ true = rw same lt in rw (lt2, lt) (record { index = suc h.index; place_is = omega (arith, h.place_is); item = h.item; is = h.is; item_is = h.item_is; span_is = h.span_is })
+        | inr ge ↦ let ge2 : ltb (span x.item).begin p.span.begin ≡ false = rw same ge in rw (ge2, ge) (found_first at x list)
+      ]
 
-found : (at addr : ℕ) (list : List (Owned Span)) → IsFound at list (best_by (λ n s. covers s addr) at (items_of list)) (best_owned list addr)
+  pub found_owner : (list : List (Owned A)) (p : Option Placed) (o : Option (Owned Span)) → IsFound span 0 list p o → owner_of list (place_of p) ≡ option_map (λ (x : Owned Span). x.owner) o
+  found_owner list None None h = refl
+  found_owner list None (Some o) h = absurd h
+  found_owner list (Some p) None h = absurd h
+  found_owner list (Some p) (Some o) h =
+      let e : p.place ≡ h.index = omega (arith, h.place_is) in
+      ap (λ (n : ℕ). owner_at list n) e
+      ∙ (ap (λ (x : Option (Owned A)). option_map (λ (y : Owned A). y.owner) x) h.is ∙ ap (λ (y : Owned Span). Some y.owner) h.item_is)
+
+abbrev itself : Span → Span
+itself s = s
+
+found : (at addr : ℕ) (list : List (Owned Span)) → IsFound itself at list (best_by (λ n s. covers s addr) at (items_of list)) (best_owned list addr)
 unfolding best_by best_owned
 found at addr [] = tt
 found at addr (x ∷ list) =
     elim (cases_Bool (covers x.item addr)) [
-      | inl t ↦ rw t (found_better at x list (best_by (λ n s. covers s addr) (at + 1) (items_of list)) (best_owned list addr) (found (at + 1) addr list))
-      | inr f ↦ rw f (found_behind at x list (best_by (λ n s. covers s addr) (at + 1) (items_of list)) (best_owned list addr) (found (at + 1) addr list))
+      | inl t ↦ rw t (found_better itself at x list (best_by (λ n s. covers s addr) (at + 1) (items_of list)) (best_owned list addr) (found (at + 1) addr list))
+      | inr f ↦ rw f (found_behind itself at x list (best_by (λ n s. covers s addr) (at + 1) (items_of list)) (best_owned list addr) (found (at + 1) addr list))
     ]
 
-owner_found : (list : List (Owned Span)) (p : Option Placed) (o : Option (Owned Span)) → IsFound 0 list p o → owner_of list (place_of p) ≡ option_map (λ (x : Owned Span). x.owner) o
-owner_found list None None h = refl
-owner_found list None (Some o) h = absurd h
-owner_found list (Some p) None h = absurd h
-owner_found list (Some p) (Some o) h =
-    let e : p.place ≡ h.index = omega (arith, h.place_is) in
-    ap (λ (n : ℕ). owner_at list n) e ∙ ap (λ (x : Option (Owned Span)). option_map (λ (y : Owned Span). y.owner) x) h.is
-
 pub owner_of_best : (list : List (Owned Span)) (addr : ℕ) → best_owner list addr ≡ option_map (λ (o : Owned Span). o.owner) (best_owned list addr)
-owner_of_best list addr = owner_found list (best_by (λ n s. covers s addr) 0 (items_of list)) (best_owned list addr) (found 0 addr list)
+owner_of_best list addr = found_owner itself list (best_by (λ n s. covers s addr) 0 (items_of list)) (best_owned list addr) (found 0 addr list)
 
 -- ---- lists that answer alike
 

@@ -19,3 +19,7 @@ pub mod PassedEntries
 pub mod BestOwned
 pub mod ReadLists
 pub mod SearchedRanges
+pub mod Searching
+pub mod DepthRanges
+pub mod DepthLists
+pub mod SearchedCalls

@@ -8,7 +8,7 @@ use Rattle.blz_functions.specs.declared.description.Description.{Description}
 use Rattle.blz_functions.specs.declared.functions.Function.{Function}
 use Rattle.blz_ranges.specs.declared.grouped.Grouped.{Grouped}
 use Rattle.blz_functions.specs.declared.inlined_functions.InlinedFunction.{InlinedFunction}
-use Rattle.blz_functions.specs.CallTree.{CallLists, call_by, call_added}
+use Rattle.blz_functions.specs.CallTree.{CallLists, call_added, with_call}
 use Rattle.blz_functions.specs.Chain.{call_range}
 use Rattle.blz_ranges.specs.Groups.{grouped}
 use Rattle.blz_functions.specs.FunctionList.{Lists, lists_added}
@@ -60,14 +60,14 @@ own_mapped : (n depth : ℕ) (spans : List Span) → own_all n (map (grouped dep
 own_mapped n depth [] = refl
 own_mapped n depth (s ∷ rest) = ap (λ (l : List (Owned Grouped)). call_range depth n s ∷ l) (own_mapped n depth rest)
 
-pub call_more : (u : UnitParts) (calls : List InlinedFunction) (old : List Grouped) (owners : List ℕ) (spans : List Span) (depth : ℕ) (d : Description) → ranges_in u d.ranges ≡ Some spans → length old ≡ length owners
-    → call_added u (record { calls = calls; ranges = owned old owners }) depth d ≡ Some (record { calls = calls ++ call_by d ∷ []; ranges = owned (old ++ map (grouped depth) spans) (filled_up owners (length calls) (length (old ++ map (grouped depth) spans))) })
-unfolding call_added
-call_more u calls old owners spans depth d is e =
-    let new : List Grouped = map (grouped depth) spans in
-    let more : owned (old ++ new) (filled_up owners (length calls) (length (old ++ new))) ≡ owned old owners ++ map (call_range depth (length calls)) spans =
-    owned_more old new owners (length calls) (length (old ++ new)) e refl ∙ ap (λ (l : List (Owned Grouped)). owned old owners ++ l) (own_mapped (length calls) depth spans) in
-    rw is (ap (λ (r : List (Owned Grouped)). Some (calls_by (calls ++ call_by d ∷ []) r)) (sym more))
+-- the ranges of one call more behind the others
+pub call_more : (calls : List InlinedFunction) (old : List Grouped) (owners : List ℕ) (read : List Span) (depth : ℕ) (call : InlinedFunction) → length old ≡ length owners
+    → record { calls = calls ++ call ∷ []; ranges = owned (old ++ map (grouped depth) read) (filled_up owners (length calls) (length (old ++ map (grouped depth) read))) } ≡ with_call (record { calls = calls; ranges = owned old owners }) call depth read
+call_more calls old owners read depth call e =
+    let new : List Grouped = map (grouped depth) read in
+    let more : owned (old ++ new) (filled_up owners (length calls) (length (old ++ new))) ≡ owned old owners ++ map (call_range depth (length calls)) read =
+    owned_more old new owners (length calls) (length (old ++ new)) e refl ∙ ap (λ (l : List (Owned Grouped)). owned old owners ++ l) (own_mapped (length calls) depth read) in
+    ap (λ (r : List (Owned Grouped)). calls_by (calls ++ call ∷ []) r) more
 
 pub call_fails : (u : UnitParts) (l : CallLists) (depth : ℕ) (d : Description) → ranges_in u d.ranges ≡ None → call_added u l depth d ≡ None
 unfolding call_added

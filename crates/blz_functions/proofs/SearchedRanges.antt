@@ -1,12 +1,11 @@
 -- Functions whose ranges are searched, and one more of them.
 use Rattle.std.proofs.Common.{◌≡◌, ℕ, Bool, true, false, List, [], ◌∷◌, ◌++◌, length, Option, Some, refl, sym, ap, subst, ◌∙◌, arith}
-use Rattle.std.specs.Prelude.{Result, Ok, Err, nat_lt}
+use Rattle.std.specs.Prelude.{Result, nat_lt}
 use Rattle.std.proofs.Math.Path.{fun_ext}
 use Rattle.std.proofs.lemmas.Bool.{ltb-true, ltb-false}
 use Rattle.std.proofs.lemmas.List.{append-nil}
 use Rattle.blz_error.specs.Fault.{Fault}
 use Rattle.blz_model.specs.Part.{Fails}
-use Rattle.blz_model.specs.Reads.{◌>>=◌}
 use Rattle.blz_info.specs.Marks.{or_invalid}
 use Rattle.blz_info.proofs.Marked.{marks_on}
 use Rattle.blz_ranges.specs.declared.span.Span.{Span}
@@ -22,9 +21,11 @@ use Rattle.blz_model.specs.Part.{Good}
 use Rattle.blz_functions.specs.Describing.{Refer, described_if}
 use Rattle.blz_functions.specs.FunctionList.{Lists, entry_met, function_added, function_by, is_function_tag, lists_added, no_lists, unit_lists, with_ranges}
 use Rattle.blz_functions.specs.ReadLists.{AreRead, IsAppended}
-use Rattle.blz_functions.specs.SearchedFunctions.{functions_asked, AreSearched, GivesAs, IsGiven, IsMet, asked_of, with_front}
+use Rattle.blz_functions.specs.SearchedFunctions.{functions_asked, AreSearched, asked_of, with_front}
+use Rattle.blz_functions.specs.Searching.{GivesAs, IsGiven, IsMet}
 use Rattle.blz_functions.specs.declared.read_lists.ReadLists.{ReadLists}
 use Rattle.blz_functions.specs.Leaves.{UnitParts, ranges_in}
+use Rattle.blz_functions.proofs.Searching.{met_given}
 
 -- ---- one function more
 
@@ -71,19 +72,15 @@ some_given u some all old new place d front back flag is h a =
 
 -- ---- an entry more
 
-pub met_given : (u : UnitParts) (r : Result Lists Fault) (lists : ReadLists) (o : Option Lists) (next : ℕ) → GivesAs (λ l m. AreSearched u l lists m) r o → GivesAs (λ l p. IsMet u l lists p next) r (o >>= λ m. Some (m, next))
-met_given u (Ok l) lists o next h = record { value = (h.value, next); is = rw h.is refl; fits = (h.fits, refl) }
-met_given u (Err e) lists o next h = marks_on e.kind o (o >>= λ m. Some (m, next)) h (λ none. rw none refl)
-
 pub same_asked : (u : UnitParts) (some all : Lists) (lists : ReadLists) → AreSearched u some lists all → asked_of all ≡ asked_of some
 same_asked u some all lists h =
     let at = fun_ext (λ addr. same_owners some.ranges all.ranges h.answers addr) in
     rw (h.functions, at) refl
 
 pub entry_given : (refer : Refer) (u : UnitParts) (all : Lists) (lists : ReadLists) (e : Entry) (w : Walk) (wanted : Bool) (d : Option Description) (next : ℕ) (r : Result Lists Fault) → wanted ≡ is_function_tag e.tag → described_if refer u wanted e.code w ≡ Some (d, next)
-    → GivesAs (λ l m. AreSearched u l lists m) r (function_added u all e.place d) → GivesAs (λ l p. IsMet u l lists p next) r (entry_met refer u all e w)
+    → GivesAs (λ l m. AreSearched u l lists m) r (function_added u all e.place d) → GivesAs (IsMet (AreSearched u) lists next) r (entry_met refer u all e w)
 unfolding entry_met
-entry_given refer u all lists e w wanted d next r same is h = rw (← same, is) (met_given u r lists (function_added u all e.place d) next h)
+entry_given refer u all lists e w wanted d next r same is h = rw (← same, is) (met_given (AreSearched u) lists r (function_added u all e.place d) next h)
 
 pub entry_fails : (refer : Refer) (u : UnitParts) (all : Lists) (e : Entry) (w : Walk) (wanted : Bool) (kind : ErrorKind) → wanted ≡ is_function_tag e.tag → Fails kind (or_invalid (described_if refer u wanted e.code w)) → Fails kind (or_invalid (entry_met refer u all e w))
 unfolding entry_met

@@ -10,4 +10,9 @@ pub mod CallWalk
 pub mod FunctionRanges
 pub mod BestOwned
 pub mod ReadLists
+pub mod Searching
 pub mod SearchedFunctions
+pub mod AskedCalls
+pub mod DepthRanges
+pub mod DepthLists
+pub mod SearchedCalls

@@ -1,10 +1,7 @@
 -- The functions of a unit as they are asked, and the ranges that are searched for them: those of an entry of a list stand
 -- once, however many functions name a list that it belongs to.
-use Rattle.std.specs.Prelude.{◌≡◌, ℕ, List, [], ◌∷◌, ◌++◌, length, Option, Some, Result, Ok, Err}
-use Rattle.blz_error.specs.Fault.{Fault}
-use Rattle.blz_model.specs.Part.{Fails}
+use Rattle.std.specs.Prelude.{◌≡◌, ℕ, List, [], ◌∷◌, ◌++◌, length, Option, Some}
 use Rattle.blz_model.specs.Reads.{◌>>=◌}
-use Rattle.blz_info.specs.Marks.{or_invalid}
 use Rattle.blz_ranges.specs.declared.span.Span.{Span}
 use Rattle.blz_functions.specs.BestOwned.{AnswersAs}
 use Rattle.blz_ranges.specs.Owned.{Owned, own_all}
@@ -43,27 +40,3 @@ pub record AreSearched (u : UnitParts) (some : Lists) (lists : ReadLists) (all :
   pub functions : some.functions ≡ all.functions
   pub answers : AnswersAs some.ranges all.ranges
   pub read : AreRead u some.ranges lists
-
--- ---- what calls give
-
-pub record IsGiven {Y : Type 0} (Fits : Y → Type 0) (o : Option Y) : Type 0 where
-  pub value : Y
-  pub is : o ≡ Some value
-  pub fits : Fits value
-
--- A call gives what fits a value, want of memory aside.
-abbrev pub GivesAs : {X Y : Type 0} → (X → Y → Type 0) → Result X Fault → Option Y → Type 0
-GivesAs Fits (Ok x) o = IsGiven (Fits x) o
-GivesAs Fits (Err e) o = Fails e.kind (or_invalid o)
-
--- What is searched for some functions, a call makes what is searched for those with what it adds.
-abbrev pub AddsSearched : UnitParts → Lists → ReadLists → ReadLists → Result Lists Fault → (Lists → Option Lists) → Type 0
-AddsSearched u some old new result added = (all : Lists) → AreSearched u some old all → GivesAs (λ l m. AreSearched u l new m) result (added all)
-
--- the functions behind an entry, and the place of the next one
-abbrev pub IsMet : UnitParts → Lists → ReadLists → Lists × ℕ → ℕ → Type 0
-IsMet u some lists p next = AreSearched u some lists p.0 × (p.1 ≡ next)
-
--- the same with the place of the next entry
-abbrev pub MeetsSearched : UnitParts → Lists → ReadLists → ReadLists → ℕ → Result Lists Fault → (Lists → Option (Lists × ℕ)) → Type 0
-MeetsSearched u some old new next result met = (all : Lists) → AreSearched u some old all → GivesAs (λ l p. IsMet u l new p next) result (met all)

@@ -2,7 +2,8 @@
 ghost use Rattle.std.specs.Prelude.{◌≡◌, ◌++◌, [], ◌≤◌, length, map, OnOk, IfOk};
 ghost use Rattle.blz_model.specs.Part.{Gives};
 ghost use Rattle.blz_info.specs.Marks.{or_invalid};
-ghost use Rattle.blz_functions.specs.CallTree.{no_calls, call_by, call_added, calls_from, unit_calls};
+ghost use Rattle.blz_functions.specs.AskedCalls.{asked_calls, calls_asked, if_asked};
+ghost use Rattle.blz_functions.specs.CallTree.{no_calls, call_by, call_added, calls_from};
 ghost use Rattle.blz_functions.specs.CallWalk.{call_if, call_met};
 ghost use Rattle.blz_functions.specs.Describing.{specs_of};
 ghost use Rattle.blz_ranges.specs.Groups.{grouped};
@@ -10,7 +11,10 @@ ghost use Rattle.blz_ranges.specs.Keyed.{IsAccepted, group_key};
 ghost use Rattle.blz_functions.specs.Leaves.{source_in};
 ghost use Rattle.blz_functions.specs.Opened.{open_view, CanBeOpened};
 ghost use Rattle.blz_ranges.specs.Owned.{items_of};
+ghost use Rattle.blz_functions.specs.SearchedCalls.{AreSearchedCalls};
+ghost use Rattle.blz_functions.specs.Searching.{Adds, Meets};
 
+use crate::depth_lists::DepthLists;
 use crate::description::Description;
 use crate::inlined_functions::{InlinedFunction, InlinedFunctions};
 use crate::levels::Levels;
@@ -24,7 +28,9 @@ use blz_ranges::{Grouped, own};
 use std::alloc::{AllocError, Global};
 use std::marker::Model;
 
-/// Inlined calls, and their ranges in groups by depth, each with the number of its call.
+/// Inlined calls, and their ranges in groups by depth, each with the number of its call. What several lists of ranges share
+/// is read once at each depth, and its ranges stand here for the first call of the depth that names one, which is the one
+/// that their addresses have.
 #[derive(Drop)]
 pub struct CallLists {
     calls: Vec<InlinedFunction>,
@@ -86,10 +92,11 @@ impl CallLists {
     fn with(
         self,
         unit: &OpenUnit<'_, '_>,
+        lists: &mut DepthLists,
         depth: usize,
         description: &Description,
     ) -> Result<CallLists>
-        ensures { Gives (λ l. l) result (or_invalid (call_added (open_view unit.now) self depth description.now)) }
+        ensures { Adds (AreSearchedCalls (open_view unit.now)) self lists.old lists.new result (λ all. call_added (open_view unit.now) all depth description.now) }
     {
         let CallLists {
             mut calls,
@@ -98,7 +105,7 @@ impl CallLists {
             mut spans,
         } = self;
         spans.clear();
-        unit.append_ranges(&description.ranges, &mut spans)?;
+        lists.append(unit, depth, &description.ranges, &mut spans)?;
         group(&mut ranges, depth, spans.as_slice())?;
         own(&mut owners, calls.len(), ranges.len())?;
         calls.push(call_by(description))?;
@@ -115,13 +122,14 @@ impl CallLists {
     fn with_described(
         self,
         unit: &OpenUnit<'_, '_>,
+        lists: &mut DepthLists,
         depth: Option<usize>,
         description: &Option<Description>,
     ) -> Result<CallLists>
-        ensures { Gives (λ l. l) result (or_invalid (call_if (open_view unit.now) self depth description.now)) }
+        ensures { Adds (AreSearchedCalls (open_view unit.now)) self lists.old lists.new result (λ all. call_if (open_view unit.now) all depth description.now) }
     {
         match (depth, description) {
-            (Some(depth), Some(description)) => self.with(unit, depth, description),
+            (Some(depth), Some(description)) => self.with(unit, lists, depth, description),
             (Some(_), None) => Ok(self),
             (None, _) => Ok(self),
         }
@@ -129,25 +137,25 @@ impl CallLists {
 
     /// The lists with what an entry adds, which was met last; its attributes are read.
     #[inline(always)]
-    #[tactic(auto, unfolding(crate::specs::CallWalk::call_met))]
     fn with_entry<F: Links>(
         self,
         unit: &OpenUnit<'_, '_>,
         links: &mut F,
+        lists: &mut DepthLists,
         entries: &mut Entries<'_, '_>,
         entry: &Entry,
         depth: Option<usize>,
     ) -> Result<CallLists>
         requires source { entries.old.source ≡ source_in (open_view unit.now) }
         requires met { entries.old.pending ≡ specs_of (open_view unit.now) entry.now.code }
-        ensures value { Gives (λ l. (l, entries.new.place)) result (or_invalid (call_met (F.refer (F.linkage links.old)) (open_view unit.now) self depth entry.now entries.old)) }
+        ensures value { Meets (AreSearchedCalls (open_view unit.now)) self lists.old lists.new entries.new.place result (λ all. call_met (F.refer (F.linkage links.old)) (open_view unit.now) all depth entry.now entries.old) }
         ensures pending { IfOk result (λ _. entries.new.pending ≡ []) }
         ensures source { entries.new.source ≡ entries.old.source }
         ensures ahead { entries.old.place ≤ entries.new.place }
         ensures same { F.linkage links.new ≡ F.linkage links.old }
     {
         match Description::of_entry(unit, links, entries, entry.code, depth.is_some()) {
-            Ok(description) => self.with_described(unit, depth, &description),
+            Ok(description) => self.with_described(unit, lists, depth, &description),
             Err(fault) => Err(fault),
         }
     }
@@ -161,10 +169,11 @@ impl CallLists {
     ) -> Result<CallLists>
         requires pending { entries.old.pending ≡ [] }
         requires source { entries.old.source ≡ source_in (open_view unit.now) }
-        ensures value { Gives (λ l. l) result (or_invalid (calls_from (F.refer (F.linkage links.old)) (open_view unit.now) entries.old.place)) }
+        ensures value { Gives asked_calls result (or_invalid (if_asked (calls_from (F.refer (F.linkage links.old)) (open_view unit.now) entries.old.place))) }
         ensures same { F.linkage links.new ≡ F.linkage links.old }
     {
-        let mut lists = CallLists::new(alloc);
+        let mut calls = CallLists::new(alloc);
+        let mut lists = DepthLists::new(alloc);
         let mut levels = Levels::new(alloc)?;
         while levels.is_open() {
             entries.pass_over(Passing::Leaves, dwarf::DW_TAG_inlined_subroutine);
@@ -174,13 +183,13 @@ impl CallLists {
                 Err(fault) => return Err(fault),
             };
             let depth = levels.call_depth(entry.tag);
-            lists = match lists.with_entry(unit, links, entries, &entry, depth) {
+            calls = match calls.with_entry(unit, links, &mut lists, entries, &entry, depth) {
                 Ok(more) => more,
                 Err(fault) => return Err(fault),
             };
             levels.pass(&entry)?;
         }
-        Ok(lists)
+        Ok(calls)
     }
 
     /// The calls of the function whose entry stands at a place. InvalidDwarf exactly where no entry of the unit stands
@@ -193,7 +202,7 @@ impl CallLists {
         place: usize,
     ) -> Result<CallLists>
         requires { CanBeOpened unit.now }
-        ensures value { Gives (λ l. l) result (or_invalid (unit_calls (F.refer (F.linkage links.old)) (open_view unit.now) place)) }
+        ensures value { Gives asked_calls result (or_invalid (calls_asked (F.refer (F.linkage links.old)) (open_view unit.now) place)) }
         ensures same { F.linkage links.new ≡ F.linkage links.old }
     {
         let mut entries = unit.entries(place)?;

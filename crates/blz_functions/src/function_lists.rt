@@ -8,7 +8,8 @@ ghost use Rattle.blz_ranges.specs.Keyed.{IsAccepted, begin_key};
 ghost use Rattle.blz_functions.specs.Leaves.{source_in};
 ghost use Rattle.blz_functions.specs.Opened.{open_view, CanBeOpened};
 ghost use Rattle.blz_ranges.specs.Owned.{items_of};
-ghost use Rattle.blz_functions.specs.SearchedFunctions.{AddsSearched, MeetsSearched, functions_asked, asked_of};
+ghost use Rattle.blz_functions.specs.SearchedFunctions.{AreSearched, functions_asked, asked_of};
+ghost use Rattle.blz_functions.specs.Searching.{Adds, Meets};
 
 use crate::description::Description;
 use crate::functions::{Function, Functions};
@@ -80,7 +81,7 @@ impl FunctionLists {
         place: usize,
         description: &Description,
     ) -> Result<FunctionLists>
-        ensures { AddsSearched (open_view unit.now) self lists.old lists.new result (λ all. lists_added (open_view unit.now) all place description.now) }
+        ensures { Adds (AreSearched (open_view unit.now)) self lists.old lists.new result (λ all. lists_added (open_view unit.now) all place description.now) }
     {
         let FunctionLists {
             mut functions,
@@ -113,7 +114,7 @@ impl FunctionLists {
         place: usize,
         description: &Option<Description>,
     ) -> Result<FunctionLists>
-        ensures { AddsSearched (open_view unit.now) self lists.old lists.new result (λ all. function_added (open_view unit.now) all place description.now) }
+        ensures { Adds (AreSearched (open_view unit.now)) self lists.old lists.new result (λ all. function_added (open_view unit.now) all place description.now) }
     {
         match description {
             Some(description) => self.with(unit, lists, place, description),
@@ -133,7 +134,7 @@ impl FunctionLists {
     ) -> Result<FunctionLists>
         requires source { entries.old.source ≡ source_in (open_view unit.now) }
         requires met { entries.old.pending ≡ specs_of (open_view unit.now) entry.now.code }
-        ensures value { MeetsSearched (open_view unit.now) self lists.old lists.new entries.new.place result (λ all. entry_met (F.refer (F.linkage links.old)) (open_view unit.now) all entry.now entries.old) }
+        ensures value { Meets (AreSearched (open_view unit.now)) self lists.old lists.new entries.new.place result (λ all. entry_met (F.refer (F.linkage links.old)) (open_view unit.now) all entry.now entries.old) }
         ensures pending { IfOk result (λ _. entries.new.pending ≡ []) }
         ensures source { entries.new.source ≡ entries.old.source }
         ensures depth { entries.new.depth ≡ entries.old.depth }

@@ -1,6 +1,7 @@
 //! The inlined calls of a function.
-ghost use Rattle.std.specs.Prelude.{◌≡◌, ℕ, ◌+◌, ◌*◌, ◌^◌, ◌-◌, ◌<◌, ◌≤◌, true, List, length, map, Option, IfOk};
-ghost use Rattle.blz_functions.specs.Chain.{at_depth, chain, owner_found, ranges_of, TreeCall, IsTree, IsNested, IsPath};
+ghost use Rattle.std.specs.Prelude.{◌≡◌, ℕ, ◌+◌, ◌*◌, ◌^◌, ◌-◌, ◌<◌, ◌≤◌, true, length, map, Option, IfOk};
+ghost use Rattle.blz_functions.specs.AskedCalls.{IsPathInTrees, asked_by};
+ghost use Rattle.blz_functions.specs.Chain.{at_depth, chain, owner_found};
 ghost use Rattle.blz_ranges.specs.Groups.{AreApartInGroups};
 ghost use Rattle.blz_ranges.specs.Keyed.{IsAccepted, group_key};
 ghost use Rattle.blz_ranges.specs.Owned.{owned, items_of, owner_at};
@@ -136,7 +137,7 @@ impl InlinedFunctions {
     /// without one. Only want of memory is refused.
     pub fn find_inlined_functions(&self, alloc: Global, addr: u64) -> Result<Vec<usize>, AllocError>
         ensures chain { IfOk result (λ v. v.items ≡ chain self.now.ranges (length self.now.calls) addr) }
-        ensures path { IfOk result (λ v. (tree : List TreeCall) → self.now.ranges ≡ ranges_of 0 tree → length self.now.calls ≡ length tree → IsTree tree → IsNested tree → IsPath tree addr v.items) }
+        ensures path { IfOk result (λ v. IsPathInTrees (asked_by self.now.calls self.now.ranges) addr v.items) }
     {
         let chain = self.chain::<Brand>(alloc, addr, Blank::new(1))?;
         Ok(chain)

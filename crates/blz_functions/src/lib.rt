@@ -2,6 +2,7 @@
 #![tactic(auto)]
 
 mod call_lists;
+mod depth_lists;
 mod description;
 mod function_lists;
 mod functions;

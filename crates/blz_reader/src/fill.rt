@@ -5,6 +5,7 @@ ghost use Rattle.blz_model.specs.Kept.{Kept, is_kept};
 ghost use Rattle.blz_model.specs.Part.{Gives};
 ghost use Rattle.blz_model.specs.declared.cache.Cache.TheVariants.{Empty};
 ghost use Rattle.blz_info.specs.Marks.{or_invalid};
+ghost use Rattle.blz_functions.specs.AskedCalls.{asked_calls};
 ghost use Rattle.blz_units.specs.BuiltUnits.{IsReadable};
 ghost use Rattle.blz_reader.specs.Growing.{Told, Made, AreOrdered, LinesOrdered, CallsOrdered, UnitsGrowTo};
 ghost use Rattle.blz_units.specs.KeptParts.{unit_root, lists_view, lines_view, calls_view, lacks_root, lacks_functions, lacks_lines, lacks_calls, BuiltFit, PartsFit, AllFit};
@@ -217,7 +218,7 @@ impl<'r, 's, 'b> Reader<'r, 's, 'b> {
         requires built { BuiltFit (reader_files self.now) (reader_table self.now) built.old }
         requires fits { PartsFit (reader_files self.now) (reader_table self.now) units.now }
         requires filled { lacks_functions (slice_get units.now number) ≡ false }
-        ensures value { Gives (λ l. l) result (or_invalid (function_calls (reader_files self.now) (reader_table self.now) number function)) }
+        ensures value { Gives asked_calls result (or_invalid (function_calls (reader_files self.now) (reader_table self.now) number function)) }
         ensures built { BuiltFit (reader_files self.now) (reader_table self.now) built.new }
     {
         let place = match function_place(units, number, function) {

@@ -5,6 +5,7 @@ ghost use Rattle.blz_model.specs.Part.{Gives};
 ghost use Rattle.blz_model.specs.Kept.{Kept, is_kept};
 ghost use Rattle.blz_model.specs.declared.cache.Cache.TheVariants.{Empty};
 ghost use Rattle.blz_info.specs.Marks.{or_invalid};
+ghost use Rattle.blz_functions.specs.AskedCalls.{asked_calls};
 ghost use Rattle.blz_functions.specs.SearchedFunctions.{asked_of};
 ghost use Rattle.blz_units.specs.BuiltUnits.{built, built_view, has_id, root_in, BuiltFits, IsReadable};
 ghost use Rattle.blz_reader.specs.Growing.{LinesOrdered};
@@ -93,7 +94,7 @@ impl<'r, 's, 'b> Reader<'r, 's, 'b> {
         requires fits { BuiltFit (reader_files self.now) (reader_table self.now) built.old }
         requires unit { BuiltFits (reader_files self.now) unit.now }
         requires is { read_unit (reader_files self.now) (reader_table self.now) number ≡ Some (built_view (reader_files self.now) unit.now) }
-        ensures value { Gives (λ l. l) result (or_invalid (calls_in (reader_files self.now) (reader_table self.now) place (built_view (reader_files self.now) unit.now))) }
+        ensures value { Gives asked_calls result (or_invalid (calls_in (reader_files self.now) (reader_table self.now) place (built_view (reader_files self.now) unit.now))) }
         ensures fits { BuiltFit (reader_files self.now) (reader_table self.now) built.new }
     {
         let dwarf = lent(&*self.dwarf);
@@ -138,7 +139,7 @@ impl<'r, 's, 'b> Reader<'r, 's, 'b> {
     ) -> Result<CallLists>
         requires readable { IsReadable self.now.dwarf.now }
         requires fits { BuiltFit (reader_files self.now) (reader_table self.now) built.old }
-        ensures value { Gives (λ l. l) result (or_invalid (place_calls (reader_files self.now) (reader_table self.now) number place)) }
+        ensures value { Gives asked_calls result (or_invalid (place_calls (reader_files self.now) (reader_table self.now) number place)) }
         ensures fits { BuiltFit (reader_files self.now) (reader_table self.now) built.new }
     {
         self.fill_unit(Side::File, built, number)?;

@@ -25,7 +25,7 @@ use Rattle.blz_units.specs.declared.long_entries.LongEntry.{LongEntry}
 use Rattle.blz_units.specs.declared.long_entries.SeenEntry.{SeenEntry}
 use Rattle.blz_units.specs.declared.caches.UnitCaches.{UnitCaches}
 use Rattle.blz_units.specs.BuiltUnits.{Files, reading, sup_built, built_view, or_main, BuiltFits}
-use Rattle.blz_functions.specs.CallTree.{CallLists}
+use Rattle.blz_functions.specs.AskedCalls.{AskedCalls, asked_by}
 use Rattle.blz_functions.specs.SearchedFunctions.{AskedFunctions, asked}
 use Rattle.blz_functions.specs.Leaves.{UnitParts}
 use Rattle.blz_functions.specs.FunctionRanges.{FunctionRanges, CallRanges}
@@ -119,8 +119,8 @@ caches_of Sup b = b.sups.units.items
 abbrev pub lists_view : FunctionRanges → AskedFunctions
 lists_view x = asked x.functions x.ranges
 
-abbrev pub calls_view : CallRanges → CallLists
-calls_view x = record { calls = x.calls; ranges = x.ranges }
+abbrev pub calls_view : CallRanges → AskedCalls
+calls_view x = asked_by x.calls x.ranges
 
 abbrev pub lines_view : Option OrderedLines → Option LineTable
 lines_view o = option_map (λ (l : OrderedLines). l.table) o

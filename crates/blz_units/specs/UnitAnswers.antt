@@ -12,8 +12,7 @@ use Rattle.blz_line.specs.UnitLines.{LineTable}
 use Rattle.blz_functions.specs.declared.functions.Function.{Function}
 use Rattle.blz_functions.specs.declared.inlined_functions.InlinedFunction.{InlinedFunction}
 use Rattle.blz_units.specs.BuiltUnits.{Files, built, reading}
-use Rattle.blz_functions.specs.CallTree.{CallLists, unit_calls}
-use Rattle.blz_functions.specs.Chain.{chain}
+use Rattle.blz_functions.specs.AskedCalls.{AskedCalls, asked_chain, calls_asked}
 use Rattle.blz_functions.specs.FunctionList.{Lists, unit_lists}
 use Rattle.blz_functions.specs.SearchedFunctions.{AskedFunctions, functions_asked}
 use Rattle.blz_functions.specs.Leaves.{UnitParts}
@@ -53,10 +52,10 @@ unfoldable pub unit_lines : Files → UnitTable → ℕ → Option (Option LineT
 unit_lines f t k = main_unit f t k >>= lines_in
 
 -- the inlined calls of the function at a place of a unit that is read
-abbrev pub calls_in : Files → UnitTable → ℕ → UnitParts → Option CallLists
-calls_in f t place u = unit_calls (refer_from (reach_of f t) u) u place
+abbrev pub calls_in : Files → UnitTable → ℕ → UnitParts → Option AskedCalls
+calls_in f t place u = calls_asked (refer_from (reach_of f t) u) u place
 
-unfoldable pub place_calls : Files → UnitTable → ℕ → ℕ → Option CallLists
+unfoldable pub place_calls : Files → UnitTable → ℕ → ℕ → Option AskedCalls
 place_calls f t k place = read_unit f t k >>= calls_in f t place
 
 -- the place of a function, by its number in a unit
@@ -67,7 +66,7 @@ unfoldable pub function_place : Files → UnitTable → ℕ → ℕ → Option �
 function_place f t k n = unit_functions f t k >>= place_in n
 
 -- the inlined calls of a function, by its number in the unit
-unfoldable pub function_calls : Files → UnitTable → ℕ → ℕ → Option CallLists
+unfoldable pub function_calls : Files → UnitTable → ℕ → ℕ → Option AskedCalls
 function_calls f t k n = function_place f t k n >>= place_calls f t k
 
 -- the calls of some numbers
@@ -78,8 +77,8 @@ chosen calls (n ∷ rest) = do
   others ← chosen calls rest
   Some (call ∷ others)
 
-abbrev pub chain_of : ℕ → CallLists → Option (List InlinedFunction)
-chain_of addr l = chosen l.calls (chain l.ranges (length l.calls) addr)
+abbrev pub chain_of : ℕ → AskedCalls → Option (List InlinedFunction)
+chain_of addr l = chosen l.calls (asked_chain l addr)
 
 -- the inlined calls of a function of a unit that cover an address, the outermost first
 unfoldable pub covering_calls : Files → UnitTable → ℕ → ℕ → ℕ → Option (List InlinedFunction)

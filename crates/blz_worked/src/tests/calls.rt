@@ -26,29 +26,8 @@ fn lines(alloc: Global, order: ByteOrder, row_file: u8) -> Result<Vec<u8>, Alloc
     lines.bytes()
 }
 
-// a call over [0x10, 0x20)
-fn open_call(entries: &mut DebugInfo, name: &str, from: CallPlace) -> Result<(), AllocError> {
-    entries.open(
-        DW_TAG_INLINED_SUBROUTINE,
-        &[
-            Attribute::text(DW_AT_NAME, name),
-            Attribute::address(DW_AT_LOW_PC, 0x10),
-            Attribute::data1(DW_AT_HIGH_PC, 0x10),
-            Attribute::data1(DW_AT_CALL_FILE, from.0),
-            Attribute::data1(DW_AT_CALL_LINE, from.1),
-        ],
-    )
-}
-
-// `function` at [0x10, 0x20), with a call of `outer` and in it one of `inner`
-fn two_calls(
-    alloc: Global,
-    order: ByteOrder,
-    row_file: u8,
-    outer: CallPlace,
-    inner: CallPlace,
-) -> Result<Vec<u8>, AllocError> {
-    let mut entries = DebugInfo::new(alloc, order, 4);
+// `function` at [0x10, 0x20), alone in its unit
+fn open_function(entries: &mut DebugInfo) -> Result<(), AllocError> {
     entries.open(
         DW_TAG_COMPILE_UNIT,
         &[
@@ -64,7 +43,33 @@ fn two_calls(
             Attribute::address(DW_AT_LOW_PC, 0x10),
             Attribute::data4(DW_AT_HIGH_PC, 0x10),
         ],
-    )?;
+    )
+}
+
+// a call over [0x10, 0x20)
+fn open_call(entries: &mut DebugInfo, name: &str, from: CallPlace) -> Result<(), AllocError> {
+    entries.open(
+        DW_TAG_INLINED_SUBROUTINE,
+        &[
+            Attribute::text(DW_AT_NAME, name),
+            Attribute::address(DW_AT_LOW_PC, 0x10),
+            Attribute::data1(DW_AT_HIGH_PC, 0x10),
+            Attribute::data1(DW_AT_CALL_FILE, from.0),
+            Attribute::data1(DW_AT_CALL_LINE, from.1),
+        ],
+    )
+}
+
+// `function` with a call of `outer` and in it one of `inner`
+fn two_calls(
+    alloc: Global,
+    order: ByteOrder,
+    row_file: u8,
+    outer: CallPlace,
+    inner: CallPlace,
+) -> Result<Vec<u8>, AllocError> {
+    let mut entries = DebugInfo::new(alloc, order, 4);
+    open_function(&mut entries)?;
     open_call(&mut entries, "outer", outer)?;
     open_call(&mut entries, "inner", inner)?;
     entries.close()?;
@@ -131,5 +136,55 @@ fn a_row_of_a_file_outside_the_table_is_refused(rt: HostRuntime) -> Result<(), F
         refusal(frames(alloc, &lone(&image), 0x14)),
         Some(ErrorKind::InvalidDwarf)
     );
+    Ok(())
+}
+
+// a call that names the first list of ranges
+fn open_listed_call(entries: &mut DebugInfo, name: &str) -> Result<(), AllocError> {
+    entries.open(
+        DW_TAG_INLINED_SUBROUTINE,
+        &[
+            Attribute::text(DW_AT_NAME, name),
+            Attribute::section_offset(DW_AT_RANGES, 0),
+        ],
+    )
+}
+
+// `function` with calls of `near`, in which `nearer` is called, and of `far`; the three name one list
+fn calls_of_one_list(alloc: Global) -> Result<Vec<u8>, AllocError> {
+    // [0x11, 0x14) and [0x18, 0x1c), as distances from the begin of the unit
+    let lists = [4, 1, 4, 4, 8, 12, 0];
+    let mut entries = DebugInfo::new(alloc, ByteOrder::Little, 5);
+    open_function(&mut entries)?;
+    open_listed_call(&mut entries, "near")?;
+    open_listed_call(&mut entries, "nearer")?;
+    entries.close()?;
+    entries.close()?;
+    open_listed_call(&mut entries, "far")?;
+    entries.close()?;
+    entries.close()?;
+    entries.close_unit()?;
+    let lines = lines(alloc, ByteOrder::Little, 1)?;
+    entries.image(
+        alloc,
+        &[(".debug_line", &lines), (".debug_rnglists", &lists)],
+    )
+}
+
+#[test]
+fn of_one_list_the_earlier_call_of_each_depth_is_found(rt: HostRuntime) -> Result<(), Fail> {
+    let alloc = rt.alloc();
+    let image = calls_of_one_list(alloc)?;
+    let inside = [
+        Frame::at("function", 3),
+        Frame::nowhere("near"),
+        Frame::nowhere("nearer"),
+    ];
+    for addr in [0x12, 0x1a] {
+        let found = frames(alloc, &lone(&image), addr)?;
+        assert!(rt; found.as_slice() == inside.as_slice());
+    }
+    let between = frames(alloc, &lone(&image), 0x15)?;
+    assert!(rt; between.as_slice() == [Frame::at("function", 3)].as_slice());
     Ok(())
 }

@@ -1,8 +1,9 @@
 use Rattle.std.proofs.Common.{◌≡◌, ◌-◌, []}
 use Rattle.blz_model.specs.Reads.{◌>>=◌}
-use Rattle.blz_functions.specs.CallTree.{calls_from}
+use Rattle.blz_functions.specs.CallTree.{CallLists, calls_from}
 use Rattle.blz_functions.specs.Leaves.{source_in}
 use Rattle.blz_functions.specs.Opened.{open_view}
+use Rattle.blz_functions.specs.SearchedCalls.{AreSearchedCalls}
 use Rattle.blz_functions.proofs.CallSteps.{calls_rest, first}
 use Rattle.blz_functions.proofs.call_lists.CallLists.read_below.Given as goal
 
@@ -11,7 +12,9 @@ invariant-loop-entries g l = record {
   pending : l.entries.pending ≡ [];
   source : l.entries.source ≡ source_in (open_view l.unit);
   same : g.F.Links.linkage l.links ≡ g.F.Links.linkage l.fn.links;
-  rest : (calls_rest (g.F.Links.refer (g.F.Links.linkage l.fn.links)) (open_view l.unit) l.levels (l.lists, l.entries.place) >>= first) ≡ calls_from (g.F.Links.refer (g.F.Links.linkage l.fn.links)) (open_view l.unit) l.fn.entries.place;
+  all : CallLists;
+  searched : AreSearchedCalls (open_view l.unit) l.calls l.lists all;
+  rest : (calls_rest (g.F.Links.refer (g.F.Links.linkage l.fn.links)) (open_view l.unit) l.levels (all, l.entries.place) >>= first) ≡ calls_from (g.F.Links.refer (g.F.Links.linkage l.fn.links)) (open_view l.unit) l.fn.entries.place;
 }
 
 abbrev pub decreases-loop-entries : goal.decreases-loop-entries

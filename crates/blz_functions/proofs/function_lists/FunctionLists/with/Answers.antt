@@ -5,7 +5,8 @@ use Rattle.blz_functions.specs.declared.functions.Function.{Function}
 use Rattle.blz_functions.specs.FunctionList.{Lists, function_by, lists_added}
 use Rattle.blz_functions.specs.Leaves.{ranges_in}
 use Rattle.blz_functions.specs.Opened.{open_view}
-use Rattle.blz_functions.specs.SearchedFunctions.{AreSearched, IsGiven, with_front}
+use Rattle.blz_functions.specs.SearchedFunctions.{AreSearched, with_front}
+use Rattle.blz_functions.specs.Searching.{IsGiven}
 use Rattle.blz_ranges.specs.Owned.{filled_up, owned}
 use Rattle.blz_functions.proofs.ListAdds.{added_fails, front_more}
 use Rattle.blz_functions.proofs.ReadLists.{front_fits}

@@ -1,5 +1,6 @@
 use Rattle.std.proofs.Common.{◌≡◌}
 use Rattle.blz_units.specs.BuiltUnits.{built_view}
+use Rattle.blz_functions.specs.AskedCalls.{asked_calls}
 use Rattle.blz_functions.specs.Opened.{open_view}
 use Rattle.blz_units.specs.UnitAnswers.{read_unit}
 use Rattle.blz_reader.specs.Readers.{reader_files, reader_table}
@@ -10,7 +11,7 @@ pub returns-clause-value : goal.returns-clause-value
 returns-clause-value c =
     let f = reader_files c.args.self.now in
     let t = reader_table c.args.self.now in
-    calls_among (λ l. l) c.read-lists.result c.new-links.result (open_view c.open_in-open.result) (built_view f c.args.unit.now) f t c.args.place (rw c.lent-dwarf.ensures at c.new-links.ensures) (rw c.lent-dwarf.ensures at c.open_in-open.ensures.view) c.read-lists.ensures.value
+    calls_among asked_calls c.read-lists.result c.new-links.result (open_view c.open_in-open.result) (built_view f c.args.unit.now) f t c.args.place (rw c.lent-dwarf.ensures at c.new-links.ensures) (rw c.lent-dwarf.ensures at c.open_in-open.ensures.view) c.read-lists.ensures.value
 
 pub returns-clause-fits : goal.returns-clause-fits
 returns-clause-fits c =
