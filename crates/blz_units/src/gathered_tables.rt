@@ -24,7 +24,8 @@ fn offsets_of(alloc: Global, units: &UnitList, sizes: u64) -> Result<Vec<u64>, A
 }
 
 impl SharedParts {
-    /// Keeps the table of a unit, where it can be read and no longer one is kept; false where there is no room for it.
+    /// Keeps the table of a unit, or that it is broken, where neither it nor a longer one is kept; false where there is no room
+    /// for it.
     fn keep_longest(
         &mut self,
         alloc: Global,
@@ -34,12 +35,15 @@ impl SharedParts {
         requires { AreShared (sections_view sections.now) self.old }
         ensures { AreShared (sections_view sections.now) self.new }
     {
-        if self.keeps_table(header) {
+        if self.keeps_table(header) || self.is_broken(header.abbrev) {
             return Ok(true);
         }
         match read_declarations(alloc, sections, header) {
             Ok(declarations) => self.keep_declarations(sections, header, &declarations),
-            Err(_) => Ok(true),
+            Err(fault) => {
+                self.note_broken(sections, header.abbrev, &fault)?;
+                Ok(true)
+            }
         }
     }
 

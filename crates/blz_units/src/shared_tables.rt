@@ -133,14 +133,14 @@ impl SharedParts {
     }
 
     /// Whether it was found that there is no table at an offset.
-    fn is_broken(&self, at: u64) -> bool
+    pub fn is_broken(&self, at: u64) -> bool
         ensures { (s : FileSections) → AreShared s self.now → result ≡ true → abbreviations s.«abbrev».bytes at ≡ None }
     {
         self.broken.get(&at).is_some()
     }
 
     /// Notes that there is no table at an offset, unless it was memory that was wanting.
-    fn note_broken(
+    pub fn note_broken(
         &mut self,
         sections: &Sections<'_, '_>,
         at: u64,
