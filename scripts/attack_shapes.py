@@ -432,7 +432,8 @@ def sections_of_one_long_name(n):
 
 
 def package(identities, contributions):
-    """A package of units, all of whose slots are full (DWARF 5 section 7.3.5.3)."""
+    """A package of units, all of whose slots are full (DWARF 5 section 7.3.5.3). A unit without a table has that of the unit
+    before it."""
     slots = len(identities)
     columns = [DW_SECT_INFO, DW_SECT_ABBREV]
     order = [None] * slots
@@ -447,20 +448,23 @@ def package(identities, contributions):
     index += struct.pack("<II", *columns)
     offsets, sizes, info, abbrev = b"", b"", b"", b""
     for entries, table in contributions:
-        offsets += struct.pack("<II", len(info), len(abbrev))
-        sizes += struct.pack("<II", len(entries), len(table))
-        info, abbrev = info + entries, abbrev + table
+        if table is not None:
+            table_at, table_size, abbrev = len(abbrev), len(table), abbrev + table
+        offsets += struct.pack("<II", len(info), table_at)
+        sizes += struct.pack("<II", len(entries), table_size)
+        info += entries
     return image([Section(".debug_info.dwo", info), Section(".debug_abbrev.dwo", abbrev), Section(
         ".debug_cu_index", index + offsets + sizes)])
 
 
-def split_units(n, identities, asked):
-    """n skeletons, whose units stand in a package where their ids are among its identities."""
+def split_units(n, identities, asked, more=None):
+    """n skeletons, whose units stand in a package where their ids are among its identities; with more abbreviations they have
+    one table."""
     shapes = {ROOT: Abbreviation(DW_TAG_SKELETON_UNIT, 0, list(RANGE))}
-    below = {ROOT: root([], 1), FUNCTION: subprogram([(DW_AT_NAME, DW_FORM_STRING), *RANGE])}
+    below = {ROOT: root([], 1), FUNCTION: subprogram([(DW_AT_NAME, DW_FORM_STRING), *RANGE])} | (more or {})
     units = b"".join(unit(entry(shapes, ROOT, BASE + 4 * k, 4), DW_UT_SKELETON, unit_id=asked[k]) for k in range(n))
     split = [(unit(entry(below, ROOT) + entry(below, FUNCTION, "f", BASE + 4 * k, 4) + b"\0", DW_UT_SPLIT_COMPILE,
-                   unit_id=identity), abbreviations(below)) for k, identity in enumerate(identities)]
+                   unit_id=identity), None if more and k else abbreviations(below)) for k, identity in enumerate(identities)]
     return Attack(dwarf(shapes, units), [BASE + 4 * k for k in range(n)], package(identities, split))
 
 
@@ -479,3 +483,9 @@ def a_package_with_full_slots(n):
 def units_of_a_package(n):
     identities = [(k << 40) | k for k in range(power_of_two_at_least(n))]
     return split_units(n, identities, identities[:n])
+
+
+@shape
+def units_of_a_package_of_one_table(n):
+    identities = [(k << 40) | k for k in range(power_of_two_at_least(n))]
+    return split_units(n, identities, identities[:n], {100 + k: subprogram([FLAG]) for k in range(8 * n)})

@@ -6,6 +6,7 @@ use Rattle.std.specs.BTreeMap.{get}
 use Rattle.std.specs.declared.cmp.Ordering.{Ordering}
 use Rattle.std.specs.Ordering.{nat_cmp, ordering_then}
 use Rattle.blz_info.specs.AbbreviationTables.{abbreviations, IsReadFrom}
+use Rattle.blz_info.specs.Abbrevs.{Abbrev}
 use Rattle.blz_info.specs.FileSections.{FileSections}
 use Rattle.blz_entry.specs.declared.root.UnitRoot.{UnitRoot}
 use Rattle.blz_info.specs.declared.units.UnitHeader.{UnitHeader}
@@ -17,6 +18,10 @@ use Rattle.blz_units.specs.declared.shared_lines.ProgramSpans.{ProgramSpans}
 use Rattle.blz_units.specs.declared.shared_parts.SharedParts.{SharedParts}
 use Rattle.blz_units.specs.BuiltUnits.{line_header}
 use Rattle.blz_units.specs.UnitTables.{sequences_of}
+
+-- the abbreviations of a unit
+abbrev pub abbreviations_of : FileSections → UnitHeader → Option (List Abbrev)
+abbreviations_of s h = abbreviations s.«abbrev».bytes h.«abbrev»
 
 -- the sizes of the fields of a unit as one number
 abbrev pub sizes_of : UnitHeader → ℕ

@@ -6,7 +6,7 @@ ghost use Rattle.blz_info.specs.AbbreviationTables.{abbreviations, IsReadFrom};
 ghost use Rattle.blz_info.specs.Abbrevs.{Declared, bytes_of};
 ghost use Rattle.blz_info.specs.FileSections.{FileSections, sections_view};
 ghost use Rattle.blz_info.specs.Marks.{or_invalid};
-ghost use Rattle.blz_units.specs.Sharing.{bytes_kept, bytes_with, sizes_of, AreShared};
+ghost use Rattle.blz_units.specs.Sharing.{abbreviations_of, bytes_kept, bytes_with, sizes_of, AreShared};
 
 use crate::shared_parts::SharedParts;
 use blz_entry::{Abbreviations, Declarations, Sections, UnitHeader, invalid};
@@ -30,7 +30,7 @@ pub fn read_declarations(
     sections: &Sections<'_, '_>,
     header: &UnitHeader,
 ) -> Result<Arc<Declarations>>
-    ensures value { Gives (λ d. (arc_value {X = Declared} d).list) result (or_invalid (abbreviations (sections_view sections.now).«abbrev».bytes header.now.«abbrev»)) }
+    ensures value { Gives (λ d. (arc_value {X = Declared} d).list) result (or_invalid (abbreviations_of (sections_view sections.now) header.now)) }
     ensures places { IfOk result (λ d. IsReadFrom (sections_view sections.now).«abbrev».bytes (arc_value d)) }
 {
     let declarations = Declarations::parse_for(
@@ -76,7 +76,7 @@ impl SharedParts {
     /// The declarations that are kept of which the table of a unit is a tail, and how many stand before it. They are sought
     /// among those that begin last before it.
     fn kept_declarations(&self, header: &UnitHeader) -> Option<(&Arc<Declarations>, usize)>
-        ensures { (s : FileSections) → AreShared s self.now → IfSome result (λ r. abbreviations s.«abbrev».bytes header.now.«abbrev» ≡ Some (drop r.1 (arc_value r.0.now).list)) }
+        ensures { (s : FileSections) → AreShared s self.now → IfSome result (λ r. abbreviations_of s header.now ≡ Some (drop r.1 (arc_value r.0.now).list)) }
     {
         let sizes = sizes_of(header);
         let mut before = self.tables.range(..=(sizes, header.abbrev));
@@ -90,7 +90,7 @@ impl SharedParts {
 
     /// Whether the table of a unit is kept, by itself or in a longer one.
     pub fn keeps_table(&self, header: &UnitHeader) -> bool
-        ensures { (s : FileSections) → AreShared s self.now → result ≡ true → is_some (abbreviations s.«abbrev».bytes header.now.«abbrev») ≡ true }
+        ensures { (s : FileSections) → AreShared s self.now → result ≡ true → is_some (abbreviations_of s header.now) ≡ true }
     {
         self.kept_declarations(header).is_some()
     }
@@ -100,7 +100,7 @@ impl SharedParts {
         &self,
         header: &UnitHeader,
     ) -> std::result::Result<Option<Abbreviations>, AllocError>
-        ensures { (s : FileSections) → AreShared s self.now → IfOk result (λ o. IfSome o (λ t. abbreviations s.«abbrev».bytes header.now.«abbrev» ≡ Some t)) }
+        ensures { (s : FileSections) → AreShared s self.now → IfOk result (λ o. IfSome o (λ t. abbreviations_of s header.now ≡ Some t)) }
     {
         match self.kept_declarations(header) {
             Some((declarations, number)) => {
@@ -168,7 +168,7 @@ impl SharedParts {
         header: &UnitHeader,
     ) -> Result<Abbreviations>
         requires { AreShared (sections_view sections.now) self.old }
-        ensures value { Gives (λ t. t) result (or_invalid (abbreviations (sections_view sections.now).«abbrev».bytes header.now.«abbrev»)) }
+        ensures value { Gives (λ t. t) result (or_invalid (abbreviations_of (sections_view sections.now) header.now)) }
         ensures shared { AreShared (sections_view sections.now) self.new }
     {
         let declarations = match read_declarations(alloc, sections, header) {
@@ -192,7 +192,7 @@ impl SharedParts {
         header: &UnitHeader,
     ) -> Result<Abbreviations>
         requires { AreShared (sections_view sections.now) self.old }
-        ensures value { Gives (λ t. t) result (or_invalid (abbreviations (sections_view sections.now).«abbrev».bytes header.now.«abbrev»)) }
+        ensures value { Gives (λ t. t) result (or_invalid (abbreviations_of (sections_view sections.now) header.now)) }
         ensures shared { AreShared (sections_view sections.now) self.new }
     {
         if self.is_broken(header.abbrev) {
