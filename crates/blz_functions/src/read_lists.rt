@@ -30,6 +30,22 @@ pub struct ReadLists {
     tell: BTreeMap<(usize, u64), bool>,
 }
 
+/// A list of no more entries is read anew each time: that takes less than to keep it.
+const FEW_ENTRIES: usize = 4;
+
+/// Whether a list has few entries, as most have that compilers write. No answer depends on it.
+fn has_few_entries(unit: &OpenUnit<'_, '_>, offset: u64) -> bool {
+    let mut tail = unit.ranges_at(offset);
+    for _ in 0..=FEW_ENTRIES {
+        match unit.next_range(tail) {
+            Ok(Some((_, behind))) => tail = behind,
+            Ok(None) => return true,
+            Err(_) => return true,
+        }
+    }
+    false
+}
+
 /// Notes an entry of a list, and puts its range behind others.
 fn pass_entry(
     passed: &mut Vec<PassedEntry>,
@@ -141,9 +157,11 @@ impl ReadLists {
         ensures front { OnOk result (take (vec_len out.old) out.new.items ≡ out.old.items) }
         ensures none { IfOk result (λ some. some ≡ false → out.new.items ≡ out.old.items) }
     {
-        match ranges.ranges_offset {
-            Some(offset) => self.read(unit, offset, out),
-            None => unit.append_ranges(ranges, out),
+        if let Some(offset) = ranges.ranges_offset
+            && !has_few_entries(unit, offset)
+        {
+            return self.read(unit, offset, out);
         }
+        unit.append_ranges(ranges, out)
     }
 }
