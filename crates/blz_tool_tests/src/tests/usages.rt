@@ -53,9 +53,16 @@ fn a_word_beside_the_demo_is_told_the_usage(rt: HostRuntime) -> Result<(), Fail>
 }
 
 #[test]
-fn no_words_and_options_that_stand_wrongly_are_told_the_usage(rt: HostRuntime) -> Result<(), Fail> {
+fn no_words_are_told_the_usage(rt: HostRuntime) -> Result<(), Fail> {
+    let alloc = rt.alloc();
+    let mut files = nested(alloc)?;
+    assert!(rt; run_to(alloc, &mut files, &[], roomy(alloc)?)?.is(2, b"", USAGE));
+    Ok(())
+}
+
+#[test]
+fn options_that_stand_wrongly_are_told_the_usage(rt: HostRuntime) -> Result<(), Fail> {
     let lists = [
-        [].as_slice(),
         ["--basic"].as_slice(),
         ["--basic", "--lines", "a.elf", "f"].as_slice(),
         ["--basic", "--basic", "a.elf", "f"].as_slice(),
