@@ -14,6 +14,8 @@ pub mod TurnSteps
 pub mod BuiltSteps
 pub mod Choosing
 pub mod PutItems
+pub mod KeptValues
+pub mod SharedTables
 pub mod Shared
 pub mod SharedLines
 pub mod RootKeys

@@ -1,4 +1,5 @@
 pub mod BuiltUnits
+pub mod SharedTables
 pub mod Sharing
 pub mod RootKeys
 pub mod Keeping

@@ -221,7 +221,7 @@ fn kept_of(
     requires is { or_invalid (built (files_view dwarf.now).main header.now) ≡ Good (built_view (files_view dwarf.now) unit) }
     ensures { IsPartOf (files_view dwarf.now) header.now result }
 {
-    if may_be_split(dwarf, header) || !shared.keeps_table(header) {
+    if may_be_split(dwarf, header) || !shared.tables.keeps_table(header) {
         return Cache::Empty;
     }
     Cache::Value(unit)

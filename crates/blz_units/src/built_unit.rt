@@ -106,7 +106,7 @@ fn read(
     ensures value { Gives (λ r. parts_of (sections_view sections.now) header.now (r.0, r.1)) result (or_invalid (built (sections_view sections.now) header.now)) }
     ensures shared { AreShared (sections_view sections.now) shared.new }
 {
-    let abbreviations = shared.table(alloc, sections, header)?;
+    let abbreviations = shared.tables.table(alloc, sections, header)?;
     let root = root_of(sections, header, &abbreviations)?;
     check_lines(alloc, sections, shared, header, root.line)?;
     Ok((abbreviations, root))

@@ -65,7 +65,7 @@ impl SideUnits {
     pub fn new(alloc: Global) -> SideUnits
         ensures units { result.units.items ≡ [] }
         ensures shared { (s : FileSections) → AreShared s result.shared }
-        ensures bytes { IsEmpty result.shared.bytes }
+        ensures bytes { IsEmpty result.shared.tables.bytes }
     {
         SideUnits {
             units: Vec::new(alloc),

@@ -1,9 +1,7 @@
 //! Tables of abbreviations that lie within one another, kept whichever is named first.
-ghost use Rattle.blz_info.specs.FileSections.{sections_view};
-ghost use Rattle.blz_units.specs.Sharing.{AreShared};
+ghost use Rattle.blz_units.specs.SharedTables.{AreTables};
 
-use crate::shared_parts::SharedParts;
-use crate::shared_tables::{read_declarations, sizes_of};
+use crate::shared_tables::{SharedTables, read_declarations, sizes_of};
 use crate::unit_list::UnitList;
 use crate::unit_table::units_in;
 use blz_entry::{Sections, UnitHeader};
@@ -23,25 +21,25 @@ fn offsets_of(alloc: Global, units: &UnitList, sizes: u64) -> Result<Vec<u64>, A
     Ok(offsets)
 }
 
-impl SharedParts {
+impl SharedTables {
     /// Keeps the table of a unit, or that it is broken, where neither it nor a longer one is kept; false where there is no room
     /// for it.
     fn keep_longest(
         &mut self,
         alloc: Global,
-        sections: &Sections<'_, '_>,
+        abbrev: &[u8],
         header: &UnitHeader,
     ) -> Result<bool, AllocError>
-        requires { AreShared (sections_view sections.now) self.old }
-        ensures { AreShared (sections_view sections.now) self.new }
+        requires { AreTables «abbrev».now self.old }
+        ensures { AreTables «abbrev».now self.new }
     {
         if self.keeps_table(header) || self.is_broken(header.abbrev) {
             return Ok(true);
         }
-        match read_declarations(alloc, sections, header) {
-            Ok(declarations) => self.keep_declarations(sections, header, &declarations),
+        match read_declarations(alloc, abbrev, header) {
+            Ok(declarations) => self.keep_declarations(abbrev, header, &declarations),
             Err(fault) => {
-                self.note_broken(sections, header.abbrev, &fault)?;
+                self.note_broken(abbrev, header.abbrev, &fault)?;
                 Ok(true)
             }
         }
@@ -55,8 +53,8 @@ impl SharedParts {
         sections: &Sections<'_, '_>,
         header: &UnitHeader,
     ) -> Result<(), AllocError>
-        requires { AreShared (sections_view sections.now) self.old }
-        ensures { AreShared (sections_view sections.now) self.new }
+        requires { AreTables sections.now.«abbrev».bytes.now self.old }
+        ensures { AreTables sections.now.«abbrev».bytes.now self.new }
     {
         let Ok(units) = units_in(alloc, sections.info) else {
             return Ok(());
@@ -69,7 +67,7 @@ impl SharedParts {
                 abbrev: *offset,
                 ..*header
             };
-            if !self.keep_longest(alloc, sections, &unit)? {
+            if !self.keep_longest(alloc, sections.abbrev.bytes, &unit)? {
                 return Ok(());
             }
         }
@@ -83,8 +81,8 @@ impl SharedParts {
         sections: &Sections<'_, '_>,
         header: &UnitHeader,
     ) -> Result<(), AllocError>
-        requires { AreShared (sections_view sections.now) self.old }
-        ensures { AreShared (sections_view sections.now) self.new }
+        requires { AreTables sections.now.«abbrev».bytes.now self.old }
+        ensures { AreTables sections.now.«abbrev».bytes.now self.new }
     {
         let sizes = sizes_of(header);
         if self.gathered.get(&sizes).is_some() {

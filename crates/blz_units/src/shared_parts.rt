@@ -9,27 +9,20 @@ ghost use Rattle.blz_units.specs.Sharing.{AreShared};
 ghost use Rattle.blz_info.specs.FileSections.{FileSections, sections_view};
 
 use crate::shared_lines::ProgramSpans;
-use blz_entry::{Declarations, Sections};
+use crate::shared_tables::SharedTables;
+use blz_entry::Sections;
 use blz_error::Result;
 use blz_line::LineHeader;
 use std::alloc::{AllocError, Global};
 use std::collections::BTreeMap;
-use std::sync::Arc;
 
-/// The declarations of abbreviations that were read, by the sizes of units that they are ready for and the offsets where they
-/// begin, the offsets at which line programs have headers, each with the size of addresses that it was read with, and what
-/// the programs of units without ranges cover.
+/// The tables of abbreviations that were read, the offsets at which line programs have headers, each with the size of
+/// addresses that it was read with, and what the programs of units without ranges cover.
 #[derive(Drop)]
 pub struct SharedParts {
-    pub tables: BTreeMap<(u64, u64), Arc<Declarations>>,
+    pub tables: SharedTables,
     pub headers: BTreeMap<u64, u8>,
     pub spans: BTreeMap<u64, ProgramSpans>,
-    /// How many bytes the declarations take that are ready for units of some sizes.
-    pub bytes: BTreeMap<u64, u64>,
-    /// At which offsets there is no table.
-    pub broken: BTreeMap<u64, ()>,
-    /// For which sizes the tables of all units were sought.
-    pub gathered: BTreeMap<u64, ()>,
 }
 
 /// Asks for the header of the line program at an offset.
@@ -44,15 +37,12 @@ impl SharedParts {
     /// Nothing; takes no memory.
     pub fn new(alloc: Global) -> SharedParts
         ensures shared { (s : FileSections) → AreShared s result }
-        ensures bytes { IsEmpty result.bytes }
+        ensures bytes { IsEmpty result.tables.bytes }
     {
         SharedParts {
-            tables: BTreeMap::new(alloc),
+            tables: SharedTables::new(alloc),
             headers: BTreeMap::new(alloc),
             spans: BTreeMap::new(alloc),
-            bytes: BTreeMap::new(alloc),
-            broken: BTreeMap::new(alloc),
-            gathered: BTreeMap::new(alloc),
         }
     }
 

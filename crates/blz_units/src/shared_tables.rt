@@ -1,19 +1,32 @@
-//! Tables of abbreviations that units share.
-ghost use Rattle.std.specs.Prelude.{◌≡◌, true, length, drop, IfSome, IfOk, None, is_some};
+//! Tables of abbreviations that units share, read once.
+ghost use Rattle.std.specs.Prelude.{◌≡◌, ℕ, true, List, length, drop, IfSome, IfOk, None, is_some};
 ghost use Rattle.std.specs.Arc.{arc_value};
+ghost use Rattle.std.specs.BTreeMap.{IsEmpty};
 ghost use Rattle.blz_model.specs.Part.{Fails, Gives};
 ghost use Rattle.blz_info.specs.AbbreviationTables.{abbreviations, IsReadFrom};
 ghost use Rattle.blz_info.specs.Abbrevs.{Declared, bytes_of};
-ghost use Rattle.blz_info.specs.FileSections.{FileSections, sections_view};
 ghost use Rattle.blz_info.specs.Marks.{or_invalid};
-ghost use Rattle.blz_units.specs.Sharing.{abbreviations_of, bytes_kept, bytes_with, sizes_of, AreShared};
+ghost use Rattle.blz_units.specs.SharedTables.{bytes_kept, bytes_with, sizes_of, AreTables, IsTableAt};
 
-use crate::shared_parts::SharedParts;
 use blz_entry::{Abbreviations, Declarations, Sections, UnitHeader, invalid};
 use blz_error::{Error, ErrorKind, Result};
 use std::alloc::{AllocError, Global};
+use std::collections::BTreeMap;
 use std::ops::Deref;
 use std::sync::Arc;
+
+/// What was read of the tables of abbreviations of a section.
+#[derive(Drop)]
+pub struct SharedTables {
+    /// The declarations, by the sizes of units that they are ready for and the offsets where they begin.
+    pub kept: BTreeMap<(u64, u64), Arc<Declarations>>,
+    /// How many bytes those take that are ready for units of some sizes.
+    pub bytes: BTreeMap<u64, u64>,
+    /// At which offsets there is no table.
+    pub broken: BTreeMap<u64, ()>,
+    /// For which sizes the tables of all units were sought.
+    pub gathered: BTreeMap<u64, ()>,
+}
 
 /// The sizes of the fields of a unit as one number, of which there are sixteen.
 pub fn sizes_of(header: &UnitHeader) -> u64
@@ -27,22 +40,30 @@ pub fn sizes_of(header: &UnitHeader) -> u64
 /// The declarations of abbreviations from the offset of a unit on.
 pub fn read_declarations(
     alloc: Global,
-    sections: &Sections<'_, '_>,
+    abbrev: &[u8],
     header: &UnitHeader,
 ) -> Result<Arc<Declarations>>
-    ensures value { Gives (λ d. (arc_value {X = Declared} d).list) result (or_invalid (abbreviations_of (sections_view sections.now) header.now)) }
-    ensures places { IfOk result (λ d. IsReadFrom (sections_view sections.now).«abbrev».bytes (arc_value d)) }
+    ensures value { Gives (λ d. (arc_value {X = Declared} d).list) result (or_invalid (abbreviations «abbrev».now header.now.«abbrev»)) }
+    ensures places { IfOk result (λ d. IsReadFrom «abbrev».now (arc_value d)) }
 {
-    let declarations = Declarations::parse_for(
-        alloc,
-        sections.abbrev.bytes,
-        header.abbrev,
-        header.encoding(),
-    )?;
+    let declarations = Declarations::parse_for(alloc, abbrev, header.abbrev, header.encoding())?;
     Ok(Arc::new(alloc, declarations)?)
 }
 
-impl SharedParts {
+impl SharedTables {
+    /// Nothing; takes no memory.
+    pub fn new(alloc: Global) -> SharedTables
+        ensures tables { (bytes : List ℕ) → AreTables bytes result }
+        ensures bytes { IsEmpty result.bytes }
+    {
+        SharedTables {
+            kept: BTreeMap::new(alloc),
+            bytes: BTreeMap::new(alloc),
+            broken: BTreeMap::new(alloc),
+            gathered: BTreeMap::new(alloc),
+        }
+    }
+
     /// How many bytes the declarations take that are kept for units of some sizes.
     fn bytes_kept(&self, sizes: u64) -> u64
         ensures { result ≡ bytes_kept self.now sizes }
@@ -55,15 +76,10 @@ impl SharedParts {
 
     /// How many they are with some more, if there is room for them: as many as the section has, so there is room for all
     /// tables of a section that do not lie within one another.
-    fn bytes_with(
-        &self,
-        sections: &Sections<'_, '_>,
-        sizes: u64,
-        declarations: &Declarations,
-    ) -> Option<u64>
-        ensures { result ≡ bytes_with (length sections.now.abbrev.bytes.now) (bytes_kept self.now sizes) (bytes_of declarations.now.places) }
+    fn bytes_with(&self, abbrev: &[u8], sizes: u64, declarations: &Declarations) -> Option<u64>
+        ensures { result ≡ bytes_with (length «abbrev».now) (bytes_kept self.now sizes) (bytes_of declarations.now.places) }
     {
-        let room = sections.abbrev.bytes.len() as u64;
+        let room = abbrev.len() as u64;
         let kept = self.bytes_kept(sizes);
         let more = declarations.bytes();
         if kept <= room && more <= room - kept {
@@ -76,10 +92,10 @@ impl SharedParts {
     /// The declarations that are kept of which the table of a unit is a tail, and how many stand before it. They are sought
     /// among those that begin last before it.
     fn kept_declarations(&self, header: &UnitHeader) -> Option<(&Arc<Declarations>, usize)>
-        ensures { (s : FileSections) → AreShared s self.now → IfSome result (λ r. abbreviations_of s header.now ≡ Some (drop r.1 (arc_value r.0.now).list)) }
+        ensures { (bytes : List ℕ) → AreTables bytes self.now → IfSome result (λ r. abbreviations bytes header.now.«abbrev» ≡ Some (drop r.1 (arc_value r.0.now).list)) }
     {
         let sizes = sizes_of(header);
-        let mut before = self.tables.range(..=(sizes, header.abbrev));
+        let mut before = self.kept.range(..=(sizes, header.abbrev));
         let (key, declarations) = before.next_back()?;
         if key.0 != sizes {
             return None;
@@ -90,7 +106,7 @@ impl SharedParts {
 
     /// Whether the table of a unit is kept, by itself or in a longer one.
     pub fn keeps_table(&self, header: &UnitHeader) -> bool
-        ensures { (s : FileSections) → AreShared s self.now → result ≡ true → is_some (abbreviations_of s header.now) ≡ true }
+        ensures { (bytes : List ℕ) → AreTables bytes self.now → result ≡ true → is_some (abbreviations bytes header.now.«abbrev») ≡ true }
     {
         self.kept_declarations(header).is_some()
     }
@@ -100,7 +116,7 @@ impl SharedParts {
         &self,
         header: &UnitHeader,
     ) -> std::result::Result<Option<Abbreviations>, AllocError>
-        ensures { (s : FileSections) → AreShared s self.now → IfOk result (λ o. IfSome o (λ t. abbreviations_of s header.now ≡ Some t)) }
+        ensures { (bytes : List ℕ) → AreTables bytes self.now → IfOk result (λ o. IfSome o (λ t. abbreviations bytes header.now.«abbrev» ≡ Some t)) }
     {
         match self.kept_declarations(header) {
             Some((declarations, number)) => {
@@ -114,27 +130,27 @@ impl SharedParts {
     /// Keeps declarations for units of the sizes of one and from its offset on; false where there is no room for them.
     pub fn keep_declarations(
         &mut self,
-        sections: &Sections<'_, '_>,
+        abbrev: &[u8],
         header: &UnitHeader,
         declarations: &Arc<Declarations>,
     ) -> std::result::Result<bool, AllocError>
-        requires shared { AreShared (sections_view sections.now) self.old }
-        requires places { IsReadFrom (sections_view sections.now).«abbrev».bytes (arc_value declarations.now) }
-        ensures { AreShared (sections_view sections.now) self.new }
+        requires tables { AreTables «abbrev».now self.old }
+        requires places { IsReadFrom «abbrev».now (arc_value declarations.now) }
+        ensures { AreTables «abbrev».now self.new }
     {
         let sizes = sizes_of(header);
-        let Some(bytes) = self.bytes_with(sections, sizes, declarations.deref()) else {
+        let Some(bytes) = self.bytes_with(abbrev, sizes, declarations.deref()) else {
             return Ok(false);
         };
         self.bytes.insert(sizes, bytes)?;
         let declarations = Arc::try_clone(declarations)?;
-        self.tables.insert((sizes, header.abbrev), declarations)?;
+        self.kept.insert((sizes, header.abbrev), declarations)?;
         Ok(true)
     }
 
     /// Whether it was found that there is no table at an offset.
     pub fn is_broken(&self, at: u64) -> bool
-        ensures { (s : FileSections) → AreShared s self.now → result ≡ true → abbreviations s.«abbrev».bytes at ≡ None }
+        ensures { (bytes : List ℕ) → AreTables bytes self.now → result ≡ true → abbreviations bytes at ≡ None }
     {
         self.broken.get(&at).is_some()
     }
@@ -142,13 +158,13 @@ impl SharedParts {
     /// Notes that there is no table at an offset, unless it was memory that was wanting.
     pub fn note_broken(
         &mut self,
-        sections: &Sections<'_, '_>,
+        abbrev: &[u8],
         at: u64,
         fault: &Error,
     ) -> std::result::Result<(), AllocError>
-        requires shared { AreShared (sections_view sections.now) self.old }
-        requires fails { Fails fault.now.kind (or_invalid (abbreviations (sections_view sections.now).«abbrev».bytes at)) }
-        ensures { AreShared (sections_view sections.now) self.new }
+        requires tables { AreTables «abbrev».now self.old }
+        requires fails { Fails fault.now.kind (or_invalid (abbreviations «abbrev».now at)) }
+        ensures { AreTables «abbrev».now self.new }
     {
         match fault.kind() {
             ErrorKind::OutOfMemory => Ok(()),
@@ -167,18 +183,19 @@ impl SharedParts {
         sections: &Sections<'_, '_>,
         header: &UnitHeader,
     ) -> Result<Abbreviations>
-        requires { AreShared (sections_view sections.now) self.old }
-        ensures value { Gives (λ t. t) result (or_invalid (abbreviations_of (sections_view sections.now) header.now)) }
-        ensures shared { AreShared (sections_view sections.now) self.new }
+        requires { AreTables sections.now.«abbrev».bytes.now self.old }
+        ensures value { IsTableAt sections.now.«abbrev».bytes.now header.now.«abbrev» result }
+        ensures tables { AreTables sections.now.«abbrev».bytes.now self.new }
     {
-        let declarations = match read_declarations(alloc, sections, header) {
+        let abbrev = sections.abbrev.bytes;
+        let declarations = match read_declarations(alloc, abbrev, header) {
             Ok(declarations) => declarations,
             Err(fault) => {
-                self.note_broken(sections, header.abbrev, &fault)?;
+                self.note_broken(abbrev, header.abbrev, &fault)?;
                 return Err(fault);
             }
         };
-        if !self.keep_declarations(sections, header, &declarations)? {
+        if !self.keep_declarations(abbrev, header, &declarations)? {
             self.gather_once(alloc, sections, header)?;
         }
         Ok(Abbreviations::behind(declarations, 0))
@@ -191,9 +208,9 @@ impl SharedParts {
         sections: &Sections<'_, '_>,
         header: &UnitHeader,
     ) -> Result<Abbreviations>
-        requires { AreShared (sections_view sections.now) self.old }
-        ensures value { Gives (λ t. t) result (or_invalid (abbreviations_of (sections_view sections.now) header.now)) }
-        ensures shared { AreShared (sections_view sections.now) self.new }
+        requires { AreTables sections.now.«abbrev».bytes.now self.old }
+        ensures value { IsTableAt sections.now.«abbrev».bytes.now header.now.«abbrev» result }
+        ensures tables { AreTables sections.now.«abbrev».bytes.now self.new }
     {
         if self.is_broken(header.abbrev) {
             return Err(invalid("abbreviations that were read before are broken"));

@@ -1,0 +1,16 @@
+use Rattle.std.proofs.Common.{refl}
+use Rattle.std.specs.Arc.{arc_value}
+use Rattle.blz_info.specs.AbbreviationTables.{IsReadFrom}
+use Rattle.blz_units.proofs.SharedTables.{kept_same, kept_more}
+use Rattle.blz_units.proofs.shared_tables.SharedTables.keep_declarations.Goals as goal
+
+pub returns-in_err-insert : goal.returns-in_err-insert
+returns-in_err-insert c = kept_same c.args.«abbrev».now c.args.self.now _ refl refl c.requires.tables
+
+pub returns-in_err-insert-2 : goal.returns-in_err-insert-2
+returns-in_err-insert-2 c = kept_same c.args.«abbrev».now c.args.self.now _ c.in_err-insert-2.ensures.err refl c.requires.tables
+
+pub returns : goal.returns
+returns c =
+    let here : IsReadFrom c.args.«abbrev».now (arc_value c.in_ok-declarations.declarations) = rw c.in_ok-declarations.ensures c.requires.places in
+    kept_more c.args.«abbrev».now c.args.self.now _ (c.sizes_of-sizes.result, c.args.header.now.«abbrev») c.in_ok-declarations.declarations c.in_ok-insert-2.ensures.updates refl here c.requires.tables
