@@ -123,14 +123,20 @@ def announced_units_of_one_program(n):
     return announced_units({ROOT: root([*RANGE, LINES], 0)}, n, line=plain_program(many_rows(16 * n)))
 
 
-def tails_of_a_table(n, end=b"\0"):
-    """A table of n abbreviations, and units of each of its tails, the longest first. Each code is another one, since a code
-    that stands twice ends the reading."""
-    table, units = b"", []
+def places_of_tails(n):
+    """A table of n abbreviations without its end, and the first code and the place of each of its tails, the longest first.
+    Each code is another one, since a code that stands twice ends the reading."""
+    table, tails = b"", []
     for code in range(n, 0, -1):
-        units.append(unit(uleb(code), abbreviations_at=len(table)))
+        tails.append((code, len(table)))
         table += abbreviation(code, root([FLAG], 0))
-    return table + end, units
+    return table, tails
+
+
+def tails_of_a_table(n, end=b"\0"):
+    """A table of n abbreviations, and units of each of its tails, the longest first."""
+    table, tails = places_of_tails(n)
+    return table + end, [unit(uleb(code), abbreviations_at=at) for code, at in tails]
 
 
 @shape
@@ -431,9 +437,9 @@ def sections_of_one_long_name(n):
 # ---- packages
 
 
-def package(identities, contributions):
-    """A package of units, all of whose slots are full (DWARF 5 section 7.3.5.3). A unit without a table has that of the unit
-    before it."""
+def package(identities, contributions, abbrev):
+    """A package of units, all of whose slots are full (DWARF 5 section 7.3.5.3). Of each contribution there are the entries, and
+    the place and the size of its tables of abbreviations."""
     slots = len(identities)
     columns = [DW_SECT_INFO, DW_SECT_ABBREV]
     order = [None] * slots
@@ -446,10 +452,8 @@ def package(identities, contributions):
     index += b"".join(struct.pack("<Q", identity) for identity, _ in order)
     index += b"".join(struct.pack("<I", row) for _, row in order)
     index += struct.pack("<II", *columns)
-    offsets, sizes, info, abbrev = b"", b"", b"", b""
-    for entries, table in contributions:
-        if table is not None:
-            table_at, table_size, abbrev = len(abbrev), len(table), abbrev + table
+    offsets, sizes, info = b"", b"", b""
+    for entries, table_at, table_size in contributions:
         offsets += struct.pack("<II", len(info), table_at)
         sizes += struct.pack("<II", len(entries), table_size)
         info += entries
@@ -460,12 +464,18 @@ def package(identities, contributions):
 def split_units(n, identities, asked, more=None):
     """n skeletons, whose units stand in a package where their ids are among its identities; with more abbreviations they have
     one table."""
-    shapes = {ROOT: Abbreviation(DW_TAG_SKELETON_UNIT, 0, list(RANGE))}
     below = {ROOT: root([], 1), FUNCTION: subprogram([(DW_AT_NAME, DW_FORM_STRING), *RANGE])} | (more or {})
-    units = b"".join(unit(entry(shapes, ROOT, BASE + 4 * k, 4), DW_UT_SKELETON, unit_id=asked[k]) for k in range(n))
+    table = abbreviations(below)
     split = [(unit(entry(below, ROOT) + entry(below, FUNCTION, "f", BASE + 4 * k, 4) + b"\0", DW_UT_SPLIT_COMPILE,
-                   unit_id=identity), None if more and k else abbreviations(below)) for k, identity in enumerate(identities)]
-    return Attack(dwarf(shapes, units), [BASE + 4 * k for k in range(n)], package(identities, split))
+                   unit_id=identity), 0 if more else len(table) * k, len(table)) for k, identity in enumerate(identities)]
+    return skeletons(n, asked, package(identities, split, table if more else table * len(identities)))
+
+
+def skeletons(n, asked, split):
+    """n skeletons of the ids that are asked, beside a package."""
+    shapes = {ROOT: Abbreviation(DW_TAG_SKELETON_UNIT, 0, list(RANGE))}
+    units = b"".join(unit(entry(shapes, ROOT, BASE + 4 * k, 4), DW_UT_SKELETON, unit_id=asked[k]) for k in range(n))
+    return Attack(dwarf(shapes, units), [BASE + 4 * k for k in range(n)], split)
 
 
 def power_of_two_at_least(n):
@@ -489,3 +499,32 @@ def units_of_a_package(n):
 def units_of_a_package_of_one_table(n):
     identities = [(k << 40) | k for k in range(power_of_two_at_least(n))]
     return split_units(n, identities, identities[:n], {100 + k: subprogram([FLAG]) for k in range(8 * n)})
+
+
+@shape
+def units_of_a_package_of_one_id(n):
+    # it stands in the last slot
+    identities = [(k << 40) | k for k in range(power_of_two_at_least(n))]
+    return split_units(n, identities, identities[-1:] * n)
+
+
+def split_units_of_tails(n, contribution):
+    """n skeletons, whose units stand in a package, each with a tail of one table, the shortest first."""
+    identities = [(k << 40) | k for k in range(power_of_two_at_least(n))]
+    table, tails = places_of_tails(len(identities))
+    table += b"\0"
+    split = []
+    for identity, (code, at) in zip(identities, reversed(tails), strict=True):
+        begin, size = contribution(at, len(table))
+        split.append((unit(uleb(code), DW_UT_SPLIT_COMPILE, at - begin, identity), begin, size))
+    return skeletons(n, identities, package(identities, split, table))
+
+
+@shape
+def units_of_a_package_of_tails_of_a_table(n):
+    return split_units_of_tails(n, lambda at, end: (0, end))
+
+
+@shape
+def contributions_of_a_package_within_one_another(n):
+    return split_units_of_tails(n, lambda at, end: (at, end - at))

@@ -14,6 +14,7 @@ use Rattle.blz_units.specs.declared.built_units.SideUnits.{SideUnits}
 use Rattle.blz_units.specs.declared.caches.UnitCaches.{UnitCaches}
 use Rattle.blz_units.specs.declared.caches.Caches.{Caches}
 use Rattle.blz_units.specs.BuiltUnits.{Files, built_view, BuiltFits}
+use Rattle.blz_units.proofs.SharedPackage.{nothing_shared}
 use Rattle.blz_index.specs.Cold.{NothingKept, HasNothing, IsCold}
 use Rattle.blz_units.specs.KeptParts.{or_empty, unit_root, unit_of, lists_view, lines_view, calls_view, kept_root, kept_functions, kept_lines, kept_calls, side_sections, CachesFit, AllBuilt, SideFits, AllFit}
 use Rattle.blz_units.specs.UnitAnswers.{unit_functions, unit_lines, function_calls}
@@ -49,7 +50,7 @@ pub cold_fits : (f : Files) (t : UnitTable) (kept : SideUnits) (count sups : ℕ
 cold_fits f t kept count sups c fits k s cold = record {
   built = record {
     kept = rw cold.kept_is fits;
-    sups = record { all = all_cold f Sup t.sups c.built.sups.units.items (cold.sup_count ∙ s) cold.sups_empty; shared = cold.sups_share (side_sections f Sup) };
+    sups = record { all = all_cold f Sup t.sups c.built.sups.units.items (cold.sup_count ∙ s) cold.sups_empty; shared = cold.sups_share (side_sections f Sup); packed = nothing_shared f c.built.sups.packed cold.sups_packed };
     long = cold.long_seen f t;
   };
   units = record { same = cold.unit_count ∙ k; each = λ n. unit_cold f t n (slice_get c.units.items n) (cold.units_empty n) };

@@ -1,5 +1,6 @@
 //! Caches of units of which nothing is kept yet.
 ghost use Rattle.std.specs.Prelude.{◌≡◌, length, IfOk};
+ghost use Rattle.std.specs.BTreeMap.{IsEmpty};
 ghost use Rattle.blz_index.specs.Cold.{NothingKept, AreEmpty, IsCold};
 ghost use Rattle.blz_units.specs.Sharing.{AreShared};
 ghost use Rattle.blz_info.specs.FileSections.{FileSections};
@@ -9,6 +10,7 @@ use blz_units::built_unit::BuiltUnit;
 use blz_units::built_units::{BuiltUnits, SideUnits};
 use blz_units::caches::{Caches, UnitCaches};
 use blz_units::long_entries::LongEntries;
+use blz_units::shared_package::SharedPackage;
 use blz_units::shared_parts::SharedParts;
 use std::alloc::{AllocError, Global};
 
@@ -44,11 +46,13 @@ fn empty_sups(alloc: Global, count: usize) -> Result<SideUnits, AllocError>
     ensures count { IfOk result (λ b. length b.units.items ≡ count) }
     ensures empty { IfOk result (λ b. NothingKept b.units.items) }
     ensures shared { IfOk result (λ b. (s : FileSections) → AreShared s b.shared) }
+    ensures packed { IfOk result (λ b. IsEmpty b.packed.tables) }
 {
     let units = empty_units(alloc, count)?;
     Ok(SideUnits {
         units,
         shared: SharedParts::new(alloc),
+        packed: SharedPackage::new(alloc),
     })
 }
 

@@ -7,6 +7,7 @@ ghost use Rattle.blz_info.specs.Marks.{or_invalid};
 ghost use Rattle.blz_units.specs.BuiltUnits.{built_view, BuiltFits, IsReadable};
 ghost use Rattle.blz_units.specs.KeptParts.{is_missing, caches_of, side_sections, side_unit, IsFilled, SideFits, BuiltFit};
 ghost use Rattle.blz_reader.specs.Readers.{reader_files, reader_table};
+ghost use Rattle.blz_units.specs.SharedPackage.{IsPackageShared};
 ghost use Rattle.blz_units.specs.Sharing.{AreShared};
 
 use crate::reader::Reader;
@@ -16,21 +17,30 @@ use blz_model::Cache;
 use blz_units::built_unit::BuiltUnit;
 use blz_units::built_units::{BuiltUnits, Side, SideUnits, is_missing, put};
 use blz_units::dwarf::Origin;
+use blz_units::shared_package::SharedPackage;
 use blz_units::shared_parts::SharedParts;
 use blz_units::unit_list::UnitList;
 use std::alloc::AllocError;
 
 impl<'r, 's, 'b> Reader<'r, 's, 'b> {
-    fn build(&self, side: Side, shared: &mut SharedParts, header: &UnitHeader) -> Result<BuiltUnit>
+    fn build(
+        &self,
+        side: Side,
+        shared: &mut SharedParts,
+        packed: &mut SharedPackage,
+        header: &UnitHeader,
+    ) -> Result<BuiltUnit>
         requires readable { IsReadable self.now.dwarf.now }
         requires ordered { header.now.entries ≤ header.now.end }
         requires shared { AreShared (side_sections (reader_files self.now) side) shared.old }
+        requires packed { IsPackageShared (reader_files self.now) packed.old }
         ensures value { Gives (built_view (reader_files self.now)) result (or_invalid (side_unit (reader_files self.now) side header.now)) }
         ensures fits { IfOk result (BuiltFits (reader_files self.now)) }
         ensures shared { AreShared (side_sections (reader_files self.now) side) shared.new }
+        ensures packed { IsPackageShared (reader_files self.now) packed.new }
     {
         match (side, &self.dwarf.sup) {
-            (Side::File, _) => BuiltUnit::reading(self.alloc, self.dwarf, shared, header),
+            (Side::File, _) => BuiltUnit::reading(self.alloc, self.dwarf, shared, packed, header),
             (Side::Sup, Some(_)) => {
                 BuiltUnit::of_file(self.alloc, self.dwarf, shared, Origin::Sup, header)
             },
@@ -43,16 +53,19 @@ impl<'r, 's, 'b> Reader<'r, 's, 'b> {
         &self,
         side: Side,
         shared: &mut SharedParts,
+        packed: &mut SharedPackage,
         header: &UnitHeader,
     ) -> std::result::Result<Cache<BuiltUnit>, AllocError>
         requires readable { IsReadable self.now.dwarf.now }
         requires ordered { header.now.entries ≤ header.now.end }
         requires shared { AreShared (side_sections (reader_files self.now) side) shared.old }
+        requires packed { IsPackageShared (reader_files self.now) packed.old }
         ensures kept { IfOk result (λ c. Kept (BuiltFits (reader_files self.now)) (built_view (reader_files self.now)) c (or_invalid (side_unit (reader_files self.now) side header.now))) }
         ensures full { IfOk result (λ c. is_kept c ≡ true) }
         ensures shared { AreShared (side_sections (reader_files self.now) side) shared.new }
+        ensures packed { IsPackageShared (reader_files self.now) packed.new }
     {
-        match self.build(side, shared, header) {
+        match self.build(side, shared, packed, header) {
             Ok(unit) => Ok(Cache::Value(unit)),
             Err(e) if e.kind() == ErrorKind::OutOfMemory => Err(AllocError),
             Err(e) => Ok(Cache::Mark(e.kind())),
@@ -97,7 +110,7 @@ impl<'r, 's, 'b> Reader<'r, 's, 'b> {
             Some(header) => header,
             None => return Ok(()),
         };
-        let made = self.part(side, &mut built.shared, &header)?;
+        let made = self.part(side, &mut built.shared, &mut built.packed, &header)?;
         put(&mut built.units, number, made);
         Ok(())
     }

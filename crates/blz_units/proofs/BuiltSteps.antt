@@ -1,5 +1,6 @@
 -- Units that are built, one more of which is kept.
 use Rattle.std.proofs.Common.{◌≡◌, ℕ, zero, suc, true, false, List, [], ◌∷◌, ◌++◌, length, length-append, Option, Some, None, refl, sym, ap, ◌∙◌, arith}
+use Rattle.std.specs.BTreeMap.{IsEmpty}
 use Rattle.std.specs.List.{slice_get, slice_set}
 use Rattle.std.proofs.lemmas.List.{length-set}
 use Rattle.blz_model.specs.Kept.{Kept, is_kept}
@@ -19,6 +20,7 @@ use Rattle.blz_units.specs.BuiltUnits.{Files, built_view, BuiltFits}
 use Rattle.blz_units.specs.KeptParts.{or_empty, is_missing, unit_of, IsFilled, IsBuilt, IsPartOf, AllBuilt, SideFits, BuiltFit, side_unit}
 use Rattle.blz_functions.specs.Leaves.{UnitParts}
 use Rattle.blz_units.specs.UnitTables.{UnitTable}
+use Rattle.blz_units.proofs.SharedPackage.{nothing_shared}
 use Rattle.blz_units.proofs.PutItems.{at_each, none_both, put_is}
 
 pub all_put : (f : Files) (side : Side) (headers : List UnitHeader) (caches : List (Cache BuiltUnit)) (k : ℕ) (c : Cache BuiltUnit) → Kept (BuiltFits f) (built_view f) c (or_invalid (unit_of f side headers k)) → AllBuilt f side headers caches → AllBuilt f side headers (slice_set caches k c)
@@ -94,18 +96,18 @@ all_more f headers caches h c here all = record {
 }
 
 -- the same with what they share
-pub side_more : (f : Files) (before after : List UnitHeader) (old new : SideUnits) (h : UnitHeader) (c : Cache BuiltUnit) → after ≡ before ++ h ∷ [] → new.units.items ≡ old.units.items ++ c ∷ [] → IsPartOf f h c → AreShared f.main new.shared → SideFits f File before old → SideFits f File after new
-side_more f before after old new h c e is part shared fits = record { all = rw (e, is) (all_more f before old.units.items h c part fits.all); shared = shared }
+pub side_more : (f : Files) (before after : List UnitHeader) (old new : SideUnits) (h : UnitHeader) (c : Cache BuiltUnit) → after ≡ before ++ h ∷ [] → new.units.items ≡ old.units.items ++ c ∷ [] → new.packed ≡ old.packed → IsPartOf f h c → AreShared f.main new.shared → SideFits f File before old → SideFits f File after new
+side_more f before after old new h c e is same part shared fits = record { all = rw (e, is) (all_more f before old.units.items h c part fits.all); shared = shared; packed = rw same fits.packed }
 
-pub side_same : (f : Files) (headers : List UnitHeader) (old new : SideUnits) → new.units ≡ old.units → AreShared f.main new.shared → SideFits f File headers old → SideFits f File headers new
-side_same f headers old new e shared fits = record { all = rw e fits.all; shared = shared }
+pub side_same : (f : Files) (headers : List UnitHeader) (old new : SideUnits) → new.units ≡ old.units → new.packed ≡ old.packed → AreShared f.main new.shared → SideFits f File headers old → SideFits f File headers new
+side_same f headers old new e same shared fits = record { all = rw e fits.all; shared = shared; packed = rw same fits.packed }
 
 nothing_built : (f : Files) → AllBuilt f File [] []
 nothing_built f = record { same = refl; each = λ k. tt }
 
-pub none_built : (f : Files) (headers : List UnitHeader) (b : SideUnits) → headers ≡ [] → b.units.items ≡ [] → ((s : FileSections) → AreShared s b.shared) → SideFits f File headers b
-none_built f headers b none empty shared = record { all = rw (none, empty) (nothing_built f); shared = shared f.main }
+pub none_built : (f : Files) (headers : List UnitHeader) (b : SideUnits) → headers ≡ [] → b.units.items ≡ [] → ((s : FileSections) → AreShared s b.shared) → IsEmpty b.packed.tables → SideFits f File headers b
+none_built f headers b none empty shared packed = record { all = rw (none, empty) (nothing_built f); shared = shared f.main; packed = nothing_shared f b.packed packed }
 
 -- the kept units share more
-pub shared_again : (f : Files) (t : UnitTable) (old new : built.BuiltUnits) → new.kept.units ≡ old.kept.units → new.sups ≡ old.sups → new.long ≡ old.long → AreShared f.main new.kept.shared → BuiltFit f t old → BuiltFit f t new
-shared_again f t old new units sups long shared fits = record { kept = side_same f t.kept old.kept new.kept units shared fits.kept; sups = rw sups fits.sups; long = rw long fits.long }
+pub shared_again : (f : Files) (t : UnitTable) (old new : built.BuiltUnits) → new.kept.units ≡ old.kept.units → new.kept.packed ≡ old.kept.packed → new.sups ≡ old.sups → new.long ≡ old.long → AreShared f.main new.kept.shared → BuiltFit f t old → BuiltFit f t new
+shared_again f t old new units packed sups long shared fits = record { kept = side_same f t.kept old.kept new.kept units packed shared fits.kept; sups = rw sups fits.sups; long = rw long fits.long }

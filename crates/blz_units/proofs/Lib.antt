@@ -16,6 +16,8 @@ pub mod Choosing
 pub mod PutItems
 pub mod KeptValues
 pub mod SharedTables
+pub mod LineHeaders
+pub mod SharedPackage
 pub mod Shared
 pub mod SharedLines
 pub mod RootKeys

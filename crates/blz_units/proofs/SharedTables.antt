@@ -10,7 +10,7 @@ use Rattle.blz_info.specs.AbbreviationTables.{abbreviations, IsReadFrom}
 use Rattle.blz_info.specs.Abbrevs.{Declared}
 use Rattle.blz_units.specs.declared.shared_tables.SharedTables.{SharedTables}
 use Rattle.blz_units.specs.SharedTables.{table_cmp, AreTables}
-use Rattle.blz_units.proofs.KeptValues.{if_empty, more_kept, more_of}
+use Rattle.blz_units.proofs.KeptValues.{if_empty, number_more, pair_more}
 
 abbrev IsBrokenAt : List ℕ → ℕ → Type 0
 IsBrokenAt bytes at = abbreviations bytes at ≡ None
@@ -42,7 +42,7 @@ module _ (bytes : List ℕ) (old new : SharedTables) where
 
   pub kept_more : (key : ℕ × ℕ) (d : Arc Declared Global) → Updates table_cmp old.kept new.kept key (Some d) → new.broken ≡ old.broken → IsReadFrom bytes (arc_value d) → AreTables bytes old → AreTables bytes new
   kept_more key d u b here tables = record {
-    kept = more_of table_cmp old.kept new.kept key d (λ x. IsReadFrom bytes (arc_value x)) u here tables.kept;
+    kept = pair_more old.kept new.kept key d (λ _ x. IsReadFrom bytes (arc_value x)) u here tables.kept;
     broken = rw b tables.broken;
   }
 
@@ -52,5 +52,5 @@ module _ (bytes : List ℕ) (old new : SharedTables) where
   pub broken_more : (at : ℕ) → Updates nat_cmp old.broken new.broken at (Some tt) → new.kept ≡ old.kept → IsBrokenAt bytes at → AreTables bytes old → AreTables bytes new
   broken_more at u k here tables = record {
     kept = rw k tables.kept;
-    broken = more_kept old.broken new.broken at tt (λ x _. IsBrokenAt bytes x) u here tables.broken;
+    broken = number_more old.broken new.broken at tt (λ x _. IsBrokenAt bytes x) u here tables.broken;
   }

@@ -30,6 +30,7 @@ use Rattle.blz_functions.specs.SearchedFunctions.{AskedFunctions, asked}
 use Rattle.blz_functions.specs.Leaves.{UnitParts}
 use Rattle.blz_functions.specs.FunctionRanges.{FunctionRanges, CallRanges}
 use Rattle.blz_units.specs.LongEntries.{seen_in}
+use Rattle.blz_units.specs.SharedPackage.{IsPackageShared}
 use Rattle.blz_units.specs.Sharing.{AreShared}
 use Rattle.blz_units.specs.UnitAnswers.{main_unit, unit_functions, unit_lines, function_calls}
 use Rattle.blz_units.specs.UnitTables.{UnitTable}
@@ -86,6 +87,7 @@ side_sections f Sup = or_main f f.sup
 pub record SideFits (f : Files) (side : Side) (headers : List UnitHeader) (b : SideUnits) : Type 0 where
   pub all : AllBuilt f side headers b.units.items
   pub shared : AreShared (side_sections f side) b.shared
+  pub packed : IsPackageShared f b.packed
 
 abbrev pub headers_of : Side → UnitTable → List UnitHeader
 headers_of File t = t.kept

@@ -1,6 +1,7 @@
 pub mod BuiltUnits
 pub mod SharedTables
 pub mod Sharing
+pub mod SharedPackage
 pub mod RootKeys
 pub mod Keeping
 pub mod Sets

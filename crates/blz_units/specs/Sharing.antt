@@ -3,12 +3,14 @@
 use Rattle.std.specs.Prelude.{◌≡◌, ℕ, List, Option, Some, IfSome, option_map}
 use Rattle.std.specs.BTreeMap.{get}
 use Rattle.std.specs.Ordering.{nat_cmp}
+use Rattle.blz_info.specs.Contents.{Contents}
 use Rattle.blz_info.specs.FileSections.{FileSections}
 use Rattle.blz_entry.specs.declared.root.UnitRoot.{UnitRoot}
 use Rattle.blz_info.specs.declared.units.UnitHeader.{UnitHeader}
 use Rattle.blz_functions.specs.Leaves.{lying}
 use Rattle.blz_line.specs.UnitLines.{maybe_table}
 use Rattle.blz_ranges.specs.declared.span.Span.{Span}
+use Rattle.blz_units.specs.declared.line_headers.LineHeaders.{LineHeaders}
 use Rattle.blz_units.specs.declared.shared_lines.LinesKey.{LinesKey}
 use Rattle.blz_units.specs.declared.shared_lines.ProgramSpans.{ProgramSpans}
 use Rattle.blz_units.specs.declared.shared_parts.SharedParts.{SharedParts}
@@ -31,8 +33,12 @@ spans_kept p at = option_map spans_told (get nat_cmp p.spans at)
 abbrev pub AreSpansAt : FileSections → ℕ → LinesKey → List Span → Type 0
 AreSpansAt s at key spans = (h : UnitHeader) (r : UnitRoot) → lines_key h r ≡ key → sequences_of (maybe_table (lying s) h r (Some at)) ≡ spans
 
+-- At the offset of each header that is kept stands one that is read with its size of addresses.
+abbrev pub AreHeaders : Contents → LineHeaders → Type 0
+AreHeaders line headers = (at : ℕ) → IfSome (get nat_cmp headers.sizes at) (λ size. line_header line at size ≡ Some tt)
+
 -- What is kept is what stands at its offset.
 pub record AreShared (s : FileSections) (p : SharedParts) : Type 0 where
   pub tables : AreTables s.«abbrev».bytes p.tables
-  pub headers : (at : ℕ) → IfSome (get nat_cmp p.headers at) (λ size. line_header s at size ≡ Some tt)
+  pub headers : AreHeaders s.line p.headers
   pub spans : (at : ℕ) → IfSome (get nat_cmp p.spans at) (λ k. AreSpansAt s at k.key k.spans.items)

@@ -3,14 +3,17 @@ ghost use Rattle.std.specs.Prelude.{◌≡◌, false, ◌≤◌, ◌<◌, ◌+�
 ghost use Rattle.blz_model.specs.Part.{Gives, Exactly};
 ghost use Rattle.blz_info.specs.Marks.{or_invalid};
 ghost use Rattle.blz_entry.specs.Roots.{root_of};
-ghost use Rattle.blz_units.specs.BuiltUnits.{built, built_view, first_unit, has_lines, has_id, not_empty, parts_of, pieces_of, reading, rooted_on, sections_from, split_built, files_view, BuiltFits, IsInside, IsReadable};
+ghost use Rattle.blz_units.specs.BuiltUnits.{built, built_view, first_unit, has_lines, has_id, not_empty, pieces_of, reading, rooted_on, sections_from, table_from, split_built, files_view, BuiltFits, IsInside, IsReadable};
 ghost use Rattle.blz_functions.specs.Leaves.{lying};
 ghost use Rattle.blz_units.specs.declared.dwarf.Origin.TheVariants.{Split};
 ghost use Rattle.blz_functions.specs.Opened.{open_view, CanBeOpened};
-ghost use Rattle.blz_units.specs.Sharing.{AreShared};
+ghost use Rattle.blz_units.specs.SharedPackage.{IsPackageShared};
+ghost use Rattle.blz_units.specs.Sharing.{AreHeaders, AreShared};
 ghost use Rattle.blz_info.specs.FileSections.{sections_view};
 
 use crate::dwarf::{Dwarf, Origin};
+use crate::line_headers::LineHeaders;
+use crate::shared_package::SharedPackage;
 use crate::shared_parts::SharedParts;
 use blz_entry::{Abbreviations, Sections, UnitHeader, UnitHeaders, UnitKind, UnitRoot, invalid};
 use blz_error::Result;
@@ -54,16 +57,16 @@ pub fn may_be_split(dwarf: &Dwarf<'_, '_>, header: &UnitHeader) -> bool
 fn check_lines(
     alloc: Global,
     sections: &Sections<'_, '_>,
-    shared: &mut SharedParts,
+    headers: &mut LineHeaders,
     header: &UnitHeader,
     line: Option<u64>,
 ) -> Result<()>
-    requires { AreShared (sections_view sections.now) shared.old }
+    requires { AreHeaders (sections_view sections.now).line headers.old }
     ensures value { Gives (λ _. tt) result (or_invalid (has_lines (sections_view sections.now) header.now line)) }
-    ensures shared { AreShared (sections_view sections.now) shared.new }
+    ensures headers { AreHeaders (sections_view sections.now).line headers.new }
 {
     match line {
-        Some(at) => shared.check_header(alloc, sections, at, header.address_size),
+        Some(at) => headers.check_header(alloc, sections, at, header.address_size),
         None => Ok(()),
     }
 }
@@ -93,25 +96,6 @@ fn root_of(
     UnitRoot::parse(sections, header, abbreviations)
 }
 
-/// The abbreviations and the root of a unit.
-#[tactic(auto, unfolding(crate::specs::BuiltUnits::built))]
-fn read(
-    alloc: Global,
-    sections: &Sections<'_, '_>,
-    shared: &mut SharedParts,
-    header: &UnitHeader,
-) -> Result<(Abbreviations, UnitRoot)>
-    requires fits { sections.now.shift + length sections.now.info.bytes.now < 2 ^ 64 }
-    requires shared { AreShared (sections_view sections.now) shared.old }
-    ensures value { Gives (λ r. parts_of (sections_view sections.now) header.now (r.0, r.1)) result (or_invalid (built (sections_view sections.now) header.now)) }
-    ensures shared { AreShared (sections_view sections.now) shared.new }
-{
-    let abbreviations = shared.tables.table(alloc, sections, header)?;
-    let root = root_of(sections, header, &abbreviations)?;
-    check_lines(alloc, sections, shared, header, root.line)?;
-    Ok((abbreviations, root))
-}
-
 /// The pieces of the split unit of a unit, where the package has one that is not empty.
 #[tactic(auto, unfolding(crate::specs::BuiltUnits::pieces_of))]
 fn pieces_of(dwarf: &Dwarf<'_, '_>, header: &UnitHeader) -> Result<Option<SplitUnit>>
@@ -139,9 +123,40 @@ fn not_empty(pieces: Option<SplitUnit>) -> Option<SplitUnit>
 }
 
 impl BuiltUnit {
+    /// Builds a unit of an origin that has these abbreviations.
+    #[tactic(auto, unfolding(crate::specs::BuiltUnits::built))]
+    fn with_table(
+        alloc: Global,
+        dwarf: &Dwarf<'_, '_>,
+        headers: &mut LineHeaders,
+        origin: Origin,
+        header: &UnitHeader,
+        abbreviations: Abbreviations,
+    ) -> Result<BuiltUnit>
+        requires readable { IsReadable dwarf.now }
+        requires inside { IsInside (files_view dwarf.now).«package» origin }
+        requires ordered { header.now.entries ≤ header.now.end }
+        requires table { table_from (files_view dwarf.now) origin header.now ≡ Some abbreviations }
+        requires headers { AreHeaders (sections_from (files_view dwarf.now) origin).line headers.old }
+        ensures value { Gives (built_view (files_view dwarf.now)) result (or_invalid (built (sections_from (files_view dwarf.now) origin) header.now)) }
+        ensures fits { IfOk result (BuiltFits (files_view dwarf.now)) }
+        ensures origin { IfOk result (λ u. u.origin ≡ origin) }
+        ensures headers { AreHeaders (sections_from (files_view dwarf.now) origin).line headers.new }
+    {
+        let sections = dwarf.sections(&origin);
+        let root = root_of(&sections, header, &abbreviations)?;
+        check_lines(alloc, &sections, headers, header, root.line)?;
+        Ok(BuiltUnit {
+            header: *header,
+            abbreviations,
+            root,
+            origin,
+        })
+    }
+
     /// Builds a unit of an origin. InvalidDwarf exactly where its abbreviations, its root or the header of its line
     /// program have no value.
-    #[tactic(auto, using(crate::proofs::Shared::shared_to, crate::proofs::Shared::shared_from))]
+    #[tactic(auto, unfolding(crate::specs::BuiltUnits::built), using(crate::proofs::Shared::shared_to, crate::proofs::Shared::shared_from))]
     pub fn of_file(
         alloc: Global,
         dwarf: &Dwarf<'_, '_>,
@@ -159,13 +174,8 @@ impl BuiltUnit {
         ensures shared { AreShared (sections_from (files_view dwarf.now) origin) shared.new }
     {
         let sections = dwarf.sections(&origin);
-        let (abbreviations, root) = read(alloc, &sections, shared, header)?;
-        Ok(BuiltUnit {
-            header: *header,
-            abbreviations,
-            root,
-            origin,
-        })
+        let table = shared.tables.table(alloc, &sections, header)?;
+        BuiltUnit::with_table(alloc, dwarf, &mut shared.headers, origin, header, table)
     }
 
     /// The unit with addresses and ranges that count from those of its main unit.
@@ -180,23 +190,51 @@ impl BuiltUnit {
         BuiltUnit { root, ..self }
     }
 
-    /// The unit of the pieces of a package, based on the main unit that has its id. It shares nothing with others.
+    /// Builds a unit of some pieces of the package. Its line program is one of the main file.
+    #[tactic(auto, unfolding(crate::specs::BuiltUnits::built))]
+    fn of_package(
+        alloc: Global,
+        dwarf: &Dwarf<'_, '_>,
+        headers: &mut LineHeaders,
+        packed: &mut SharedPackage,
+        pieces: SplitUnit,
+        header: &UnitHeader,
+    ) -> Result<BuiltUnit>
+        requires readable { IsReadable dwarf.now }
+        requires inside { IsInside (files_view dwarf.now).«package» (Split pieces) }
+        requires ordered { header.now.entries ≤ header.now.end }
+        requires headers { AreHeaders (files_view dwarf.now).main.line headers.old }
+        requires packed { IsPackageShared (files_view dwarf.now) packed.old }
+        ensures value { Gives (built_view (files_view dwarf.now)) result (or_invalid (built (sections_from (files_view dwarf.now) (Split pieces)) header.now)) }
+        ensures fits { IfOk result (BuiltFits (files_view dwarf.now)) }
+        ensures headers { AreHeaders (files_view dwarf.now).main.line headers.new }
+        ensures packed { IsPackageShared (files_view dwarf.now) packed.new }
+    {
+        let table = packed.table(alloc, dwarf, pieces, header)?;
+        BuiltUnit::with_table(alloc, dwarf, headers, Origin::Split(pieces), header, table)
+    }
+
+    /// The unit of the pieces of a package, based on the main unit that has its id.
     #[tactic(auto, unfolding(crate::specs::BuiltUnits::split_built))]
     fn of_pieces(
         alloc: Global,
         dwarf: &Dwarf<'_, '_>,
+        headers: &mut LineHeaders,
+        packed: &mut SharedPackage,
         pieces: SplitUnit,
         main: &UnitRoot,
     ) -> Result<BuiltUnit>
         requires readable { IsReadable dwarf.now }
         requires inside { IsInside (files_view dwarf.now).«package» (Split pieces) }
+        requires headers { AreHeaders (files_view dwarf.now).main.line headers.old }
+        requires packed { IsPackageShared (files_view dwarf.now) packed.old }
         ensures value { Gives (built_view (files_view dwarf.now)) result (or_invalid (split_built (sections_from (files_view dwarf.now) (Split pieces)) main.now)) }
         ensures fits { IfOk result (BuiltFits (files_view dwarf.now)) }
+        ensures headers { AreHeaders (files_view dwarf.now).main.line headers.new }
+        ensures packed { IsPackageShared (files_view dwarf.now) packed.new }
     {
-        let origin = Origin::Split(pieces);
-        let header = first_header(&dwarf.sections(&origin))?;
-        let mut shared = SharedParts::new(alloc);
-        let unit = BuiltUnit::of_file(alloc, dwarf, &mut shared, origin, &header)?;
+        let header = first_header(&dwarf.sections(&Origin::Split(pieces)))?;
+        let unit = BuiltUnit::of_package(alloc, dwarf, headers, packed, pieces, &header)?;
         Ok(unit.based_on(main))
     }
 
@@ -208,20 +246,30 @@ impl BuiltUnit {
         alloc: Global,
         dwarf: &Dwarf<'_, '_>,
         shared: &mut SharedParts,
+        packed: &mut SharedPackage,
         header: &UnitHeader,
     ) -> Result<BuiltUnit>
         requires readable { IsReadable dwarf.now }
         requires ordered { header.now.entries ≤ header.now.end }
         requires shared { AreShared (files_view dwarf.now).main shared.old }
+        requires packed { IsPackageShared (files_view dwarf.now) packed.old }
         ensures value { Gives (built_view (files_view dwarf.now)) result (or_invalid (reading (files_view dwarf.now) header.now)) }
         ensures fits { IfOk result (BuiltFits (files_view dwarf.now)) }
         ensures shared { AreShared (files_view dwarf.now).main shared.new }
+        ensures packed { IsPackageShared (files_view dwarf.now) packed.new }
     {
         let Some(pieces) = pieces_of(dwarf, header)? else {
             return BuiltUnit::of_file(alloc, dwarf, shared, Origin::Main, header);
         };
         let main = BuiltUnit::of_file(alloc, dwarf, shared, Origin::Main, header)?;
-        BuiltUnit::of_pieces(alloc, dwarf, pieces, &main.root)
+        BuiltUnit::of_pieces(
+            alloc,
+            dwarf,
+            &mut shared.headers,
+            packed,
+            pieces,
+            &main.root,
+        )
     }
 
     /// The unit with the sections that it was built from.

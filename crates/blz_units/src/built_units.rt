@@ -15,6 +15,7 @@ ghost use Rattle.blz_info.specs.FileSections.{FileSections};
 use crate::built_unit::BuiltUnit;
 use crate::dwarf::Dwarf;
 use crate::long_entries::LongEntries;
+use crate::shared_package::SharedPackage;
 use crate::shared_parts::SharedParts;
 use crate::unit_list::UnitList;
 use blz_entry::invalid;
@@ -38,6 +39,8 @@ pub enum Side {
 pub struct SideUnits {
     pub units: Vec<Cache<BuiltUnit>>,
     pub shared: SharedParts,
+    /// What the split units of the package share, from which those of the file itself are read.
+    pub packed: SharedPackage,
 }
 
 /// The units that were built: the kept ones of the file itself, and those of the supplementary file.
@@ -65,11 +68,13 @@ impl SideUnits {
     pub fn new(alloc: Global) -> SideUnits
         ensures units { result.units.items ≡ [] }
         ensures shared { (s : FileSections) → AreShared s result.shared }
+        ensures packed { IsEmpty result.packed.tables }
         ensures bytes { IsEmpty result.shared.tables.bytes }
     {
         SideUnits {
             units: Vec::new(alloc),
             shared: SharedParts::new(alloc),
+            packed: SharedPackage::new(alloc),
         }
     }
 }

@@ -12,6 +12,7 @@ returns-clause-fits c =
     record {
       all = rw c.put.ensures (all_put f c.args.side c.args.units.now c.args.built.now.units.items c.args.number c.in_ok-made.made (kept_by f c.args.side c.args.units.now c.args.number c.in-Some.header c.in_ok-made.made (sym c.in-Some.ensures.header) c.in_ok-made.ensures.kept) c.requires.fits.all);
       shared = c.part.ensures.shared;
+      packed = c.part.ensures.packed;
     }
 
 pub returns-clause-filled : goal.returns-clause-filled

@@ -1,4 +1,4 @@
-use Rattle.std.proofs.Common.{sym, ap, subst, ◌∙◌, ℕ}
+use Rattle.std.proofs.Common.{rules, sym, ap, subst, ◌∙◌, ℕ}
 use Rattle.std.proofs.lemmas.Result.{err_from_is_err_and}
 use Rattle.blz_info.specs.Contents.{section_view}
 use Rattle.blz_entry.specs.Folds.{fold_maybe}
@@ -8,6 +8,7 @@ use Rattle.blz_units.specs.BuiltUnits.{files_view}
 use Rattle.blz_units.specs.Keeping.{units_told}
 use Rattle.blz_units.specs.UnitLists.{EndBefore}
 use Rattle.blz_units.specs.UnitTables.{with_unit}
+use Rattle.blz_units.proofs.BuiltSteps.{none_built}
 use Rattle.blz_units.proofs.HeaderSteps.{headers_more, headers_fail, headers_over, place_behind, section_behind, step_on, step_fails, bad_header, good_header, no_header_left}
 use Rattle.blz_units.proofs.kept_units.KeptUnits.read.Goals as goal
 
@@ -41,3 +42,12 @@ pub returns-clause-value : goal.returns-clause-value
 returns-clause-value c =
     let step = with_unit (files_view c.args.dwarf.now).main c.args.sets.now in
     ap or_invalid (sym c.loop-built.invariant.rest ∙ headers_over (fold_maybe step (units_told c.loop-built.units)) (section_view c.args.dwarf.now.main.info) c.loop-built.headers c.loop-built.invariant.section (no_header_left _ _ c.in_ok-header.ensures.value c.in_default.is))
+
+pub loop-built-init : goal.loop-built-init
+loop-built-init c = record {
+  section = search rules;
+  last = search rules;
+  behind = search rules;
+  built = none_built (files_view c.args.dwarf.now) c.new-units.result.kept c.new-built.result (search rules) c.new-built.ensures.units c.new-built.ensures.shared c.new-built.ensures.packed;
+  rest = search rules;
+}

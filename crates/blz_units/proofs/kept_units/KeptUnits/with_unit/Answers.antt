@@ -33,7 +33,7 @@ pub returns-in-NotKept-clause-fits : goal.returns-in-NotKept-clause-fits
 returns-in-NotKept-clause-fits c =
     let f = files_view c.args.dwarf.now in
     let before = subst (λ (k : Keeping). SideFits f File k.kept c.args.built.now) (sym c.self.view_is) c.requires.fits in
-    side_same f c.self.inside.kept c.args.built.now _ refl c.announced.ensures.shared before
+    side_same f c.self.inside.kept c.args.built.now _ refl refl c.announced.ensures.shared before
 
 -- ---- a unit that announces what the last one does
 
@@ -68,7 +68,7 @@ pub returns-in_ok-keep-in-Again-clause-fits : goal.returns-in_ok-keep-in-Again-c
 returns-in_ok-keep-in-Again-clause-fits c =
     let f = files_view c.args.dwarf.now in
     let before = subst (λ (k : Keeping). SideFits f File k.kept c.args.built.now) (sym c.self.view_is) c.requires.fits in
-    side_more f c.self.inside.kept _ c.args.built.now _ c.args.header c.in-Again.unit (ap (λ (k : Keeping). k.kept) c.in_ok-keep-in-Again.ensures) c.in_ok-push-in-Again.ensures.items (rw c.in-Again.is at c.in_ok-told.ensures.part) c.announced.ensures.shared before
+    side_more f c.self.inside.kept _ c.args.built.now _ c.args.header c.in-Again.unit (ap (λ (k : Keeping). k.kept) c.in_ok-keep-in-Again.ensures) c.in_ok-push-in-Again.ensures.items refl (rw c.in-Again.is at c.in_ok-told.ensures.part) c.announced.ensures.shared before
 
 -- ---- a unit with ranges of its own
 
@@ -103,4 +103,4 @@ pub returns-in_ok-keep-in-Ranges-clause-fits : goal.returns-in_ok-keep-in-Ranges
 returns-in_ok-keep-in-Ranges-clause-fits c =
     let f = files_view c.args.dwarf.now in
     let before = subst (λ (k : Keeping). SideFits f File k.kept c.args.built.now) (sym c.self.view_is) c.requires.fits in
-    side_more f c.self.inside.kept _ c.args.built.now _ c.args.header c.in-Ranges.unit (ap (λ (k : Keeping). k.kept) c.in_ok-keep-in-Ranges.ensures) c.in_ok-push-in-Ranges.ensures.items (rw c.in-Ranges.is at c.in_ok-told.ensures.part) c.announced.ensures.shared before
+    side_more f c.self.inside.kept _ c.args.built.now _ c.args.header c.in-Ranges.unit (ap (λ (k : Keeping). k.kept) c.in_ok-keep-in-Ranges.ensures) c.in_ok-push-in-Ranges.ensures.items refl (rw c.in-Ranges.is at c.in_ok-told.ensures.part) c.announced.ensures.shared before
