@@ -158,6 +158,25 @@ def units_of_tails_of_a_table_without_an_end(n):
 
 
 @shape
+def units_of_tails_of_a_table_without_an_end_the_shortest_first(n):
+    table, units = tails_of_a_table(n, b"")
+    return Attack(dwarf(table, b"".join(reversed(units))), [0])
+
+
+@shape
+def units_of_tails_of_a_table_that_has_a_code_twice(n):
+    table, units = tails_of_a_table(n, abbreviation(1, root([FLAG], 0)) + b"\0")
+    return Attack(dwarf(table, b"".join(units)), [0])
+
+
+@shape
+def units_of_tails_of_a_table_that_has_each_code_twice(n):
+    # each tail that begins in the first half is broken by a code of its own
+    table, units = tails_of_a_table(n)
+    return Attack(dwarf(table[:-1] + table, b"".join(units)), [0])
+
+
+@shape
 def units_of_one_table_without_an_end(n):
     table = b"".join(abbreviation(k + 1, root([FLAG], 0)) for k in range(3 * n))
     return Attack(dwarf(table, unit(uleb(1)) * n), [0])

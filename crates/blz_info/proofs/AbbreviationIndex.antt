@@ -10,7 +10,7 @@ use Rattle.std.proofs.lemmas.List.{length-append, drop-append-le, take-append-dr
 use Rattle.std.proofs.lemmas.Grind.{common_steps}
 use Rattle.std.proofs.Math.ListN.{drop_of_length-le}
 use Rattle.std.proofs.Math.Seq.{take-append_seam}
-use Rattle.blz_info.specs.Abbrevs.{Abbrev, of_code, place_of, placed_from, looked_up, IsIndexed}
+use Rattle.blz_info.specs.Abbrevs.{Abbrev, of_code, place_of, placed_from, IsIndexed, IsNumberOf}
 
 pub slice_get-append : {A : Type 0} (xs ys : List A) (i : ℕ) → i < length xs → slice_get (xs ++ ys) i ≡ slice_get xs i
 slice_get-append [] ys i lt = absurd (omega arith)
@@ -55,7 +55,7 @@ at_front ordered code others table i above below e =
     let a = lt-ltb 0 code above in
     let b = le-leb code ordered below in
     let within = le-ltb (code - 1) 0 (omega arith) in
-    let found : of_code code table ≡ slice_get table (code - 1) = rw (a, b, within) at (i.found 0 code) in
+    let found : of_code code table ≡ slice_get table (code - 1) = rw (a, b, within) at (i.found code 0) in
     let none : Some p.0 ≡ None = sym p.1 ∙ sym found ∙ e in
     cc
   where
@@ -102,21 +102,21 @@ module _ (table : List Abbrev) (a : Abbrev) (ordered next : ℕ) (others n : BTr
     | inr ne ↦ let lt = inside_place ordered code place others table i (sym (there code ne) ∙ e) in omega (arith, lt)
   ]
 
-  found_within : (start code : ℕ) → start ≤ length table → of_code code (drop start table ++ a ∷ []) ≡ looked_up next n more start code
+  found_within : (start code : ℕ) → start ≤ length table → of_code code (drop start table ++ a ∷ []) ≡ option_and_then (placed_from more start) (place_of next n code)
   unfolding more
   found_within start code le = elim (cases_eq a.code code) [
     | inl same ↦
-        let P : ℕ → Type 0 = λ k. of_code k (drop start table ++ a ∷ []) ≡ looked_up next n (table ++ a ∷ []) start k in
+        let P : ℕ → Type 0 = λ k. of_code k (drop start table ++ a ∷ []) ≡ option_and_then (placed_from (table ++ a ∷ []) start) (place_of next n k) in
         let within = le-ltb (length table) start le in
         subst P same (arrives (drop start table) a (none_behind table start a.code new) ∙ rw (here, within) (sym (slice_get-append_seam table a)))
     | inr ne ↦
-        others_stay (drop start table) a code ne ∙ i.found start code
+        others_stay (drop start table) a code ne ∙ i.found code start
         ∙ sym (ap (option_and_then (placed_from (table ++ a ∷ []) start)) (there code ne) ∙ looked_stays table a start (place_of ordered others code) (λ k e. inside_place ordered code k others table i e))
   ]
 
-  found_more : (start code : ℕ) → of_code code (drop start more) ≡ looked_up next n more start code
+  found_more : (code : ℕ) → IsNumberOf code more (place_of next n code)
   unfolding more
-  found_more start code = elim (cases_lt (length table) start) [
+  found_more code start = elim (cases_lt (length table) start) [
     | inl past ↦
         let len = length-append table (a ∷ []) in
         ap (of_code code) (drop_of_length-le (table ++ a ∷ []) (omega (arith, len, past)))
@@ -178,7 +178,7 @@ pub index_stays : (table : List Abbrev) (ordered : ℕ) (others n : BTreeMap ℕ
 index_stays table ordered others n i same = record {
   front = i.front;
   inside = λ code place e. i.inside code place (rw same at e);
-  found = λ start code. i.found start code ∙ rw same refl;
+  found = λ code start. i.found code start ∙ rw same refl;
 }
 
 -- an element that was pushed and taken back

@@ -1,16 +1,20 @@
 -- The tables that begin at the declarations of a longer one are its tails.
-use Rattle.std.proofs.Common.{◌≡◌, ℕ, ◌+◌, ◌-◌, ◌<◌, ◌≤◌, true, false, eqb, List, [], ◌∷◌, ◌++◌, length, drop, Option, Some, None, refl, ap, ◌∙◌, arith, inl, inr}
+use Rattle.std.proofs.Common.{◌≡◌, ◌≢◌, ℕ, zero, suc, ◌+◌, ◌-◌, ◌<◌, ◌≤◌, true, false, eqb, List, [], ◌∷◌, ◌++◌, length, take, drop, Option, Some, None, refl, ap, ◌∙◌, arith, inl, inr}
 use Rattle.std.specs.Prelude.{IfSome, is_some, slice_get}
-use Rattle.std.proofs.lemmas.Bool.{cases_lt}
+use Rattle.std.proofs.lemmas.Bool.{cases_lt, le-ltb}
 use Rattle.std.proofs.lemmas.List.{length-append, drop-append-le}
-use Rattle.std.proofs.lemmas.Option.{slice_get_within, slice_get_past}
+use Rattle.std.proofs.lemmas.Option.{slice_get_within, slice_get_past, slice_get_cases}
 use Rattle.std.proofs.Math.Seq.{drop-length}
+use Rattle.blz_error.specs.declared.kind.ErrorKind.{ErrorKind}
+use Rattle.blz_error.specs.declared.kind.ErrorKind.TheVariants.{OutOfMemory}
 use Rattle.blz_model.specs.LebNumbers.{uleb}
-use Rattle.blz_info.specs.Abbrevs.{Abbrev, Declared}
-use Rattle.blz_info.specs.AbbreviationTables.{abbreviations, abbreviation_at, has_code, table_in, IsReadFrom}
+use Rattle.blz_model.specs.Part.{Fails}
+use Rattle.blz_info.specs.Abbrevs.{Abbrev, Declared, of_code, IsNumberOf}
+use Rattle.blz_info.specs.AbbreviationTables.{abbreviations, abbreviation_at, has_code, table_in, AreBroken, IsReadFrom}
+use Rattle.blz_info.specs.Marks.{or_invalid}
 use Rattle.blz_info.proofs.AbbreviationIndex.{none_behind, slice_get-append, slice_get-append_seam}
-use Rattle.blz_info.proofs.AbbreviationSteps.{table_more, table_last}
-use Rattle.blz_info.proofs.Marked.{is_none}
+use Rattle.blz_info.proofs.AbbreviationSteps.{table_more, table_last, table_stops}
+use Rattle.blz_info.proofs.Marked.{is_none, no_part}
 
 -- What is left to read of the table at each place: the same bytes behind fewer abbreviations.
 abbrev pub AreTails : List ℕ → Declared → ℕ → Type 0
@@ -19,6 +23,16 @@ AreTails bytes d place = (number : ℕ) → IfSome (slice_get d.places number) (
 if_some_to : {A : Type 0} (o : Option A) (P Q : A → Type 0) → ((x : A) → o ≡ Some x → P x → Q x) → IfSome o P → IfSome o Q
 if_some_to None P Q h p = tt
 if_some_to (Some x) P Q h p = h x refl p
+
+if_some_by : {A : Type 0} (o : Option A) (Q : A → Type 0) → ((x : A) → o ≡ Some x → Q x) → IfSome o Q
+if_some_by None Q h = tt
+if_some_by (Some x) Q h = h x refl
+
+taken : {A : Type 0} (xs : List A) (count i : ℕ) (x : A) → slice_get (take count xs) i ≡ Some x → (i < count) × (slice_get xs i ≡ Some x)
+taken xs zero i x e = absurd cc
+taken [] (suc count) i x e = absurd cc
+taken (y ∷ xs) (suc count) zero x e = (omega arith, e)
+taken (y ∷ xs) (suc count) (suc i) x e = let behind = taken xs count i x e in (omega (arith, behind.0), behind.1)
 
 no_code_behind : (list : List Abbrev) (number code : ℕ) → has_code code list ≡ false → has_code code (drop number list) ≡ false
 no_code_behind list number code e = ap is_some (none_behind list number code (is_none _ e))
@@ -62,3 +76,37 @@ module _ (bytes : List ℕ) (d : Declared) (place code next : ℕ) (fits : lengt
       (λ at. abbreviations bytes at ≡ Some (drop number d.list))
       (λ at is tail. tail ∙ table_last _ (length bytes - (length d.list - number) - 1) (drop number d.list) bytes place code next (omega (arith, fits)) read e)
       (tails number)
+
+-- What is read next is broken for each of them.
+pub tails_broken : (bytes : List ℕ) (d : Declared) (place : ℕ) → AreTails bytes d place → ((m number : ℕ) → table_in m (drop number d.list) bytes place ≡ None) → AreBroken bytes d.places
+tails_broken bytes d place tails none number =
+    if_some_to (slice_get d.places number)
+    (λ at. abbreviations bytes at ≡ table_in (length bytes - (length d.list - number)) (drop number d.list) bytes place)
+    (λ at. abbreviations bytes at ≡ None)
+    (λ at _ tail. tail ∙ none _ number)
+    (tails number)
+
+-- It is broken for the first so many of them.
+pub first_tails_broken : (bytes : List ℕ) (d : Declared) (place count : ℕ) → AreTails bytes d place → ((m number : ℕ) → number < count → table_in m (drop number d.list) bytes place ≡ None) → AreBroken bytes (take count d.places)
+first_tails_broken bytes d place count tails none number =
+    if_some_by (slice_get (take count d.places) number)
+    (λ at. abbreviations bytes at ≡ None)
+    (λ at is.
+    let here = taken d.places count number at is in
+    let tail : abbreviations bytes at ≡ table_in (length bytes - (length d.list - number)) (drop number d.list) bytes place = rw here.1 at (tails number) in
+    tail ∙ none _ number here.0)
+
+-- The one that is read next has no value, if it is not memory that was wanting.
+pub tails_stop : (bytes : List ℕ) (d : Declared) (place code next : ℕ) (kind : ErrorKind) → uleb bytes place ≡ Some (code, next) → eqb code 0 ≡ false → Fails kind (or_invalid (abbreviation_at code bytes next)) → AreTails bytes d place → kind ≢ OutOfMemory → AreBroken bytes d.places
+tails_stop bytes d place code next kind read e fails tails memory =
+    tails_broken bytes d place tails (λ m number. table_stops m (drop number d.list) bytes place code next read e (no_part kind (abbreviation_at code bytes next) fails memory))
+
+-- A code of a number stands in each tail that begins at it or before it.
+pub tail_has : (code : ℕ) (list : List Abbrev) (number start : ℕ) → IsNumberOf code list (Some number) → number < length list → start ≤ number → has_code code (drop start list) ≡ true
+tail_has code list number start is inside le = elim ((slice_get_cases list number).1) [
+  | inl here ↦
+      let within = le-ltb number start le in
+      let found : of_code code (drop start list) ≡ Some here.0 = rw (within, here.2) at (is start) in
+      rw found refl
+  | inr past ↦ let ge = past.0 in absurd (omega (arith, inside, ge))
+]

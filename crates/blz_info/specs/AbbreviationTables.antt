@@ -61,3 +61,7 @@ abbreviations bytes at = table_in (length bytes) [] bytes at
 -- At each place of the declarations stands the table of those that begin there and behind it.
 abbrev pub IsReadFrom : List ℕ → Declared → Type 0
 IsReadFrom bytes d = (number : ℕ) → IfSome (slice_get d.places number) (λ at. abbreviations bytes at ≡ Some (drop number d.list))
+
+-- At none of some places stands a table.
+abbrev pub AreBroken : List ℕ → List ℕ → Type 0
+AreBroken bytes places = (number : ℕ) → IfSome (slice_get places number) (λ at. abbreviations bytes at ≡ None)

@@ -24,14 +24,15 @@ place_of ordered others code = if nat_lt 0 code && nat_le code ordered then Some
 abbrev pub placed_from : List Abbrev → ℕ → ℕ → Option Abbrev
 placed_from table start place = if nat_lt place start then None else slice_get table place
 
-abbrev pub looked_up : ℕ → BTreeMap ℕ ℕ → List Abbrev → ℕ → ℕ → Option Abbrev
-looked_up ordered others table start code = option_and_then (placed_from table start) (place_of ordered others code)
+-- The abbreviation of a code stands at a number, or at none, in the list and in each of its tails.
+abbrev pub IsNumberOf : ℕ → List Abbrev → Option ℕ → Type 0
+IsNumberOf code table number = (start : ℕ) → of_code code (drop start table) ≡ option_and_then (placed_from table start) number
 
--- Each code is found where the front of the list or the map tells, in the list and in each of its tails.
+-- Each code is found where the front of the list or the map tells.
 pub record IsIndexed (ordered : ℕ) (others : BTreeMap ℕ ℕ) (table : List Abbrev) : Type 0 where
   pub front : ordered ≤ length table
   pub inside : (code place : ℕ) → get nat_cmp others code ≡ Some place → place < length table
-  pub found : (start code : ℕ) → of_code code (drop start table) ≡ looked_up ordered others table start code
+  pub found : (code : ℕ) → IsNumberOf code table (place_of ordered others code)
 
 -- Declarations that were read: the abbreviations, where each of them begins, and behind them where the code 0 stands.
 pub record Declared : Type 0 where

@@ -1,5 +1,5 @@
 //! Abbreviations: what the entries of one code have in common.
-ghost use Rattle.std.specs.Prelude.{◌≡◌, [], ◌==◌, length, IfSome, IfOk};
+ghost use Rattle.std.specs.Prelude.{◌≡◌, ◌≤◌, ◌<◌, [], ◌==◌, length, IfSome, IfOk};
 ghost use Rattle.blz_model.specs.Part.{Gives};
 ghost use Rattle.blz_info.specs.Marks.{or_invalid};
 ghost use Rattle.blz_info.specs.AttributeRuns.{Passes, Reads};
@@ -94,7 +94,8 @@ impl Abbreviation {
 
 #[tactic(auto, unfolding(crate::specs::AbbreviationTables::spec_at))]
 fn spec_at(bytes: &[u8], at: usize) -> Option<(AttrSpec, usize)>
-    ensures { result ≡ spec_at bytes.now at }
+    ensures value { result ≡ spec_at bytes.now at }
+    ensures ahead { IfSome result (λ r. at < r.1) }
 {
     let (name, next) = uleb_at(bytes, at)?;
     let (form, next) = uleb_at(bytes, next)?;
@@ -127,7 +128,8 @@ fn is_last(spec: AttrSpec) -> bool
 }
 
 fn specs_at(alloc: Global, bytes: &[u8], at: usize) -> Result<(Vec<AttrSpec>, usize)>
-    ensures { Gives (λ x. (x.0.items, x.1)) result (or_invalid (specs_in (length bytes.now) [] bytes.now at)) }
+    ensures value { Gives (λ x. (x.0.items, x.1)) result (or_invalid (specs_in (length bytes.now) [] bytes.now at)) }
+    ensures ahead { IfOk result (λ x. at ≤ x.1) }
 {
     let mut specs = Vec::new(alloc);
     let mut place = at;
@@ -165,6 +167,7 @@ pub(crate) fn abbreviation_at(
 ) -> Result<(Abbreviation, usize)>
     ensures value { Gives (λ x. x) result (or_invalid (abbreviation_at code bytes.now at)) }
     ensures code { IfOk result (λ x. x.0.code ≡ code) }
+    ensures ahead { IfOk result (λ x. at < x.1) }
 {
     let Some((tag, next)) = uleb_at(bytes, at) else {
         return Err(invalid("an abbreviation has no tag"));

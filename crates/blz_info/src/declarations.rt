@@ -1,18 +1,18 @@
 //! Declarations of abbreviations that stand one after the other.
-ghost use Rattle.std.specs.Prelude.{◌≡◌, ◌++◌, ◌∷◌, [], length, drop, IfSome, IfErr, IfOk, OnOk, Some, None};
+ghost use Rattle.std.specs.Prelude.{◌≡◌, ◌≢◌, ◌<◌, ◌++◌, ◌∷◌, [], length, drop, IfSome, IfErr, IfOk, OnOk, Some, None};
 ghost use Rattle.std.specs.List.{slice_get};
 ghost use Rattle.std.specs.Option.{option_copied};
 ghost use Rattle.blz_error.specs.declared.kind.ErrorKind.TheVariants.{OutOfMemory};
-ghost use Rattle.blz_model.specs.Part.{Gives};
+ghost use Rattle.blz_model.specs.Part.{Fails, Gives};
 ghost use Rattle.blz_info.specs.Marks.{or_invalid};
-ghost use Rattle.blz_info.specs.Abbrevs.{of_code, bytes_of, placed_from};
-ghost use Rattle.blz_info.specs.AbbreviationTables.{abbreviations, has_code, IsReadFrom};
+ghost use Rattle.blz_info.specs.Abbrevs.{of_code, bytes_of, IsNumberOf};
+ghost use Rattle.blz_info.specs.AbbreviationTables.{abbreviations, AreBroken, IsReadFrom};
 
 use crate::abbreviations::{Abbreviation, abbreviation_at};
 use crate::encoding::Encoding;
 use crate::fault::invalid;
 use blz_bytes::uleb_at;
-use blz_error::Result;
+use blz_error::{Error, ErrorKind, Result};
 use std::alloc::{AllocError, Global};
 use std::collections::BTreeMap;
 use std::marker::Model;
@@ -28,6 +28,14 @@ pub struct Declarations {
     ordered: usize,
     // where each other code stands
     others: BTreeMap<u64, usize>,
+}
+
+/// Why there is no table of abbreviations at an offset, and at which offsets there are none as well; at none where memory was
+/// wanting.
+#[derive(Drop)]
+pub struct BrokenTables {
+    pub fault: Error,
+    pub places: Vec<u64>,
 }
 
 impl Model for Declarations {
@@ -69,15 +77,19 @@ impl Declarations {
         }
     }
 
-    /// What stands at a place of the list, but for the first so many.
+    /// The number of the one that has a code.
     #[inline(always)]
-    fn placed_from(&self, start: usize, place: usize) -> Option<&Abbreviation>
-        ensures { option_copied result ≡ placed_from self.now.list start place }
+    fn number_of(&self, code: u64) -> Option<usize>
+        ensures inside { IfSome result (λ k. k < length self.now.list) }
+        ensures found { IsNumberOf code self.now.list result }
     {
-        if place < start {
-            return None;
+        if code > 0 && code <= self.ordered as u64 {
+            return Some(code as usize - 1);
         }
-        self.table.get(place)
+        match self.others.get(&code) {
+            Some(number) => Some(*number),
+            None => None,
+        }
     }
 
     /// The abbreviation of a code among all but the first so many; None exactly where there is none.
@@ -85,11 +97,11 @@ impl Declarations {
     pub(crate) fn get_from(&self, start: usize, code: u64) -> Option<&Abbreviation>
         ensures { option_copied result ≡ of_code code (drop start self.now.list) }
     {
-        if code > 0 && code <= self.ordered as u64 {
-            return self.placed_from(start, code as usize - 1);
+        let number = self.number_of(code)?;
+        if number < start {
+            return None;
         }
-        let place = self.others.get(&code)?;
-        self.placed_from(start, *place)
+        Some(&self.table[number])
     }
 
     /// The number of the one that begins at an offset. Behind all of them stands the code 0.
@@ -100,12 +112,6 @@ impl Declarations {
             Ok(number) => Some(number),
             Err(_) => None,
         }
-    }
-
-    fn has(&self, code: u64) -> bool
-        ensures { result ≡ has_code code self.now.list }
-    {
-        self.get_from(0, code).is_some()
     }
 
     /// Notes where the next one begins, or where the code 0 stands.
@@ -135,9 +141,73 @@ impl Declarations {
         Ok(())
     }
 
+    /// Reads those from an offset of `.debug_abbrev` on into what is empty. Where they are not whole, those places are left
+    /// of which no table that begins there is whole: all that begin before what is broken, and where a code stands twice those
+    /// that begin before it or at it.
+    fn read(&mut self, alloc: Global, abbrev: &[u8], at: u64, encoding: Encoding) -> Result<()>
+        requires { self.old ≡ record { list = []; places = [] } }
+        ensures value { Gives (λ _. self.new.list) result (or_invalid (abbreviations «abbrev».now at)) }
+        ensures places { IfOk result (λ _. IsReadFrom «abbrev».now self.new) }
+        ensures broken { IfErr result (λ e. e.kind ≢ OutOfMemory → AreBroken «abbrev».now self.new.places) }
+    {
+        if at > abbrev.len() as u64 {
+            return Err(invalid("abbreviations lie outside their section"));
+        }
+        let mut place = at as usize;
+        for _ in 0..abbrev.len() {
+            self.mark(place)?;
+            let Some((code, next)) = uleb_at(abbrev, place) else {
+                return Err(invalid("an abbreviation has no code"));
+            };
+            if code == 0 {
+                return Ok(());
+            }
+            if let Some(number) = self.number_of(code) {
+                self.places.truncate(number + 1);
+                return Err(invalid("an abbreviation code stands twice"));
+            }
+            let (abbreviation, next) = abbreviation_at(alloc, encoding, code, abbrev, next)?;
+            self.add(abbreviation)?;
+            place = next;
+        }
+        Err(invalid("abbreviations do not end"))
+    }
+
+    /// Why they were not read, with the places that are left.
+    fn broken(self, fault: Error) -> BrokenTables
+        ensures fault { result.fault.kind ≡ fault.kind }
+        ensures memory { fault.kind ≡ OutOfMemory → result.places.items ≡ [] }
+        ensures places { fault.kind ≢ OutOfMemory → result.places.items ≡ self.places }
+    {
+        let Declarations { mut places, .. } = self;
+        if let ErrorKind::OutOfMemory = fault.kind() {
+            places.clear();
+        }
+        BrokenTables { fault, places }
+    }
+
     /// The declarations from an offset of `.debug_abbrev` on (DWARF 5 section 7.5.3), ready for units whose fields have the
     /// sizes of an encoding: their entries are walked over faster. InvalidDwarf exactly where they are not whole, or a code
-    /// or a children byte is not as it has to be.
+    /// or a children byte is not as it has to be; then it is told where else this is so.
+    pub fn parse_or_broken(
+        alloc: Global,
+        abbrev: &[u8],
+        at: u64,
+        encoding: Encoding,
+    ) -> std::result::Result<Declarations, BrokenTables>
+        ensures value { IfOk result (λ d. abbreviations «abbrev».now at ≡ Some d.list) }
+        ensures places { IfOk result (IsReadFrom «abbrev».now) }
+        ensures fails { IfErr result (λ b. Fails b.fault.kind (or_invalid (abbreviations «abbrev».now at))) }
+        ensures broken { IfErr result (λ b. AreBroken «abbrev».now b.places.items) }
+    {
+        let mut read = Declarations::empty(alloc);
+        match read.read(alloc, abbrev, at, encoding) {
+            Ok(()) => Ok(read),
+            Err(fault) => Err(read.broken(fault)),
+        }
+    }
+
+    /// The same, and no more than that there are none.
     pub fn parse_for(
         alloc: Global,
         abbrev: &[u8],
@@ -147,26 +217,9 @@ impl Declarations {
         ensures value { Gives (λ d. d.list) result (or_invalid (abbreviations «abbrev».now at)) }
         ensures places { IfOk result (IsReadFrom «abbrev».now) }
     {
-        if at > abbrev.len() as u64 {
-            return Err(invalid("abbreviations lie outside their section"));
+        match Declarations::parse_or_broken(alloc, abbrev, at, encoding) {
+            Ok(read) => Ok(read),
+            Err(broken) => Err(broken.fault),
         }
-        let mut read = Declarations::empty(alloc);
-        let mut place = at as usize;
-        for _ in 0..abbrev.len() {
-            read.mark(place)?;
-            let Some((code, next)) = uleb_at(abbrev, place) else {
-                return Err(invalid("an abbreviation has no code"));
-            };
-            if code == 0 {
-                return Ok(read);
-            }
-            if read.has(code) {
-                return Err(invalid("an abbreviation code stands twice"));
-            }
-            let (abbreviation, next) = abbreviation_at(alloc, encoding, code, abbrev, next)?;
-            read.add(abbreviation)?;
-            place = next;
-        }
-        Err(invalid("abbreviations do not end"))
     }
 }

@@ -24,7 +24,7 @@ mod value;
 mod wanted;
 
 pub use abbreviations::{Abbreviation, AttrSpec};
-pub use declarations::Declarations;
+pub use declarations::{BrokenTables, Declarations};
 pub use encoding::Encoding;
 pub use entries::{Entries, Entry};
 pub use extent::{Extent, extent_at};
