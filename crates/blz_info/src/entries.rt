@@ -13,6 +13,7 @@ use crate::attributes::{attribute, passed};
 use crate::behind::over;
 use crate::encoding::Encoding;
 use crate::fault::invalid;
+use crate::lent::LentTable;
 use crate::passing::Passing;
 use crate::ready::next_wanted;
 use crate::runs::{Runs, passed_by};
@@ -47,7 +48,7 @@ pub struct Entries<'s, 'b> {
     section: Section<'s, 'b>,
     base: StrBase,
     encoding: Encoding,
-    abbreviations: &'s Abbreviations,
+    abbreviations: LentTable<'s>,
     end: usize,
     place: usize,
     pending: &'s [AttrSpec],
@@ -69,7 +70,7 @@ impl<'s, 'b> Model for Entries<'s, 'b> {
 
     ghost coded = { walk_code };
 
-    ghost view = { λ e. record { source = record { section = section_view e.section; base = e.base; encoding = e.encoding; table = e.abbreviations.now; end = e.end }; place = e.place; pending = e.pending.now; depth = e.depth } };
+    ghost view = { λ e. record { source = record { section = section_view e.section; base = e.base; encoding = e.encoding; table = e.abbreviations; end = e.end }; place = e.place; pending = e.pending.now; depth = e.depth } };
 
     ghost invariant = { λ e. record { cut : length e.section.bytes.now ≤ e.end; texts : e.base.start + length e.section.bytes.now < 2 ^ 64; low : e.depth ≤ e.place; passing : IfSome e.passing (λ r. Passes e.encoding r.now e.pending.now); reading : IfSome e.reading (λ r. Reads e.encoding e.taken r.now e.pending.now) } };
 }
@@ -119,7 +120,7 @@ impl<'s, 'b> Entries<'s, 'b> {
             section: cut(&sections.info, header.end),
             base: info_base(&sections),
             encoding: header.encoding(),
-            abbreviations,
+            abbreviations: abbreviations.lent(),
             end: header.end,
             place: at,
             pending: &[],
@@ -147,6 +148,7 @@ impl<'s, 'b> Entries<'s, 'b> {
         if code == 0 {
             return None;
         }
+        let abbreviations = abbreviations.lent();
         let abbreviation = abbreviations.get(code)?;
         let encoding = header.encoding();
         Some(Entries {

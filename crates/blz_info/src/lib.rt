@@ -12,6 +12,7 @@ mod fault;
 mod field;
 mod form;
 pub mod laws;
+mod lent;
 mod listing;
 mod passing;
 mod ready;

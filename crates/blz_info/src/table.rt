@@ -10,6 +10,7 @@ ghost use Rattle.blz_info.specs.AbbreviationTables.{abbreviations};
 use crate::abbreviations::Abbreviation;
 use crate::declarations::Declarations;
 use crate::encoding::Encoding;
+use crate::lent::LentTable;
 use blz_error::Result;
 use std::alloc::Global;
 use std::marker::Model;
@@ -45,12 +46,19 @@ impl Abbreviations {
         }
     }
 
-    /// The abbreviation of a code; None exactly where there is none.
+    /// The same, for a walk.
     #[inline(always)]
+    pub(crate) fn lent(&self) -> LentTable<'_>
+        ensures { result ≡ self.now }
+    {
+        LentTable::behind(self.declarations.deref(), self.start)
+    }
+
+    /// The abbreviation of a code; None exactly where there is none.
     pub fn get(&self, code: u64) -> Option<&Abbreviation>
         ensures { option_copied result ≡ of_code code self.now }
     {
-        self.declarations.deref().get_from(self.start, code)
+        self.lent().get(code)
     }
 
     /// How many abbreviations the table has.

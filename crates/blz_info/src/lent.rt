@@ -1,0 +1,45 @@
+//! A table of abbreviations as a walk looks into it.
+ghost use Rattle.std.specs.Prelude.{◌≡◌, drop};
+ghost use Rattle.std.specs.Option.{option_copied};
+ghost use Rattle.blz_info.specs.Abbrevs.{of_code};
+
+use crate::abbreviations::Abbreviation;
+use crate::declarations::Declarations;
+use std::marker::Model;
+
+/// The abbreviations of a unit, lent: the declarations are looked for once, and not for each entry.
+#[derive(Drop)]
+pub(crate) struct LentTable<'a> {
+    declarations: &'a Declarations,
+    start: usize,
+}
+
+impl<'a> Model for LentTable<'a> {
+    ghost use Rattle.std.specs.Prelude.{List, drop};
+    ghost use Rattle.blz_info.specs.Abbrevs.{Abbrev};
+
+    ghost Value = { List Abbrev };
+
+    ghost view = { λ t. drop t.start t.declarations.now.list };
+}
+
+impl<'a> LentTable<'a> {
+    /// All of some declarations but the first so many.
+    #[inline(always)]
+    pub(crate) fn behind(declarations: &'a Declarations, start: usize) -> LentTable<'a>
+        ensures { result ≡ drop start declarations.now.list }
+    {
+        LentTable {
+            declarations,
+            start,
+        }
+    }
+
+    /// The abbreviation of a code; None exactly where there is none.
+    #[inline(always)]
+    pub(crate) fn get(&self, code: u64) -> Option<&'a Abbreviation>
+        ensures { option_copied result ≡ of_code code self.now }
+    {
+        self.declarations.get_from(self.start, code)
+    }
+}
