@@ -1,19 +1,22 @@
 -- The tables that begin at the declarations of a longer one are its tails.
-use Rattle.std.proofs.Common.{◌≡◌, ◌≢◌, ℕ, zero, suc, ◌+◌, ◌-◌, ◌<◌, ◌≤◌, true, false, eqb, List, [], ◌∷◌, ◌++◌, length, take, drop, Option, Some, None, refl, ap, ◌∙◌, arith, inl, inr}
+use Rattle.std.proofs.Common.{◌≡◌, ◌≢◌, ℕ, zero, suc, ◌+◌, ◌-◌, ◌<◌, ◌≤◌, true, false, eqb, List, [], ◌∷◌, ◌++◌, length, take, drop, max, Option, Some, None, refl, sym, ap, ◌∙◌, arith, inl, inr}
 use Rattle.std.specs.Prelude.{IfSome, is_some, slice_get}
-use Rattle.std.proofs.lemmas.Bool.{cases_lt, le-ltb}
-use Rattle.std.proofs.lemmas.List.{length-append, drop-append-le}
+use Rattle.std.specs.Option.{option_or}
+use Rattle.std.proofs.lemmas.Bool.{cases_Bool, cases_lt, le-ltb}
+use Rattle.std.proofs.lemmas.List.{length-append, drop-append-le, append-nil, append_assoc}
+use Rattle.std.proofs.lemmas.List.Folds.{find-append}
 use Rattle.std.proofs.lemmas.Option.{slice_get_within, slice_get_past, slice_get_cases}
+use Rattle.std.proofs.Math.Nat.{max-eq_left, max-eq_right}
 use Rattle.std.proofs.Math.Seq.{drop-length}
 use Rattle.blz_error.specs.declared.kind.ErrorKind.{ErrorKind}
 use Rattle.blz_error.specs.declared.kind.ErrorKind.TheVariants.{OutOfMemory}
 use Rattle.blz_model.specs.LebNumbers.{uleb}
 use Rattle.blz_model.specs.Part.{Fails}
 use Rattle.blz_info.specs.Abbrevs.{Abbrev, Declared, of_code, IsNumberOf}
-use Rattle.blz_info.specs.AbbreviationTables.{abbreviations, abbreviation_at, has_code, table_in, AreBroken, IsReadFrom}
+use Rattle.blz_info.specs.AbbreviationTables.{abbreviations, abbreviation_at, has_code, table_in, AreBroken, GoOn, IsReadFrom}
 use Rattle.blz_info.specs.Marks.{or_invalid}
 use Rattle.blz_info.proofs.AbbreviationIndex.{none_behind, slice_get-append, slice_get-append_seam}
-use Rattle.blz_info.proofs.AbbreviationSteps.{table_more, table_last, table_stops}
+use Rattle.blz_info.proofs.AbbreviationSteps.{table_more, table_last, table_none, table_again, table_stops}
 use Rattle.blz_info.proofs.Marked.{is_none, no_part}
 
 -- What is left to read of the table at each place: the same bytes behind fewer abbreviations.
@@ -33,6 +36,14 @@ taken xs zero i x e = absurd cc
 taken [] (suc count) i x e = absurd cc
 taken (y ∷ xs) (suc count) zero x e = (omega arith, e)
 taken (y ∷ xs) (suc count) (suc i) x e = let behind = taken xs count i x e in (omega (arith, behind.0), behind.1)
+
+code_stays : (code : ℕ) (list more : List Abbrev) → has_code code list ≡ true → has_code code (list ++ more) ≡ true
+code_stays code list more e =
+    ap is_some (find-append (λ (a : Abbrev). eqb a.code code) list more) ∙ either (of_code code list) (of_code code more) e
+  where
+    either : (o p : Option Abbrev) → is_some o ≡ true → is_some (option_or o p) ≡ true
+    either None p h = absurd cc
+    either (Some x) p h = refl
 
 no_code_behind : (list : List Abbrev) (number code : ℕ) → has_code code list ≡ false → has_code code (drop number list) ≡ false
 no_code_behind list number code e = ap is_some (none_behind list number code (is_none _ e))
@@ -86,16 +97,6 @@ tails_broken bytes d place tails none number =
     (λ at _ tail. tail ∙ none _ number)
     (tails number)
 
--- It is broken for the first so many of them.
-pub first_tails_broken : (bytes : List ℕ) (d : Declared) (place count : ℕ) → AreTails bytes d place → ((m number : ℕ) → number < count → table_in m (drop number d.list) bytes place ≡ None) → AreBroken bytes (take count d.places)
-first_tails_broken bytes d place count tails none number =
-    if_some_by (slice_get (take count d.places) number)
-    (λ at. abbreviations bytes at ≡ None)
-    (λ at is.
-    let here = taken d.places count number at is in
-    let tail : abbreviations bytes at ≡ table_in (length bytes - (length d.list - number)) (drop number d.list) bytes place = rw here.1 at (tails number) in
-    tail ∙ none _ number here.0)
-
 -- The one that is read next has no value, if it is not memory that was wanting.
 pub tails_stop : (bytes : List ℕ) (d : Declared) (place code next : ℕ) (kind : ErrorKind) → uleb bytes place ≡ Some (code, next) → eqb code 0 ≡ false → Fails kind (or_invalid (abbreviation_at code bytes next)) → AreTails bytes d place → kind ≢ OutOfMemory → AreBroken bytes d.places
 tails_stop bytes d place code next kind read e fails tails memory =
@@ -110,3 +111,57 @@ tail_has code list number start is inside le = elim ((slice_get_cases list numbe
       rw found refl
   | inr past ↦ let ge = past.0 in absurd (omega (arith, inside, ge))
 ]
+
+-- ---- reading on
+
+pub tails_go_on : (bytes : List ℕ) (d : Declared) (place : ℕ) → AreTails bytes d place → GoOn bytes d place
+tails_go_on bytes d place tails number =
+    if_some_to (slice_get d.places number)
+    (λ at. abbreviations bytes at ≡ table_in (length bytes - (length d.list - number)) (drop number d.list) bytes place)
+    (λ at. (left : ℕ) × (more : List Abbrev) × (abbreviations bytes at ≡ table_in left (drop number d.list ++ more) bytes place))
+    (λ at _ tail. (length bytes - (length d.list - number), [], tail ∙ ap (λ so_far. table_in (length bytes - (length d.list - number)) so_far bytes place) (sym (append-nil (drop number d.list)))))
+    (tails number)
+
+module _ (bytes : List ℕ) (d : Declared) (place code next : ℕ) (read : uleb bytes place ≡ Some (code, next)) (some : eqb code 0 ≡ false) where
+  -- behind one more, or where its code stands twice nowhere
+  one_more : (after : ℕ) (a : Abbrev) → abbreviation_at code bytes next ≡ Some (a, after) → (left : ℕ) (so_far more : List Abbrev) → (l : ℕ) × (m : List Abbrev) × (table_in left (so_far ++ more) bytes place ≡ table_in l (so_far ++ m) bytes after)
+  unfolding table_in
+  one_more after a g zero so_far more = (zero, more, refl)
+  one_more after a g (suc left) so_far more = elim (cases_Bool (has_code code (so_far ++ more))) [
+    | inl again ↦ (zero, more, table_again (suc left) (so_far ++ more) bytes place code next read some again)
+    | inr new ↦ (left, more ++ a ∷ [], table_more (suc left) left (so_far ++ more) bytes place code next after a refl read some new g ∙ ap (λ xs. table_in left xs bytes after) (append_assoc so_far more (a ∷ [])))
+  ]
+
+  pub on_by_one : (after : ℕ) (a : Abbrev) → abbreviation_at code bytes next ≡ Some (a, after) → GoOn bytes d place → GoOn bytes d after
+  on_by_one after a g on number =
+      if_some_to (slice_get d.places number)
+      (λ at. (left : ℕ) × (more : List Abbrev) × (abbreviations bytes at ≡ table_in left (drop number d.list ++ more) bytes place))
+      (λ at. (left : ℕ) × (more : List Abbrev) × (abbreviations bytes at ≡ table_in left (drop number d.list ++ more) bytes after))
+      (λ at _ here. let further = one_more after a g here.0 (drop number d.list) here.1 in (further.0, further.1, here.2 ∙ further.2))
+      (on number)
+
+  -- A code that stands in the first so many breaks them.
+  repeated : (count : ℕ) → ((start : ℕ) → start < count → has_code code (drop start d.list) ≡ true) → GoOn bytes d place → AreBroken bytes (take count d.places)
+  repeated count has on number =
+      if_some_by (slice_get (take count d.places) number)
+      (λ at. abbreviations bytes at ≡ None)
+      (λ at placed.
+      let here = taken d.places count number at placed in
+      let tail : (left : ℕ) × (more : List Abbrev) × (abbreviations bytes at ≡ table_in left (drop number d.list ++ more) bytes place) = rw here.1 at (on number) in
+      tail.2 ∙ table_again tail.0 (drop number d.list ++ tail.1) bytes place code next read some (code_stays code (drop number d.list) tail.1 (has number here.0)))
+
+  pub more_repeated : (count more : ℕ) → ((start : ℕ) → start < more → has_code code (drop start d.list) ≡ true) → GoOn bytes d place → AreBroken bytes (take count d.places) → AreBroken bytes (take (max count more) d.places)
+  more_repeated count more has on broken = elim (cases_lt count more) [
+    | inl lt ↦ let is : max count more ≡ more = max-eq_right (omega (arith, lt)) in rw is (repeated more has on)
+    | inr ge ↦ let is : max count more ≡ count = max-eq_left ge in rw is broken
+  ]
+
+-- Nothing can be read on.
+pub none_go_on : (bytes : List ℕ) (d : Declared) (place count : ℕ) → uleb bytes place ≡ None → GoOn bytes d place → AreBroken bytes (take count d.places)
+none_go_on bytes d place count none on number =
+    if_some_by (slice_get (take count d.places) number)
+    (λ at. abbreviations bytes at ≡ None)
+    (λ at placed.
+    let here = taken d.places count number at placed in
+    let tail : (left : ℕ) × (more : List Abbrev) × (abbreviations bytes at ≡ table_in left (drop number d.list ++ more) bytes place) = rw here.1 at (on number) in
+    tail.2 ∙ table_none tail.0 (drop number d.list ++ tail.1) bytes place none)

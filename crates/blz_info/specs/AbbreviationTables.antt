@@ -65,3 +65,7 @@ IsReadFrom bytes d = (number : ℕ) → IfSome (slice_get d.places number) (λ a
 -- At none of some places stands a table.
 abbrev pub AreBroken : List ℕ → List ℕ → Type 0
 AreBroken bytes places = (number : ℕ) → IfSome (slice_get places number) (λ at. abbreviations bytes at ≡ None)
+
+-- Each table that begins at one of some declarations is read up to a place behind all of them, unless it has no value.
+abbrev pub GoOn : List ℕ → Declared → ℕ → Type 0
+GoOn bytes d place = (number : ℕ) → IfSome (slice_get d.places number) (λ at. (left : ℕ) × (more : List Abbrev) × (abbreviations bytes at ≡ table_in left (drop number d.list ++ more) bytes place))

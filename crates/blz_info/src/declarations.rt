@@ -1,12 +1,12 @@
 //! Declarations of abbreviations that stand one after the other.
-ghost use Rattle.std.specs.Prelude.{◌≡◌, ◌≢◌, ◌<◌, ◌++◌, ◌∷◌, [], length, drop, IfSome, IfErr, IfOk, OnOk, Some, None};
+ghost use Rattle.std.specs.Prelude.{◌≡◌, ◌≢◌, ℕ, true, ◌<◌, ◌++◌, ◌∷◌, [], length, take, drop, IfSome, IfErr, IfOk, OnOk, Some, None};
 ghost use Rattle.std.specs.List.{slice_get};
 ghost use Rattle.std.specs.Option.{option_copied};
 ghost use Rattle.blz_error.specs.declared.kind.ErrorKind.TheVariants.{OutOfMemory};
 ghost use Rattle.blz_model.specs.Part.{Fails, Gives};
 ghost use Rattle.blz_info.specs.Marks.{or_invalid};
 ghost use Rattle.blz_info.specs.Abbrevs.{of_code, bytes_of, IsNumberOf};
-ghost use Rattle.blz_info.specs.AbbreviationTables.{abbreviations, AreBroken, IsReadFrom};
+ghost use Rattle.blz_info.specs.AbbreviationTables.{abbreviations, has_code, AreBroken, GoOn, IsReadFrom};
 
 use crate::abbreviations::{Abbreviation, abbreviation_at};
 use crate::encoding::Encoding;
@@ -36,6 +36,8 @@ pub struct Declarations {
 pub struct BrokenTables {
     pub fault: Error,
     pub places: Vec<u64>,
+    /// How many declarations were read to see it.
+    pub read: usize,
 }
 
 impl Model for Declarations {
@@ -114,6 +116,12 @@ impl Declarations {
         }
     }
 
+    fn has(&self, code: u64) -> bool
+        ensures { result ≡ has_code code self.now.list }
+    {
+        self.get_from(0, code).is_some()
+    }
+
     /// Notes where the next one begins, or where the code 0 stands.
     fn mark(&mut self, place: usize) -> std::result::Result<(), AllocError>
         ensures { OnOk result (self.new ≡ record { list = self.old.list; places = self.old.places ++ place ∷ [] }) }
@@ -141,9 +149,43 @@ impl Declarations {
         Ok(())
     }
 
+    /// How many tables that begin at one of these have a code: the first so many.
+    fn count_with(&self, code: u64) -> usize
+        ensures { (start : ℕ) → start < result → has_code code (drop start self.now.list) ≡ true }
+    {
+        match self.number_of(code) {
+            Some(number) => number.saturating_add(1),
+            None => 0,
+        }
+    }
+
+    /// How many tables that begin at one of these have a code twice, where as many more are read at a place behind them. To
+    /// read on costs no more than what was read, and tells it of tails whose own code stands twice further on.
+    fn count_repeated(&self, alloc: Global, abbrev: &[u8], at: usize, encoding: Encoding) -> usize
+        requires { GoOn «abbrev».now self.now at }
+        ensures { AreBroken «abbrev».now (take result self.now.places) }
+    {
+        let mut count = 0;
+        let mut place = at;
+        for _ in 0..=self.table.len() {
+            let Some((code, next)) = uleb_at(abbrev, place) else {
+                return self.places.len();
+            };
+            if code == 0 {
+                return count;
+            }
+            count = count.max(self.count_with(code));
+            let Ok((_, next)) = abbreviation_at(alloc, encoding, code, abbrev, next) else {
+                return count;
+            };
+            place = next;
+        }
+        count
+    }
+
     /// Reads those from an offset of `.debug_abbrev` on into what is empty. Where they are not whole, those places are left
     /// of which no table that begins there is whole: all that begin before what is broken, and where a code stands twice those
-    /// that begin before it or at it.
+    /// that begin at its first declaration or before it.
     fn read(&mut self, alloc: Global, abbrev: &[u8], at: u64, encoding: Encoding) -> Result<()>
         requires { self.old ≡ record { list = []; places = [] } }
         ensures value { Gives (λ _. self.new.list) result (or_invalid (abbreviations «abbrev».now at)) }
@@ -162,8 +204,9 @@ impl Declarations {
             if code == 0 {
                 return Ok(());
             }
-            if let Some(number) = self.number_of(code) {
-                self.places.truncate(number + 1);
+            if self.has(code) {
+                let count = self.count_repeated(alloc, abbrev, place, encoding);
+                self.places.truncate(count);
                 return Err(invalid("an abbreviation code stands twice"));
             }
             let (abbreviation, next) = abbreviation_at(alloc, encoding, code, abbrev, next)?;
@@ -179,11 +222,16 @@ impl Declarations {
         ensures memory { fault.kind ≡ OutOfMemory → result.places.items ≡ [] }
         ensures places { fault.kind ≢ OutOfMemory → result.places.items ≡ self.places }
     {
+        let read = self.table.len();
         let Declarations { mut places, .. } = self;
         if let ErrorKind::OutOfMemory = fault.kind() {
             places.clear();
         }
-        BrokenTables { fault, places }
+        BrokenTables {
+            fault,
+            places,
+            read,
+        }
     }
 
     /// The declarations from an offset of `.debug_abbrev` on (DWARF 5 section 7.5.3), ready for units whose fields have the

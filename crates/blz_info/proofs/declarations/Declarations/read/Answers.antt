@@ -1,14 +1,13 @@
 use Rattle.std.proofs.Common.{◌≡◌, eqb, true, false, ◌-◌, ◌+◌, length, take, arith, sym, ap, ◌∙◌, ◌++◌, ◌∷◌, [], refl}
-use Rattle.std.specs.Prelude.{is_some}
 use Rattle.std.proofs.lemmas.Bool.{ne_eqb, eq-eqb}
 use Rattle.std.proofs.lemmas.List.{length-append}
 use Rattle.std.proofs.lemmas.Result.{err_from_is_err_and}
 use Rattle.blz_info.specs.Abbrevs.{Declared}
 use Rattle.blz_info.specs.Marks.{or_invalid}
 use Rattle.blz_info.specs.AbbreviationTables.{abbreviations, has_code, table_in}
-use Rattle.blz_info.proofs.Marked.{marks, marks_on, good_some}
+use Rattle.blz_info.proofs.Marked.{marks, marks_on, good_some, is_none}
 use Rattle.blz_info.proofs.AbbreviationSteps.{table_more, table_last, table_none, table_again, table_stops, past_the_end}
-use Rattle.blz_info.proofs.Tails.{AreTails, tails_placed, tails_more, tails_end, tails_broken, first_tails_broken, tails_stop, tail_has}
+use Rattle.blz_info.proofs.Tails.{AreTails, tails_placed, tails_more, tails_end, tails_broken, tails_stop, tails_go_on}
 use Rattle.blz_info.proofs.declarations.Declarations.read.Goals as goal
 
 pub returns-then-at-abbrev-clause-value : goal.returns-then-at-abbrev-clause-value
@@ -39,19 +38,21 @@ returns-then-code-eq0-clause-places c =
     let placed = tails_placed c.args.abbrev.now c.loop.self c.loop.place (i.2 ∙ sym i.1) i.3 in
     rw c.in_ok-mark.ensures (tails_end c.args.abbrev.now _ c.loop.place c.in-Some.code c.in-Some.next (omega (arith, i.1)) (sym c.in-Some.ensures.value) (eq-eqb _ _ (omega arith)) placed)
 
-pub returns-in-Some-number_of-clause-value : goal.returns-in-Some-number_of-clause-value
-returns-in-Some-number_of-clause-value c =
-    let has : has_code c.in-Some.code c.mark.new.self.list ≡ true = tail_has c.in-Some.code c.mark.new.self.list c.in-Some-number_of.number 0 c.in-Some-number_of.ensures.found c.in-Some-number_of.ensures.inside (omega arith) in
-    let again : has_code c.in-Some.code c.loop.self.list ≡ true = rw c.in_ok-mark.ensures at has in
-    marks _ _ (sym c.loop.invariant.0 ∙ table_again _ _ _ _ _ c.in-Some.next (sym c.in-Some.ensures.value) (ne_eqb _ _ (omega arith)) again) c.invalid-in-Some-number_of.ensures
+pub returns-then-has-clause-value : goal.returns-then-has-clause-value
+returns-then-has-clause-value c =
+    let again : has_code c.in-Some.code c.loop.self.list ≡ true = rw c.in_ok-mark.ensures at (sym c.if-has.ensures) in
+    marks _ _ (sym c.loop.invariant.0 ∙ table_again _ _ _ _ _ c.in-Some.next (sym c.in-Some.ensures.value) (ne_eqb _ _ (omega arith)) again) c.invalid-then-has.ensures
 
-pub returns-in-Some-number_of-clause-broken : goal.returns-in-Some-number_of-clause-broken
-returns-in-Some-number_of-clause-broken c = λ _.
+pub count_repeated-count-requires : goal.count_repeated-count-requires
+count_repeated-count-requires c =
     let i = c.loop.invariant in
     let placed : AreTails c.args.abbrev.now c.mark.new.self c.loop.place = rw c.in_ok-mark.ensures (tails_placed c.args.abbrev.now c.loop.self c.loop.place (i.2 ∙ sym i.1) i.3) in
-    let kept : c.truncate.new.self.items ≡ take (c.in-Some-number_of.number + 1) c.mark.new.self.places = c.truncate.ensures.items ∙ ap (λ (d : Declared). take (c.in-Some-number_of.number + 1) d.places) c.self.view_is in
-    rw kept (first_tails_broken c.args.abbrev.now c.mark.new.self c.loop.place (c.in-Some-number_of.number + 1) placed (λ m k lt.
-    table_again m _ _ _ _ c.in-Some.next (sym c.in-Some.ensures.value) (ne_eqb _ _ (omega arith)) (tail_has c.in-Some.code c.mark.new.self.list c.in-Some-number_of.number k c.in-Some-number_of.ensures.found c.in-Some-number_of.ensures.inside (omega (arith, lt)))))
+    tails_go_on c.args.abbrev.now c.mark.new.self c.loop.place placed
+
+pub returns-then-has-clause-broken : goal.returns-then-has-clause-broken
+returns-then-has-clause-broken c = λ _.
+    let kept : c.truncate.new.self.items ≡ take c.count_repeated-count.result c.mark.new.self.places = c.truncate.ensures.items ∙ ap (λ (d : Declared). take c.count_repeated-count.result d.places) c.self.view_is in
+    rw kept c.count_repeated-count.ensures
 
 pub returns-in_err-abbreviation-clause-value : goal.returns-in_err-abbreviation-clause-value
 returns-in_err-abbreviation-clause-value c =
@@ -66,13 +67,12 @@ returns-in_err-abbreviation-clause-broken c =
     rw (p.1, p.2) (tails_stop c.args.abbrev.now c.mark.new.self c.loop.place c.in-Some.code c.in-Some.next _ (sym c.in-Some.ensures.value) (ne_eqb _ _ (omega arith)) c.in_err-abbreviation.ensures.value placed)
 
 pub add-requires : goal.add-requires
-add-requires c = rw c.in_ok-abbreviation.ensures.code (c.in_default-number_of.ensures.found 0)
+add-requires c = rw c.in_ok-abbreviation.ensures.code (is_none _ (sym c.if-has.ensures))
 
 pub loop-preserved : goal.loop-preserved
 loop-preserved c =
     let marked : c.mark.new.self ≡ record { list = c.loop.self.list; places = c.loop.self.places ++ c.loop.place ∷ [] } = c.in_ok-mark.ensures in
-    let none : has_code c.in-Some.code c.mark.new.self.list ≡ false = ap is_some (c.in_default-number_of.ensures.found 0) in
-    let new : has_code c.in-Some.code c.loop.self.list ≡ false = rw marked at none in
+    let new : has_code c.in-Some.code c.loop.self.list ≡ false = rw marked at (sym c.if-has.ensures) in
     let added : c.add.new.self ≡ record { list = c.mark.new.self.list ++ c.in_ok-abbreviation.abbreviation ∷ []; places = c.mark.new.self.places } = c.in_ok-add.ensures.ok in
     let after : c.add.new.self ≡ record { list = c.loop.self.list ++ c.in_ok-abbreviation.abbreviation ∷ []; places = c.loop.self.places ++ c.loop.place ∷ [] } = rw marked at added in
     let i = c.loop.invariant in
