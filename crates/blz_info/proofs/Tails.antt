@@ -13,7 +13,7 @@ use Rattle.blz_error.specs.declared.kind.ErrorKind.TheVariants.{OutOfMemory}
 use Rattle.blz_model.specs.LebNumbers.{uleb}
 use Rattle.blz_model.specs.Part.{Fails}
 use Rattle.blz_info.specs.Abbrevs.{Abbrev, Declared, of_code, IsNumberOf}
-use Rattle.blz_info.specs.AbbreviationTables.{abbreviations, abbreviation_at, has_code, table_in, AreBroken, GoOn, IsReadFrom}
+use Rattle.blz_info.specs.AbbreviationTables.{abbreviations, abbreviation_at, has_code, table_in, AreBroken, GoesOn, GoOn, IsReadFrom}
 use Rattle.blz_info.specs.Marks.{or_invalid}
 use Rattle.blz_info.proofs.AbbreviationIndex.{none_behind, slice_get-append, slice_get-append_seam}
 use Rattle.blz_info.proofs.AbbreviationSteps.{table_more, table_last, table_none, table_again, table_stops}
@@ -118,7 +118,7 @@ pub tails_go_on : (bytes : List ℕ) (d : Declared) (place : ℕ) → AreTails b
 tails_go_on bytes d place tails number =
     if_some_to (slice_get d.places number)
     (λ at. abbreviations bytes at ≡ table_in (length bytes - (length d.list - number)) (drop number d.list) bytes place)
-    (λ at. (left : ℕ) × (more : List Abbrev) × (abbreviations bytes at ≡ table_in left (drop number d.list ++ more) bytes place))
+    (GoesOn bytes (drop number d.list) place)
     (λ at _ tail. (length bytes - (length d.list - number), [], tail ∙ ap (λ so_far. table_in (length bytes - (length d.list - number)) so_far bytes place) (sym (append-nil (drop number d.list)))))
     (tails number)
 
@@ -135,8 +135,8 @@ module _ (bytes : List ℕ) (d : Declared) (place code next : ℕ) (read : uleb 
   pub on_by_one : (after : ℕ) (a : Abbrev) → abbreviation_at code bytes next ≡ Some (a, after) → GoOn bytes d place → GoOn bytes d after
   on_by_one after a g on number =
       if_some_to (slice_get d.places number)
-      (λ at. (left : ℕ) × (more : List Abbrev) × (abbreviations bytes at ≡ table_in left (drop number d.list ++ more) bytes place))
-      (λ at. (left : ℕ) × (more : List Abbrev) × (abbreviations bytes at ≡ table_in left (drop number d.list ++ more) bytes after))
+      (GoesOn bytes (drop number d.list) place)
+      (GoesOn bytes (drop number d.list) after)
       (λ at _ here. let further = one_more after a g here.0 (drop number d.list) here.1 in (further.0, further.1, here.2 ∙ further.2))
       (on number)
 
@@ -147,7 +147,7 @@ module _ (bytes : List ℕ) (d : Declared) (place code next : ℕ) (read : uleb 
       (λ at. abbreviations bytes at ≡ None)
       (λ at placed.
       let here = taken d.places count number at placed in
-      let tail : (left : ℕ) × (more : List Abbrev) × (abbreviations bytes at ≡ table_in left (drop number d.list ++ more) bytes place) = rw here.1 at (on number) in
+      let tail : GoesOn bytes (drop number d.list) place at = rw here.1 at (on number) in
       tail.2 ∙ table_again tail.0 (drop number d.list ++ tail.1) bytes place code next read some (code_stays code (drop number d.list) tail.1 (has number here.0)))
 
   pub more_repeated : (count more : ℕ) → ((start : ℕ) → start < more → has_code code (drop start d.list) ≡ true) → GoOn bytes d place → AreBroken bytes (take count d.places) → AreBroken bytes (take (max count more) d.places)
@@ -163,5 +163,5 @@ none_go_on bytes d place count none on number =
     (λ at. abbreviations bytes at ≡ None)
     (λ at placed.
     let here = taken d.places count number at placed in
-    let tail : (left : ℕ) × (more : List Abbrev) × (abbreviations bytes at ≡ table_in left (drop number d.list ++ more) bytes place) = rw here.1 at (on number) in
+    let tail : GoesOn bytes (drop number d.list) place at = rw here.1 at (on number) in
     tail.2 ∙ table_none tail.0 (drop number d.list ++ tail.1) bytes place none)

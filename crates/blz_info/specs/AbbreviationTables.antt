@@ -66,6 +66,10 @@ IsReadFrom bytes d = (number : ℕ) → IfSome (slice_get d.places number) (λ a
 abbrev pub AreBroken : List ℕ → List ℕ → Type 0
 AreBroken bytes places = (number : ℕ) → IfSome (slice_get places number) (λ at. abbreviations bytes at ≡ None)
 
--- Each table that begins at one of some declarations is read up to a place behind all of them, unless it has no value.
+-- The table at an offset is read on at a place behind some of its abbreviations, unless it has no value.
+abbrev pub GoesOn : List ℕ → List Abbrev → ℕ → ℕ → Type 0
+GoesOn bytes table place at = (left : ℕ) × (more : List Abbrev) × (abbreviations bytes at ≡ table_in left (table ++ more) bytes place)
+
+-- So is each table that begins at one of some declarations.
 abbrev pub GoOn : List ℕ → Declared → ℕ → Type 0
-GoOn bytes d place = (number : ℕ) → IfSome (slice_get d.places number) (λ at. (left : ℕ) × (more : List Abbrev) × (abbreviations bytes at ≡ table_in left (drop number d.list ++ more) bytes place))
+GoOn bytes d place = (number : ℕ) → IfSome (slice_get d.places number) (GoesOn bytes (drop number d.list) place)
