@@ -1,12 +1,12 @@
 -- What the units of some sections share of their tables of abbreviations.
-use Rattle.std.specs.Prelude.{◌≡◌, ℕ, ◌+◌, ◌-◌, ◌*◌, ◌&&◌, nat_le, ◌==◌, List, Option, Some, None, IfSome, Result, unwrap_or, if◌then◌else◌}
+use Rattle.std.specs.Prelude.{ℕ, ◌+◌, ◌-◌, ◌*◌, ◌&&◌, nat_le, ◌==◌, List, Option, Some, None, IfSome, Result, unwrap_or, if◌then◌else◌}
 use Rattle.std.specs.Arc.{arc_value}
 use Rattle.std.specs.BTreeMap.{get}
 use Rattle.std.specs.declared.cmp.Ordering.{Ordering}
 use Rattle.std.specs.Ordering.{nat_cmp, ordering_then}
 use Rattle.blz_error.specs.Fault.{Fault}
 use Rattle.blz_model.specs.Part.{Gives}
-use Rattle.blz_info.specs.AbbreviationTables.{abbreviations, IsReadFrom}
+use Rattle.blz_info.specs.AbbreviationTables.{abbreviations, AreBroken, IsReadFrom}
 use Rattle.blz_info.specs.Abbrevs.{Abbrev}
 use Rattle.blz_info.specs.Marks.{or_invalid}
 use Rattle.blz_info.specs.declared.units.UnitHeader.{UnitHeader}
@@ -24,15 +24,15 @@ table_cmp x y = ordering_then (nat_cmp x.0 y.0) (nat_cmp x.1 y.1)
 abbrev pub bytes_kept : SharedTables → ℕ → ℕ
 bytes_kept t sizes = unwrap_or (get nat_cmp t.bytes sizes) 0
 
--- how many bytes they are with some more, in a section of so many, where there is room for them
-abbrev pub bytes_with : ℕ → ℕ → ℕ → Option ℕ
-bytes_with room kept more = if nat_le kept room && nat_le more (room - kept) then Some (kept + more) else None
+-- how many they are with some more, where there is room for them
+abbrev pub with_more : ℕ → ℕ → ℕ → Option ℕ
+with_more room kept more = if nat_le kept room && nat_le more (room - kept) then Some (kept + more) else None
 
 -- what asking for the table at an offset gives
 abbrev pub IsTableAt : List ℕ → ℕ → Result (List Abbrev) Fault → Type 0
 IsTableAt bytes at result = Gives (λ t. t) result (or_invalid (abbreviations bytes at))
 
--- What is kept is what stands at its offset, or that nothing does; declarations tell their offsets themselves.
+-- What is kept is what stands at its offset, or that nothing does; the keys tell nothing.
 pub record AreTables (bytes : List ℕ) (t : SharedTables) : Type 0 where
   pub kept : (key : ℕ × ℕ) → IfSome (get table_cmp t.kept key) (λ d. IsReadFrom bytes (arc_value d))
-  pub broken : (at : ℕ) → IfSome (get nat_cmp t.broken at) (λ _. abbreviations bytes at ≡ None)
+  pub broken : (at : ℕ) → IfSome (get nat_cmp t.broken at) (λ places. AreBroken bytes places.items)

@@ -1,11 +1,12 @@
 //! Tables of abbreviations that lie within one another, kept whichever is named first.
 ghost use Rattle.blz_units.specs.SharedTables.{AreTables};
 
-use crate::shared_tables::{SharedTables, read_declarations, sizes_of};
+use crate::shared_tables::{SharedTables, sizes_of};
 use crate::unit_list::UnitList;
 use crate::unit_table::units_in;
-use blz_entry::{Sections, UnitHeader};
+use blz_entry::{BrokenTables, Declarations, Sections, UnitHeader};
 use std::alloc::{AllocError, Global};
+use std::sync::Arc;
 
 /// The offsets of the tables of those units that have some sizes, the least first.
 fn offsets_of(alloc: Global, units: &UnitList, sizes: u64) -> Result<Vec<u64>, AllocError> {
@@ -36,12 +37,12 @@ impl SharedTables {
         if self.keeps_table(header) || self.is_broken(header.abbrev) {
             return Ok(true);
         }
-        match read_declarations(alloc, abbrev, header) {
-            Ok(declarations) => self.keep_declarations(abbrev, header, &declarations),
-            Err(fault) => {
-                self.note_broken(abbrev, header.abbrev, &fault)?;
-                Ok(true)
+        match Declarations::parse_or_broken(alloc, abbrev, header.abbrev, header.encoding()) {
+            Ok(declarations) => {
+                let declarations = Arc::new(alloc, declarations)?;
+                self.keep_declarations(abbrev, header, &declarations)
             }
+            Err(BrokenTables { places, read, .. }) => self.note_broken(abbrev, places, read),
         }
     }
 
@@ -62,6 +63,7 @@ impl SharedTables {
         let sizes = sizes_of(header);
         let offsets = offsets_of(alloc, &units, sizes)?;
         self.bytes.insert(sizes, 0)?;
+        self.broken_read = 0;
         for offset in offsets.as_slice() {
             let unit = UnitHeader {
                 abbrev: *offset,

@@ -1,15 +1,12 @@
 //! Tables of abbreviations that units share, read once.
-ghost use Rattle.std.specs.Prelude.{◌≡◌, ℕ, true, List, length, drop, IfSome, IfOk, None, is_some};
+ghost use Rattle.std.specs.Prelude.{◌≡◌, ℕ, true, List, drop, slice_get, IfSome, IfOk, Some, None, is_some};
 ghost use Rattle.std.specs.Arc.{arc_value};
 ghost use Rattle.std.specs.BTreeMap.{IsEmpty};
-ghost use Rattle.blz_model.specs.Part.{Fails, Gives};
-ghost use Rattle.blz_info.specs.AbbreviationTables.{abbreviations, IsReadFrom};
-ghost use Rattle.blz_info.specs.Abbrevs.{Declared, bytes_of};
-ghost use Rattle.blz_info.specs.Marks.{or_invalid};
-ghost use Rattle.blz_units.specs.SharedTables.{bytes_kept, bytes_with, sizes_of, AreTables, IsTableAt};
+ghost use Rattle.blz_info.specs.AbbreviationTables.{abbreviations, AreBroken, IsReadFrom};
+ghost use Rattle.blz_units.specs.SharedTables.{bytes_kept, with_more, sizes_of, AreTables, IsTableAt};
 
-use blz_entry::{Abbreviations, Declarations, Sections, UnitHeader, invalid};
-use blz_error::{Error, ErrorKind, Result};
+use blz_entry::{Abbreviations, BrokenTables, Declarations, Sections, UnitHeader, invalid};
+use blz_error::Result;
 use std::alloc::{AllocError, Global};
 use std::collections::BTreeMap;
 use std::ops::Deref;
@@ -22,8 +19,10 @@ pub struct SharedTables {
     pub kept: BTreeMap<(u64, u64), Arc<Declarations>>,
     /// How many bytes those take that are ready for units of some sizes.
     pub bytes: BTreeMap<u64, u64>,
-    /// At which offsets there is no table.
-    pub broken: BTreeMap<u64, ()>,
+    /// The offsets at which there is no table, by the least of those that were found together.
+    pub broken: BTreeMap<u64, Vec<u64>>,
+    /// How many declarations were read to find them.
+    pub broken_read: u64,
     /// For which sizes the tables of all units were sought.
     pub gathered: BTreeMap<u64, ()>,
 }
@@ -37,17 +36,22 @@ pub fn sizes_of(header: &UnitHeader) -> u64
     header.version as u64 * 4 + wide + address
 }
 
-/// The declarations of abbreviations from the offset of a unit on.
-pub fn read_declarations(
-    alloc: Global,
-    abbrev: &[u8],
-    header: &UnitHeader,
-) -> Result<Arc<Declarations>>
-    ensures value { Gives (λ d. (arc_value {X = Declared} d).list) result (or_invalid (abbreviations «abbrev».now header.now.«abbrev»)) }
-    ensures places { IfOk result (λ d. IsReadFrom «abbrev».now (arc_value d)) }
+/// How many they are with some more, if there is room for them.
+fn with_more(room: u64, kept: u64, more: u64) -> Option<u64>
+    ensures { result ≡ with_more room kept more }
 {
-    let declarations = Declarations::parse_for(alloc, abbrev, header.abbrev, header.encoding())?;
-    Ok(Arc::new(alloc, declarations)?)
+    if kept <= room && more <= room - kept {
+        Some(kept + more)
+    } else {
+        None
+    }
+}
+
+/// Whether an offset is one of some that stand in their order.
+fn has_place(places: &[u64], at: u64) -> bool
+    ensures { result ≡ true → (number : ℕ) × (slice_get places.now number ≡ Some at) }
+{
+    places.binary_search(&at).is_ok()
 }
 
 impl SharedTables {
@@ -60,6 +64,7 @@ impl SharedTables {
             kept: BTreeMap::new(alloc),
             bytes: BTreeMap::new(alloc),
             broken: BTreeMap::new(alloc),
+            broken_read: 0,
             gathered: BTreeMap::new(alloc),
         }
     }
@@ -71,21 +76,6 @@ impl SharedTables {
         match self.bytes.get(&sizes) {
             Some(bytes) => *bytes,
             None => 0,
-        }
-    }
-
-    /// How many they are with some more, if there is room for them: as many as the section has, so there is room for all
-    /// tables of a section that do not lie within one another.
-    fn bytes_with(&self, abbrev: &[u8], sizes: u64, declarations: &Declarations) -> Option<u64>
-        ensures { result ≡ bytes_with (length «abbrev».now) (bytes_kept self.now sizes) (bytes_of declarations.now.places) }
-    {
-        let room = abbrev.len() as u64;
-        let kept = self.bytes_kept(sizes);
-        let more = declarations.bytes();
-        if kept <= room && more <= room - kept {
-            Some(kept + more)
-        } else {
-            None
         }
     }
 
@@ -127,7 +117,8 @@ impl SharedTables {
         }
     }
 
-    /// Keeps declarations for units of the sizes of one and from its offset on; false where there is no room for them.
+    /// Keeps declarations for units of the sizes of one and from its offset on; false where there is no room for them. There is
+    /// room for as many bytes as the section has, and so for all of its tables that do not lie within one another.
     pub fn keep_declarations(
         &mut self,
         abbrev: &[u8],
@@ -139,7 +130,9 @@ impl SharedTables {
         ensures { AreTables «abbrev».now self.new }
     {
         let sizes = sizes_of(header);
-        let Some(bytes) = self.bytes_with(abbrev, sizes, declarations.deref()) else {
+        let room = abbrev.len() as u64;
+        let kept = self.bytes_kept(sizes);
+        let Some(bytes) = with_more(room, kept, declarations.deref().bytes()) else {
             return Ok(false);
         };
         self.bytes.insert(sizes, bytes)?;
@@ -148,35 +141,43 @@ impl SharedTables {
         Ok(true)
     }
 
-    /// Whether it was found that there is no table at an offset.
+    /// Whether it was found that there is no table at an offset. It is sought among those that begin last before it.
     pub fn is_broken(&self, at: u64) -> bool
         ensures { (bytes : List ℕ) → AreTables bytes self.now → result ≡ true → abbreviations bytes at ≡ None }
     {
-        self.broken.get(&at).is_some()
-    }
-
-    /// Notes that there is no table at an offset, unless it was memory that was wanting.
-    pub fn note_broken(
-        &mut self,
-        abbrev: &[u8],
-        at: u64,
-        fault: &Error,
-    ) -> std::result::Result<(), AllocError>
-        requires tables { AreTables «abbrev».now self.old }
-        requires fails { Fails fault.now.kind (or_invalid (abbreviations «abbrev».now at)) }
-        ensures { AreTables «abbrev».now self.new }
-    {
-        match fault.kind() {
-            ErrorKind::OutOfMemory => Ok(()),
-            _ => {
-                self.broken.insert(at, ())?;
-                Ok(())
-            }
+        let mut before = self.broken.range(..=at);
+        match before.next_back() {
+            Some((_, places)) => has_place(places, at),
+            None => false,
         }
     }
 
-    /// Reads the abbreviations of a unit, and keeps them where there is room. There is none only where tables lie within one
-    /// another, and so all of them are sought then, the longest first.
+    /// Notes at which offsets there is no table, which was seen where so many declarations were read; false where there is no
+    /// room for them: as many may be read as the section has bytes.
+    pub fn note_broken(
+        &mut self,
+        abbrev: &[u8],
+        places: Vec<u64>,
+        read: usize,
+    ) -> std::result::Result<bool, AllocError>
+        requires tables { AreTables «abbrev».now self.old }
+        requires broken { AreBroken «abbrev».now places.items }
+        ensures { AreTables «abbrev».now self.new }
+    {
+        let Some(first) = places.first().copied() else {
+            return Ok(true);
+        };
+        let room = abbrev.len() as u64;
+        let Some(read) = with_more(room, self.broken_read, read as u64) else {
+            return Ok(false);
+        };
+        self.broken.insert(first, places)?;
+        self.broken_read = read;
+        Ok(true)
+    }
+
+    /// Reads the abbreviations of a unit, and keeps them, or where there are none, as long as there is room. There is no room only
+    /// where tables lie within one another, and so all of them are sought then, the longest first.
     fn read_and_keep(
         &mut self,
         alloc: Global,
@@ -188,17 +189,27 @@ impl SharedTables {
         ensures tables { AreTables sections.now.«abbrev».bytes.now self.new }
     {
         let abbrev = sections.abbrev.bytes;
-        let declarations = match read_declarations(alloc, abbrev, header) {
-            Ok(declarations) => declarations,
-            Err(fault) => {
-                self.note_broken(abbrev, header.abbrev, &fault)?;
-                return Err(fault);
+        match Declarations::parse_or_broken(alloc, abbrev, header.abbrev, header.encoding()) {
+            Ok(declarations) => {
+                let declarations = Arc::new(alloc, declarations)?;
+                if !self.keep_declarations(abbrev, header, &declarations)? {
+                    self.gather_once(alloc, sections, header)?;
+                }
+                Ok(Abbreviations::behind(declarations, 0))
             }
-        };
-        if !self.keep_declarations(abbrev, header, &declarations)? {
-            self.gather_once(alloc, sections, header)?;
+            Err(
+                BrokenTables {
+                    fault,
+                    places,
+                    read,
+                },
+            ) => {
+                if !self.note_broken(abbrev, places, read)? {
+                    self.gather_once(alloc, sections, header)?;
+                }
+                Err(fault)
+            }
         }
-        Ok(Abbreviations::behind(declarations, 0))
     }
 
     /// The abbreviations of a unit, read where none are kept that begin at its offset and are ready for its sizes.
