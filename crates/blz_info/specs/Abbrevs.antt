@@ -1,5 +1,5 @@
 -- Abbreviations as a finite map from their codes.
-use Rattle.std.specs.Prelude.{◌≡◌, ℕ, ◌-◌, ◌<◌, ◌≤◌, Bool, List, length, Option, Some, None, option_and_then, ◌&&◌, nat_lt, nat_le, ◌==◌, if◌then◌else◌, slice_get, slice_index_or, drop}
+use Rattle.std.specs.Prelude.{◌≡◌, ℕ, ◌+◌, ◌-◌, ◌<◌, ◌≤◌, Bool, List, length, Option, Some, None, IfSome, option_and_then, ◌&&◌, nat_lt, nat_le, ◌==◌, if◌then◌else◌, slice_get, slice_index_or, drop}
 use Rattle.std.specs.List.{find}
 use Rattle.std.specs.Ordering.{nat_cmp}
 use Rattle.std.specs.BTreeMap.{BTreeMap, get}
@@ -27,6 +27,10 @@ placed_from table start place = if nat_lt place start then None else slice_get t
 -- The abbreviation of a code stands at a number, or at none, in the list and in each of its tails.
 abbrev pub IsNumberOf : ℕ → List Abbrev → Option ℕ → Type 0
 IsNumberOf code table number = (start : ℕ) → of_code code (drop start table) ≡ option_and_then (placed_from table start) number
+
+-- Some abbreviations are those of the codes from the one behind a start on.
+abbrev pub IsFront : ℕ → List Abbrev → List Abbrev → Type 0
+IsFront start front table = (k : ℕ) → IfSome (slice_get front k) (λ a. of_code (start + k + 1) (drop start table) ≡ Some a)
 
 -- Each code is found where the front of the list or the map tells.
 pub record IsIndexed (ordered : ℕ) (others : BTreeMap ℕ ℕ) (table : List Abbrev) : Type 0 where

@@ -5,7 +5,7 @@ ghost use Rattle.std.specs.Option.{option_copied};
 ghost use Rattle.blz_error.specs.declared.kind.ErrorKind.TheVariants.{OutOfMemory};
 ghost use Rattle.blz_model.specs.Part.{Fails, Gives};
 ghost use Rattle.blz_info.specs.Marks.{or_invalid};
-ghost use Rattle.blz_info.specs.Abbrevs.{of_code, bytes_of, IsNumberOf};
+ghost use Rattle.blz_info.specs.Abbrevs.{of_code, bytes_of, IsFront, IsNumberOf};
 ghost use Rattle.blz_info.specs.AbbreviationTables.{abbreviations, has_code, AreBroken, GoOn, IsReadFrom};
 
 use crate::abbreviations::{Abbreviation, abbreviation_at};
@@ -80,7 +80,6 @@ impl Declarations {
     }
 
     /// The number of the one that has a code.
-    #[inline(always)]
     fn number_of(&self, code: u64) -> Option<usize>
         ensures inside { IfSome result (λ k. k < length self.now.list) }
         ensures found { IsNumberOf code self.now.list result }
@@ -94,8 +93,17 @@ impl Declarations {
         }
     }
 
+    /// Those behind the first so many that have the next codes.
+    pub(crate) fn front_from(&self, start: usize) -> &[Abbreviation]
+        ensures { IsFront start result.now self.now.list }
+    {
+        if start > self.ordered {
+            return &self.table[..0];
+        }
+        &self.table[start..self.ordered]
+    }
+
     /// The abbreviation of a code among all but the first so many; None exactly where there is none.
-    #[inline(always)]
     pub(crate) fn get_from(&self, start: usize, code: u64) -> Option<&Abbreviation>
         ensures { option_copied result ≡ of_code code (drop start self.now.list) }
     {

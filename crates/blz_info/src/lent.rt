@@ -12,6 +12,8 @@ use std::marker::Model;
 pub(crate) struct LentTable<'a> {
     declarations: &'a Declarations,
     start: usize,
+    // those of the codes from the one behind the start on
+    front: &'a [Abbreviation],
 }
 
 impl<'a> Model for LentTable<'a> {
@@ -21,6 +23,10 @@ impl<'a> Model for LentTable<'a> {
     ghost Value = { List Abbrev };
 
     ghost view = { λ t. drop t.start t.declarations.now.list };
+
+    ghost use Rattle.blz_info.specs.Abbrevs.{IsFront};
+
+    ghost invariant = { λ t. IsFront t.start t.front.now t.declarations.now.list };
 }
 
 impl<'a> LentTable<'a> {
@@ -32,6 +38,7 @@ impl<'a> LentTable<'a> {
         LentTable {
             declarations,
             start,
+            front: declarations.front_from(start),
         }
     }
 
@@ -40,6 +47,10 @@ impl<'a> LentTable<'a> {
     pub(crate) fn get(&self, code: u64) -> Option<&'a Abbreviation>
         ensures { option_copied result ≡ of_code code self.now }
     {
+        let start = self.start as u64;
+        if code > start && code - start - 1 < self.front.len() as u64 {
+            return Some(&self.front[(code - start - 1) as usize]);
+        }
         self.declarations.get_from(self.start, code)
     }
 }
