@@ -13,11 +13,12 @@ use Rattle.std.proofs.lemmas.List.Elements.{All-push, All-weaker}
 use Rattle.std.proofs.lemmas.Map.Lookups.{CmpEqualImpliesEq, exact_pairs, exact_unsigned}
 use Rattle.std.proofs.Math.Seq.{drop-length}
 use Rattle.blz_error.specs.Fault.{Fault}
-use Rattle.blz_entry.specs.RangeLists.{Appends, joined, ranges_of}
+use Rattle.blz_model.specs.Reads.{◌>>=◌}
+use Rattle.blz_entry.specs.RangeLists.{Appends, appended, joined, ranges_of}
 use Rattle.blz_entry.specs.RangeTails.{list_tail}
 use Rattle.blz_entry.specs.declared.range_tail.RangeTail.{RangeTail}
 use Rattle.blz_entry.specs.declared.ranges.RangeAttributes.{RangeAttributes}
-use Rattle.blz_entry.proofs.RangeSteps.{joined_more, list_is_tail, tail_more, tail_none, tail_over}
+use Rattle.blz_entry.proofs.RangeSteps.{joined_more, joined_nothing, list_is_tail, tail_more, tail_none, tail_over}
 use Rattle.blz_ranges.specs.Owned.{Owned, own_all}
 use Rattle.blz_ranges.specs.declared.span.Span.{Span}
 use Rattle.blz_functions.specs.BestOwned.{AreNeverBest}
@@ -184,6 +185,16 @@ all_appended u ranges lists o old new (Ok some) h told =
     let a = appended_by o old new some h in
     appended_all u ranges lists o old new a.spans some a.is a.new_is a.flag told
 all_appended u ranges lists o old new (Err e) h told = h.0
+
+-- a list that ended after few entries
+pub few_read : (u : UnitParts) (list rest : RangeTail) (old new : List Span) (some : Bool) → IsPassed u (length old) new rest (passed_entry list (length old)) → take (length old) new ≡ old → entry_behind u rest ≡ Some None → some ≡ nat_lt (length old) (length new)
+    → (spans_behind u list >>= appended old) ≡ Some (new, some)
+few_read u list rest old new some h front over flag =
+    let put = drop (length old) new in
+    let is : spans_behind u list ≡ Some put = h.spans ∙ (ap (λ (o : Option (List Span)). joined put o) (tail_over (lying u.sections) u.header u.root rest over) ∙ joined_nothing put) in
+    let whole : old ++ put ≡ new = ap (λ (l : List Span). l ++ put) (sym front) ∙ take-append-drop (length old) new in
+    let told : nat_lt 0 (length put) ≡ some = sym (flag ∙ (flag_of (length old) new [] false h.within refl ∙ ap (λ (l : List Span). nat_lt 0 (length l)) (append-nil put))) in
+    rw (is, whole, told) refl
 
 -- what stands in front fits
 pub front_fits : (n : ℕ) (old new : List Span) → take n new ≡ old → length old ≤ length new

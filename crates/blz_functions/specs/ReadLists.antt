@@ -1,13 +1,14 @@
 -- Lists of ranges that were read, and what of one more list is read.
-use Rattle.std.specs.Prelude.{◌≡◌, ℕ, ◌≤◌, Bool, List, ◌++◌, length, drop, Option, Some, Result, Ok, Err, nat_lt, ◌||◌, IfSome}
+use Rattle.std.specs.Prelude.{◌≡◌, ℕ, ◌≤◌, Bool, List, ◌++◌, length, drop, Option, Some, Result, Ok, Err, None, nat_lt, ◌||◌, IfSome}
 use Rattle.std.specs.BTreeMap.{get}
 use Rattle.std.specs.List.{All}
 use Rattle.std.specs.Ordering.{nat_cmp, ordering_then}
 use Rattle.std.specs.declared.cmp.Ordering.{Ordering}
 use Rattle.blz_error.specs.Fault.{Fault}
 use Rattle.blz_model.specs.Part.{Fails}
+use Rattle.blz_model.specs.Reads.{◌>>=◌}
 use Rattle.blz_info.specs.Marks.{or_invalid}
-use Rattle.blz_entry.specs.RangeLists.{joined}
+use Rattle.blz_entry.specs.RangeLists.{appended, joined}
 use Rattle.blz_entry.specs.declared.range_tail.RangeTail.{RangeTail}
 use Rattle.blz_ranges.specs.Owned.{Owned, own_all}
 use Rattle.blz_ranges.specs.declared.span.Span.{Span}
@@ -80,3 +81,9 @@ AppendedTo u ranges lists spans old new (Err e) = Fails e.kind (or_invalid spans
 
 abbrev pub AppendsRead : UnitParts → ReadLists → ReadLists → Option (List Span) → List Span → List Span → Result Bool Fault → Type 0
 AppendsRead u before behind spans old new result = (ranges : List (Owned Span)) → AreRead u ranges before → AppendedTo u ranges behind spans old new result
+
+-- The ranges of a list of few entries are put behind others. Of a longer one nothing is said.
+abbrev pub AppendsFew : Option (List Span) → List Span → Result (Option Bool) Fault → List Span → Type 0
+AppendsFew spans old (Ok (Some some)) new = (spans >>= appended old) ≡ Some (new, some)
+AppendsFew spans old (Ok None) new = Unit {0}
+AppendsFew spans old (Err e) new = Fails e.kind (or_invalid spans)

@@ -7,7 +7,7 @@ ghost use Rattle.blz_ranges.specs.Owned.{Owned};
 ghost use Rattle.blz_entry.specs.RangeTails.{list_tail};
 ghost use Rattle.blz_functions.specs.Leaves.{UnitParts, ranges_in, spans_behind};
 ghost use Rattle.blz_functions.specs.Opened.{open_view};
-ghost use Rattle.blz_functions.specs.ReadLists.{AppendsRead, AreRead, IsKept, IsRead, KeepsRead, passed_entry, PassesTo};
+ghost use Rattle.blz_functions.specs.ReadLists.{AppendsFew, AppendsRead, AreRead, IsKept, IsRead, KeepsRead, passed_entry, PassesTo};
 
 use crate::open_unit::OpenUnit;
 use blz_entry::{RangeAttributes, RangeTail, Span};
@@ -33,17 +33,34 @@ pub struct ReadLists {
 /// A list of no more entries is read anew each time: that takes less than to keep it.
 const FEW_ENTRIES: usize = 4;
 
-/// Whether a list has few entries, as most have that compilers write. No answer depends on it.
-fn has_few_entries(unit: &OpenUnit<'_, '_>, offset: u64) -> bool {
+fn put(out: &mut Vec<Span>, span: Option<Span>) -> std::result::Result<(), AllocError>
+    ensures { OnOk result (out.new.items ≡ out.old.items ++ option_to_list span) }
+{
+    if let Some(span) = span {
+        out.push(span)?;
+    }
+    Ok(())
+}
+
+/// Appends the ranges of a list that has few entries, as most have that compilers write, and says whether there was one.
+/// None for a longer list, of which the first ranges are put.
+fn append_few(unit: &OpenUnit<'_, '_>, offset: u64, out: &mut Vec<Span>) -> Result<Option<bool>>
+    ensures value { AppendsFew (spans_behind (open_view unit.now) (list_tail unit.now.root offset)) out.old.items result out.new.items }
+    ensures front { OnOk result (take (vec_len out.old) out.new.items ≡ out.old.items) }
+    ensures none { IfOk result (λ some. some ≡ Some false → out.new.items ≡ out.old.items) }
+{
+    let before = out.len();
     let mut tail = unit.ranges_at(offset);
     for _ in 0..=FEW_ENTRIES {
-        match unit.next_range(tail) {
-            Ok(Some((_, behind))) => tail = behind,
-            Ok(None) => return true,
-            Err(_) => return true,
-        }
+        let (span, behind) = match unit.next_range(tail) {
+            Ok(Some(entry)) => entry,
+            Ok(None) => return Ok(Some(before < out.len())),
+            Err(fault) => return Err(fault),
+        };
+        put(out, span)?;
+        tail = behind;
     }
-    false
+    Ok(None)
 }
 
 /// Notes an entry of a list, and puts its range behind others.
@@ -58,10 +75,7 @@ fn pass_entry(
 {
     let before = out.len();
     passed.push(PassedEntry { tail, before })?;
-    if let Some(span) = span {
-        out.push(span)?;
-    }
-    Ok(())
+    put(out, span)
 }
 
 impl ReadLists {
@@ -157,11 +171,14 @@ impl ReadLists {
         ensures front { OnOk result (take (vec_len out.old) out.new.items ≡ out.old.items) }
         ensures none { IfOk result (λ some. some ≡ false → out.new.items ≡ out.old.items) }
     {
-        if let Some(offset) = ranges.ranges_offset
-            && !has_few_entries(unit, offset)
-        {
-            return self.read(unit, offset, out);
+        let Some(offset) = ranges.ranges_offset else {
+            return unit.append_ranges(ranges, out);
+        };
+        let before = out.len();
+        if let Some(some) = append_few(unit, offset, out)? {
+            return Ok(some);
         }
-        unit.append_ranges(ranges, out)
+        out.truncate(before);
+        self.read(unit, offset, out)
     }
 }
