@@ -24,23 +24,38 @@ def one_range_list_of_functions(n):
     return functions_of_tails(pairs(n), [0] * n)
 
 
-def calls_of_a_list(n, children, behind):
-    """As many calls as ranges, each of which names the list of all ranges."""
-    call = Abbreviation(DW_TAG_INLINED_SUBROUTINE, children, RANGES)
-    shapes = {ROOT: lined_root(), OUTER: subprogram(RANGE, 1), CALL: call}
-    data, first = range_lists(pairs(n) + b"\0")
-    below = entry(shapes, OUTER, BASE, 0x10000) + entry(shapes, CALL, first) * n + behind + b"\0"
+def calls_of_tails(lists, offsets, nested, beside=0):
+    """A call for each of some offsets within a list, all beside or below one another, and as many calls of a range beside each."""
+    shapes = {ROOT: lined_root(), OUTER: subprogram(RANGE, 1), CALL: Abbreviation(DW_TAG_INLINED_SUBROUTINE, nested, RANGES),
+              NAMED: Abbreviation(DW_TAG_INLINED_SUBROUTINE, 0, RANGE)}
+    data, first = range_lists(lists + b"\0")
+    others = entry(shapes, NAMED, BASE, 1) * beside
+    calls = b"".join(others + entry(shapes, CALL, first + offset) for offset in offsets)
+    below = entry(shapes, OUTER, BASE, 0x10000) + calls + b"\0" * (nested * len(offsets) + 1)
     return Attack(one_lined_unit(shapes, below, rnglists=data), [BASE + 1])
 
 
 @shape
 def one_range_list_of_calls(n):
-    return calls_of_a_list(n, 0, b"")
+    return calls_of_tails(pairs(n), [0] * n, 0)
 
 
 @shape
 def one_range_list_of_calls_within_one_another(n):
-    return calls_of_a_list(n, 1, b"\0" * n)
+    return calls_of_tails(pairs(n), [0] * n, 1)
+
+
+@shape
+def one_range_list_of_calls_within_one_another_and_beside_others(n):
+    return calls_of_tails(pairs(n), [0] * n, 1, 1)
+
+
+@shape
+def one_range_list_of_a_call_of_each_function(n):
+    shapes = {ROOT: lined_root(), OUTER: subprogram(RANGE, 1), CALL: Abbreviation(DW_TAG_INLINED_SUBROUTINE, 0, RANGES)}
+    data, first = range_lists(pairs(n) + b"\0")
+    below = b"".join(entry(shapes, OUTER, BASE + 4 * k, 4) + entry(shapes, CALL, first) + b"\0" for k in range(n))
+    return Attack(one_lined_unit(shapes, below, rnglists=data), [BASE + 4 * k for k in range(n)])
 
 
 @shape
@@ -130,6 +145,12 @@ def tails_of_a_range_list_each_behind_its_base(n):
     begin = DW_RLE_BASE_ADDRESS << 56
     lists = [bytes([DW_RLE_START_END]) + struct.pack("<QQ", begin, begin + 1 + k) for k in range(n)]
     return functions_of_tails(b"".join(lists), [at + 8 for at in begins_of(lists)])
+
+
+@shape
+def tails_of_a_range_list_of_calls_within_one_another(n):
+    lists = pairs_of_a_size(n)
+    return calls_of_tails(b"".join(lists), begins_of(lists), 1)
 
 
 # ---- lists that the roots of units name

@@ -63,7 +63,7 @@ best_appended (o ∷ front) back addr =
       | inr f ↦ rw f (best_appended front back addr)
     ]
 
-abbrev owned_by : ℕ → Owned Span → Owned Span
+abbrev pub owned_by : ℕ → Owned Span → Owned Span
 owned_by n o = record { item = o.item; owner = n }
 
 owned_better : (n : ℕ) (s : Span) (m : ℕ) (x : Option (Owned Span)) → better_owned (Some (record { item = s; owner = n })) (option_map (owned_by n) x) ≡ option_map (owned_by n) (better_owned (Some (record { item = s; owner = m })) x)
@@ -82,6 +82,16 @@ best_of_all n m (s ∷ rest) addr =
     elim (cases_Bool (covers s addr)) [
       | inl t ↦ rw (t, best_of_all n m rest addr) (owned_better n s m (best_owned (own_all m rest) addr))
       | inr f ↦ rw f (best_of_all n m rest addr)
+    ]
+
+-- and with one owner in place of all
+pub best_renamed : (n : ℕ) (list : List (Owned Span)) (addr : ℕ) → best_owned (own_all n (items_of list)) addr ≡ option_map (owned_by n) (best_owned list addr)
+unfolding best_owned
+best_renamed n [] addr = refl
+best_renamed n (x ∷ rest) addr =
+    elim (cases_Bool (covers x.item addr)) [
+      | inl t ↦ rw (t, best_renamed n rest addr) (owned_better n x.item x.owner (best_owned rest addr))
+      | inr f ↦ rw f (best_renamed n rest addr)
     ]
 
 same_again : (n : ℕ) (x : Option (Owned Span)) → better_owned x (option_map (owned_by n) x) ≡ x

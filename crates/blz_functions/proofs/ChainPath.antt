@@ -10,7 +10,7 @@ use Rattle.blz_ranges.specs.Best.{passes, IsBest}
 use Rattle.blz_ranges.specs.Groups.{group_is, in_group, spans_of}
 use Rattle.blz_ranges.specs.Owned.{Owned, items_of}
 use Rattle.blz_ranges.proofs.BestOf.{best_is_best}
-use Rattle.blz_functions.specs.AskedCalls.{AnswersAsTree, AskedCalls, asked_calls, asked_chain}
+use Rattle.blz_functions.specs.AskedCalls.{AnswersAsTree, AskedCalls, asked_chain, by_all_ranges}
 use Rattle.blz_functions.specs.CallTree.{CallLists, IsTreeOf}
 use Rattle.blz_functions.specs.Chain.{TreeCall, call_range, ranges_of, owner_found, at_depth, with_next, picked, IsTree, CoveredBy, IsNested, Listed, IsPath}
 
@@ -261,5 +261,5 @@ pub chain_is_path : (asked : AskedCalls) (a : ℕ) (list : List ℕ) (calls : Li
 chain_is_path asked a list calls e answers nested = rw (e, answers.count) (chain_path calls a (asked.at a) (answers.at a) answers.is_tree nested)
 
 -- the calls that a tree makes answer as it
-pub tree_answers : (lists : CallLists) (tree : List TreeCall) → IsTreeOf lists tree → AnswersAsTree (asked_calls lists) tree
+pub tree_answers : (lists : CallLists) (tree : List TreeCall) → IsTreeOf lists tree → AnswersAsTree (by_all_ranges lists) tree
 tree_answers lists tree h = record { at = λ addr depth. ap (λ (r : List (Owned Grouped)). at_depth r addr depth) h.ranges; count = h.count; is_tree = h.is_tree }

@@ -7,8 +7,7 @@ use Rattle.blz_ranges.specs.declared.span.Span.{Span}
 use Rattle.blz_functions.specs.declared.description.Description.{Description}
 use Rattle.blz_functions.specs.declared.functions.Function.{Function}
 use Rattle.blz_ranges.specs.declared.grouped.Grouped.{Grouped}
-use Rattle.blz_functions.specs.declared.inlined_functions.InlinedFunction.{InlinedFunction}
-use Rattle.blz_functions.specs.CallTree.{CallLists, call_added, with_call}
+use Rattle.blz_functions.specs.CallTree.{CallLists, call_added}
 use Rattle.blz_functions.specs.Chain.{call_range}
 use Rattle.blz_ranges.specs.Groups.{grouped}
 use Rattle.blz_functions.specs.FunctionList.{Lists, lists_added}
@@ -53,21 +52,16 @@ added_fails u l place d h = rw h refl
 
 -- ---- calls
 
-abbrev calls_by : List InlinedFunction → List (Owned Grouped) → CallLists
-calls_by calls ranges = record { calls = calls; ranges = ranges }
-
 own_mapped : (n depth : ℕ) (spans : List Span) → own_all n (map (grouped depth) spans) ≡ map (call_range depth n) spans
 own_mapped n depth [] = refl
 own_mapped n depth (s ∷ rest) = ap (λ (l : List (Owned Grouped)). call_range depth n s ∷ l) (own_mapped n depth rest)
 
 -- the ranges of one call more behind the others
-pub call_more : (calls : List InlinedFunction) (old : List Grouped) (owners : List ℕ) (read : List Span) (depth : ℕ) (call : InlinedFunction) → length old ≡ length owners
-    → record { calls = calls ++ call ∷ []; ranges = owned (old ++ map (grouped depth) read) (filled_up owners (length calls) (length (old ++ map (grouped depth) read))) } ≡ with_call (record { calls = calls; ranges = owned old owners }) call depth read
-call_more calls old owners read depth call e =
-    let new : List Grouped = map (grouped depth) read in
-    let more : owned (old ++ new) (filled_up owners (length calls) (length (old ++ new))) ≡ owned old owners ++ map (call_range depth (length calls)) read =
-    owned_more old new owners (length calls) (length (old ++ new)) e refl ∙ ap (λ (l : List (Owned Grouped)). owned old owners ++ l) (own_mapped (length calls) depth read) in
-    ap (λ (r : List (Owned Grouped)). calls_by (calls ++ call ∷ []) r) more
+pub ranges_put : (old : List Grouped) (owners : List ℕ) (read : List Span) (group call : ℕ) → length old ≡ length owners
+    → owned (old ++ map (grouped group) read) (filled_up owners call (length (old ++ map (grouped group) read))) ≡ owned old owners ++ map (call_range group call) read
+ranges_put old owners read group call e =
+    let new : List Grouped = map (grouped group) read in
+    owned_more old new owners call (length (old ++ new)) e refl ∙ ap (λ (l : List (Owned Grouped)). owned old owners ++ l) (own_mapped call group read)
 
 pub call_fails : (u : UnitParts) (l : CallLists) (depth : ℕ) (d : Description) → ranges_in u d.ranges ≡ None → call_added u l depth d ≡ None
 unfolding call_added

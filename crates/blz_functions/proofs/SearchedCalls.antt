@@ -1,8 +1,7 @@
 -- Inlined calls whose ranges are searched, and one more of them.
-use Rattle.std.proofs.Common.{◌≡◌, ℕ, Bool, false, eqb, List, [], ◌∷◌, ◌++◌, length, Option, Some, None, refl, sym, ap, subst, inl, inr}
+use Rattle.std.proofs.Common.{◌≡◌, ℕ, Bool, List, [], ◌∷◌, ◌++◌, length, map, Option, Some, None, refl, ap, subst, ◌∙◌}
 use Rattle.std.specs.Prelude.{Result, is_some}
 use Rattle.std.proofs.Math.Path.{fun_ext}
-use Rattle.std.proofs.lemmas.Bool.{cases_Bool, eqb-true}
 use Rattle.blz_error.specs.Fault.{Fault}
 use Rattle.blz_error.specs.declared.kind.ErrorKind.{ErrorKind}
 use Rattle.blz_error.specs.declared.kind.ErrorKind.TheVariants.{InvalidDwarf}
@@ -12,12 +11,13 @@ use Rattle.blz_info.specs.Walks.{Walk}
 use Rattle.blz_info.specs.declared.entries.Entry.{Entry}
 use Rattle.blz_info.proofs.Marked.{marks, marks_on}
 use Rattle.blz_ranges.specs.declared.span.Span.{Span}
-use Rattle.blz_functions.specs.AskedCalls.{asked_calls, calls_asked, if_asked}
-use Rattle.blz_functions.specs.BestOwned.{AnswersAs, AreNeverBest}
+use Rattle.blz_functions.specs.AskedCalls.{asked_calls, by_all_ranges, calls_asked, if_asked}
 use Rattle.blz_functions.specs.CallTree.{CallLists, call_added, call_by, no_calls, unit_calls, with_call}
 use Rattle.blz_functions.specs.CallWalk.{call_if, call_met}
-use Rattle.blz_functions.specs.DepthLists.{AreReadByDepth, IsAppendedAt}
-use Rattle.blz_functions.specs.DepthRanges.{of_depth}
+use Rattle.blz_functions.specs.DepthLists.{StandFor}
+use Rattle.blz_functions.specs.DepthRanges.{SearchedRanges}
+use Rattle.blz_functions.specs.FunctionRanges.{SearchedCalls}
+use Rattle.blz_functions.specs.Chain.{call_range}
 use Rattle.blz_functions.specs.Describing.{Refer, described_if}
 use Rattle.blz_functions.specs.Leaves.{UnitParts, ranges_in}
 use Rattle.blz_functions.specs.SearchedCalls.{AreSearchedCalls}
@@ -25,47 +25,29 @@ use Rattle.blz_functions.specs.Searching.{GivesAs, IsGiven, IsMet}
 use Rattle.blz_functions.specs.declared.depth_lists.DepthLists.{DepthLists}
 use Rattle.blz_functions.specs.declared.description.Description.{Description}
 use Rattle.blz_functions.specs.declared.inlined_functions.InlinedFunction.{InlinedFunction}
-use Rattle.blz_functions.proofs.BestOwned.{answers_with}
-use Rattle.blz_functions.proofs.DepthRanges.{depth_more, depth_still, same_at_depth}
+use Rattle.blz_functions.proofs.DepthLists.{none_of_depth, none_searched_at}
+use Rattle.blz_functions.proofs.DepthRanges.{same_found}
 use Rattle.blz_functions.proofs.Searching.{met_given}
 
 -- ---- one call more
 
-pub none_searched : (u : UnitParts) (lists : DepthLists) → AreReadByDepth u [] lists → AreSearchedCalls u no_calls lists no_calls
-none_searched u lists told = record { calls = refl; answers = λ depth addr. refl; read = told }
+pub none_searched : (u : UnitParts) (some : SearchedCalls) (lists : DepthLists) → some.calls ≡ [] → StandFor u some.ranges lists [] → AreSearchedCalls u some lists no_calls
+none_searched u some lists none stand = record { calls = none; ranges = stand }
 
--- the first of its ranges are put behind those that are searched
-module _ (u : UnitParts) (some all : CallLists) (old : DepthLists) (call : InlinedFunction) (depth : ℕ) (front back : List Span) (h : AreSearchedCalls u some old all) (never : AreNeverBest back (of_depth depth some.ranges)) where
-  here : AnswersAs (of_depth depth (with_call some call depth front).ranges) (of_depth depth (with_call all call depth (front ++ back)).ranges)
-  here =
-      let n = length some.calls in
-      let m = length all.calls in
-      rw (depth_more depth n some.ranges front, depth_more depth m all.ranges (front ++ back)) (answers_with (of_depth depth some.ranges) (of_depth depth all.ranges) front back n m (sym (ap length h.calls)) (h.answers depth) never)
-
-  there : (d : ℕ) → eqb depth d ≡ false → AnswersAs (of_depth d (with_call some call depth front).ranges) (of_depth d (with_call all call depth (front ++ back)).ranges)
-  there d other = rw (depth_still d depth (length some.calls) some.ranges front other, depth_still d depth (length all.calls) all.ranges (front ++ back) other) (h.answers d)
-
-  pub call_searched : (new : DepthLists) → AreReadByDepth u (with_call some call depth front).ranges new → AreSearchedCalls u (with_call some call depth front) new (with_call all call depth (front ++ back))
-  call_searched new told = record {
-    calls = ap (λ (l : List InlinedFunction). l ++ call ∷ []) h.calls;
-    answers = λ d. elim (cases_Bool (eqb depth d)) [
-      | inl same ↦ subst (λ (k : ℕ). AnswersAs (of_depth k (with_call some call depth front).ranges) (of_depth k (with_call all call depth (front ++ back)).ranges)) (eqb-true depth d same) here
-      | inr other ↦ there d other
-    ];
-    read = told;
-  }
-
-pub call_given : (u : UnitParts) (some all : CallLists) (old new : DepthLists) (depth : ℕ) (d : Description) (front back : List Span) → AreSearchedCalls u some old all → (a : IsAppendedAt u some.ranges new depth (ranges_in u d.ranges) front back) → IsGiven (AreSearchedCalls u (with_call some (call_by d) depth a.read) new) (call_added u all depth d)
+pub call_given : (u : UnitParts) (calls : List InlinedFunction) (ranges : SearchedRanges) (all : CallLists) (new : DepthLists) (depth call : ℕ) (d : Description) (o : Option (List Span)) → calls ≡ all.calls → call ≡ length calls → o ≡ ranges_in u d.ranges
+    → IsGiven (λ s. StandFor u ranges new (all.ranges ++ map (call_range depth call) s)) o → IsGiven (AreSearchedCalls u (record { calls = calls ++ call_by d ∷ []; ranges = ranges }) new) (call_added u all depth d)
 unfolding call_added
-call_given u some all old new depth d front back h a = record {
-  value = with_call all (call_by d) depth (a.read ++ a.known);
-  is = rw a.is refl;
-  fits = call_searched u some all old (call_by d) depth a.read a.known h a.never_best new (a.are_read (length some.calls));
-}
+call_given u calls ranges all new depth call d o same count is h =
+    let number : call ≡ length all.calls = count ∙ ap length same in
+    record {
+      value = with_call all (call_by d) depth h.value;
+      is = rw (← is, h.is) refl;
+      fits = record { calls = ap (λ (l : List InlinedFunction). l ++ call_by d ∷ []) same; ranges = subst (λ (n : ℕ). StandFor u ranges new (all.ranges ++ map (call_range depth n) h.value)) number h.fits };
+    }
 
 -- ---- an entry more
 
-pub entry_given : (refer : Refer) (u : UnitParts) (all : CallLists) (lists : DepthLists) (depth : Option ℕ) (e : Entry) (w : Walk) (wanted : Bool) (d : Option Description) (next : ℕ) (r : Result CallLists Fault) → wanted ≡ is_some depth → described_if refer u wanted e.code w ≡ Some (d, next)
+pub entry_given : (refer : Refer) (u : UnitParts) (all : CallLists) (lists : DepthLists) (depth : Option ℕ) (e : Entry) (w : Walk) (wanted : Bool) (d : Option Description) (next : ℕ) (r : Result SearchedCalls Fault) → wanted ≡ is_some depth → described_if refer u wanted e.code w ≡ Some (d, next)
     → GivesAs (λ l m. AreSearchedCalls u l lists m) r (call_if u all depth d) → GivesAs (IsMet (AreSearchedCalls u) lists next) r (call_met refer u all depth e w)
 unfolding call_met
 entry_given refer u all lists depth e w wanted d next r same is h = rw (← same, is) (met_given (AreSearchedCalls u) lists r (call_if u all depth d) next h)
@@ -76,12 +58,17 @@ entry_fails refer u all depth e w wanted kind same h = marks_on kind (described_
 
 -- ---- a whole function
 
-pub same_asked : (u : UnitParts) (some all : CallLists) (lists : DepthLists) → AreSearchedCalls u some lists all → asked_calls all ≡ asked_calls some
+pub same_asked : (u : UnitParts) (some : SearchedCalls) (all : CallLists) (lists : DepthLists) → AreSearchedCalls u some lists all → by_all_ranges all ≡ asked_calls some
 same_asked u some all lists h =
-    let at = fun_ext (λ addr. fun_ext (λ depth. same_at_depth some.ranges all.ranges addr depth (h.answers depth))) in
+    let at = fun_ext (λ addr. fun_ext (λ depth. same_found some.ranges all.ranges addr depth (h.ranges.deep depth) (h.ranges.answers depth))) in
     rw (h.calls, at) refl
 
-pub asked_given : (u : UnitParts) (some all : CallLists) (lists : DepthLists) (o : Option CallLists) → AreSearchedCalls u some lists all → o ≡ Some all → or_invalid (if_asked o) ≡ Good (asked_calls some)
+pub none_asked : (l : SearchedCalls) → l.calls ≡ [] → l.ranges.list ≡ [] → l.ranges.shared ≡ [] → by_all_ranges no_calls ≡ asked_calls l
+none_asked l none list shared =
+    let at = fun_ext (λ addr. fun_ext (λ depth. same_found l.ranges [] addr depth (λ le. none_of_depth depth) (λ lt. none_searched_at l.ranges depth list shared))) in
+    rw (none, at) refl
+
+pub asked_given : (u : UnitParts) (some : SearchedCalls) (all : CallLists) (lists : DepthLists) (o : Option CallLists) → AreSearchedCalls u some lists all → o ≡ Some all → or_invalid (if_asked o) ≡ Good (asked_calls some)
 asked_given u some all lists o h is = rw is (ap Good (same_asked u some all lists h))
 
 pub asked_fails : (kind : ErrorKind) (o : Option CallLists) → Fails kind (or_invalid o) → Fails kind (or_invalid (if_asked o))
@@ -92,7 +79,7 @@ pub asked_of_calls : (refer : Refer) (u : UnitParts) (place : ℕ) (o : Option C
 unfolding calls_asked
 asked_of_calls refer u place o is = ap if_asked is
 
-pub asked_is : (refer : Refer) (u : UnitParts) (place : ℕ) (l : CallLists) → unit_calls refer u place ≡ Some l → or_invalid (calls_asked refer u place) ≡ Good (asked_calls l)
+pub asked_is : (refer : Refer) (u : UnitParts) (place : ℕ) (l : CallLists) → unit_calls refer u place ≡ Some l → or_invalid (calls_asked refer u place) ≡ Good (by_all_ranges l)
 asked_is refer u place l is = ap or_invalid (asked_of_calls refer u place (Some l) is)
 
 pub unasked : (refer : Refer) (u : UnitParts) (place : ℕ) (kind : ErrorKind) → unit_calls refer u place ≡ None → kind ≡ InvalidDwarf → Fails kind (or_invalid (calls_asked refer u place))

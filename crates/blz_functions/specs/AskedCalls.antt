@@ -1,12 +1,12 @@
 -- The inlined calls of a function as they are asked.
 use Rattle.std.specs.Prelude.{◌≡◌, ℕ, List, length, Option, Some}
 use Rattle.blz_model.specs.Reads.{◌>>=◌}
-use Rattle.blz_ranges.specs.declared.grouped.Grouped.{Grouped}
-use Rattle.blz_ranges.specs.Owned.{Owned}
 use Rattle.blz_functions.specs.declared.inlined_functions.InlinedFunction.{InlinedFunction}
 use Rattle.blz_functions.specs.CallTree.{CallLists, unit_calls}
 use Rattle.blz_functions.specs.Chain.{IsNested, IsPath, IsTree, TreeCall, at_depth, picked, ranges_of}
+use Rattle.blz_functions.specs.DepthRanges.{SearchedRanges, found_at}
 use Rattle.blz_functions.specs.Describing.{Refer}
+use Rattle.blz_functions.specs.FunctionRanges.{SearchedCalls}
 use Rattle.blz_functions.specs.Leaves.{UnitParts}
 
 -- the calls of a function, and the number of the one that an address has at a depth
@@ -15,14 +15,18 @@ pub record AskedCalls : Type 0 where
   pub at : ℕ → ℕ → Option ℕ
 
 -- the call of a depth is that of the best of its ranges
-abbrev pub asked_by : List InlinedFunction → List (Owned Grouped) → AskedCalls
-asked_by calls ranges = record { calls = calls; at = λ addr depth. at_depth ranges addr depth }
-
-abbrev pub asked_calls : CallLists → AskedCalls
-asked_calls l = asked_by l.calls l.ranges
+abbrev pub by_all_ranges : CallLists → AskedCalls
+by_all_ranges l = record { calls = l.calls; at = λ addr depth. at_depth l.ranges addr depth }
 
 abbrev pub if_asked : Option CallLists → Option AskedCalls
-if_asked o = o >>= λ l. Some (asked_calls l)
+if_asked o = o >>= λ l. Some (by_all_ranges l)
+
+-- by the ranges that are searched
+abbrev pub asked_by : List InlinedFunction → SearchedRanges → AskedCalls
+asked_by calls ranges = record { calls = calls; at = λ addr depth. found_at ranges addr depth }
+
+abbrev pub asked_calls : SearchedCalls → AskedCalls
+asked_calls l = asked_by l.calls l.ranges
 
 -- by all ranges of all calls of the function at a place
 unfoldable pub calls_asked : Refer → UnitParts → ℕ → Option AskedCalls

@@ -1,8 +1,8 @@
 -- What the lists of functions and of calls stand for: their ranges, and whether their order was accepted.
 use Rattle.std.specs.Prelude.{Bool, List}
-use Rattle.blz_ranges.specs.declared.grouped.Grouped.{Grouped}
 use Rattle.blz_ranges.specs.declared.span.Span.{Span}
 use Rattle.blz_ranges.specs.Owned.{Owned}
+use Rattle.blz_functions.specs.DepthRanges.{SearchedRanges}
 use Rattle.blz_functions.specs.declared.functions.Function.{Function}
 use Rattle.blz_functions.specs.declared.inlined_functions.InlinedFunction.{InlinedFunction}
 
@@ -12,8 +12,13 @@ pub record FunctionRanges : Type 0 where
   pub ranges : List (Owned Span)
   pub ordered : Bool
 
--- the inlined calls of a function, and their ranges in groups by depth, each with the number of its call
+-- the inlined calls of a function, and their ranges that are searched
+pub record SearchedCalls : Type 0 where
+  pub calls : List InlinedFunction
+  pub ranges : SearchedRanges
+
+-- the same, and whether the order of the ranges was accepted
 pub record CallRanges : Type 0 where
   pub calls : List InlinedFunction
-  pub ranges : List (Owned Grouped)
+  pub ranges : SearchedRanges
   pub ordered : Bool

@@ -15,17 +15,17 @@ GivesAs Fits (Ok x) o = IsGiven (Fits x) o
 GivesAs Fits (Err e) o = Fails e.kind (or_invalid o)
 
 -- What is kept stands for what is meant, by what is known of lists.
-abbrev pub Standing : Type 0 → Type 0 → Type 1
-Standing Kept Known = Kept → Known → Kept → Type 0
+abbrev pub Standing : Type 0 → Type 0 → Type 0 → Type 1
+Standing Kept Known Meant = Kept → Known → Meant → Type 0
 
 -- What is kept and known stands for something, and what a call makes of it for that with what it adds.
-abbrev pub Adds : {Kept Known : Type 0} → Standing Kept Known → Kept → Known → Known → Result Kept Fault → (Kept → Option Kept) → Type 0
-Adds {Kept = Kept} Stands kept old new result added = (all : Kept) → Stands kept old all → GivesAs (λ k m. Stands k new m) result (added all)
+abbrev pub Adds : {Kept Known Meant : Type 0} → Standing Kept Known Meant → Kept → Known → Known → Result Kept Fault → (Meant → Option Meant) → Type 0
+Adds {Meant = Meant} Stands kept old new result added = (all : Meant) → Stands kept old all → GivesAs (λ k m. Stands k new m) result (added all)
 
 -- what stands for the value behind an entry, and the place of the next one
-abbrev pub IsMet : {Kept Known : Type 0} → Standing Kept Known → Known → ℕ → Kept → Kept × ℕ → Type 0
+abbrev pub IsMet : {Kept Known Meant : Type 0} → Standing Kept Known Meant → Known → ℕ → Kept → Meant × ℕ → Type 0
 IsMet Stands known next kept p = Stands kept known p.0 × (p.1 ≡ next)
 
 -- the same with the place of the next entry
-abbrev pub Meets : {Kept Known : Type 0} → Standing Kept Known → Kept → Known → Known → ℕ → Result Kept Fault → (Kept → Option (Kept × ℕ)) → Type 0
-Meets {Kept = Kept} Stands kept old new next result met = (all : Kept) → Stands kept old all → GivesAs (IsMet Stands new next) result (met all)
+abbrev pub Meets : {Kept Known Meant : Type 0} → Standing Kept Known Meant → Kept → Known → Known → ℕ → Result Kept Fault → (Meant → Option (Meant × ℕ)) → Type 0
+Meets {Meant = Meant} Stands kept old new next result met = (all : Meant) → Stands kept old all → GivesAs (IsMet Stands new next) result (met all)

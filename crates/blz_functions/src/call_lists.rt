@@ -1,12 +1,11 @@
 //! The inlined calls among the entries below a function.
-ghost use Rattle.std.specs.Prelude.{◌≡◌, ◌++◌, [], ◌≤◌, length, map, OnOk, IfOk};
+ghost use Rattle.std.specs.Prelude.{◌≡◌, [], ◌≤◌, map, IfOk};
 ghost use Rattle.blz_model.specs.Part.{Gives};
 ghost use Rattle.blz_info.specs.Marks.{or_invalid};
 ghost use Rattle.blz_functions.specs.AskedCalls.{asked_calls, calls_asked, if_asked};
-ghost use Rattle.blz_functions.specs.CallTree.{no_calls, call_by, call_added, calls_from};
+ghost use Rattle.blz_functions.specs.CallTree.{call_by, call_added, calls_from};
 ghost use Rattle.blz_functions.specs.CallWalk.{call_if, call_met};
 ghost use Rattle.blz_functions.specs.Describing.{specs_of};
-ghost use Rattle.blz_ranges.specs.Groups.{grouped};
 ghost use Rattle.blz_ranges.specs.Keyed.{IsAccepted, group_key};
 ghost use Rattle.blz_functions.specs.Leaves.{source_in};
 ghost use Rattle.blz_functions.specs.Opened.{open_view, CanBeOpened};
@@ -15,6 +14,7 @@ ghost use Rattle.blz_functions.specs.SearchedCalls.{AreSearchedCalls};
 ghost use Rattle.blz_functions.specs.Searching.{Adds, Meets};
 
 use crate::depth_lists::DepthLists;
+use crate::depth_ranges::DepthRanges;
 use crate::description::Description;
 use crate::inlined_functions::{InlinedFunction, InlinedFunctions};
 use crate::levels::Levels;
@@ -24,45 +24,29 @@ use blz_bytes::Orders;
 use blz_constants::dwarf;
 use blz_entry::{Entries, Entry, Passing, Span, invalid};
 use blz_error::Result;
-use blz_ranges::{Grouped, own};
 use std::alloc::{AllocError, Global};
 use std::marker::Model;
 
-/// Inlined calls, and their ranges in groups by depth, each with the number of its call. What several lists of ranges share
-/// is read once at each depth, and its ranges stand here for the first call of the depth that names one, which is the one
-/// that their addresses have.
+/// Inlined calls, and their ranges that are searched. What several lists of ranges share is read once at each depth, and its
+/// ranges stand here for the first call of the depth that names one, which is the one that their addresses have.
 #[derive(Drop)]
 pub struct CallLists {
     calls: Vec<InlinedFunction>,
-    ranges: Vec<Grouped>,
-    owners: Vec<usize>,
+    ranges: DepthRanges,
     /// What the ranges of one call are read into.
     spans: Vec<Span>,
 }
 
 impl Model for CallLists {
     ghost use Rattle.std.specs.Prelude.{◌≡◌, length};
-    ghost use Rattle.blz_functions.specs.CallTree.{CallLists};
-    ghost use Rattle.blz_ranges.specs.Owned.{owned};
+    ghost use Rattle.blz_functions.specs.DepthRanges.{ranges_view};
+    ghost use Rattle.blz_functions.specs.FunctionRanges.{SearchedCalls};
 
-    ghost Value = { CallLists };
+    ghost Value = { SearchedCalls };
 
-    ghost view = { λ l. record { calls = l.calls.items; ranges = owned l.ranges.items l.owners.items } };
+    ghost view = { λ l. record { calls = l.calls.items; ranges = ranges_view l.ranges } };
 
-    ghost invariant = { λ l. length l.ranges.items ≡ length l.owners.items };
-}
-
-fn group(
-    ranges: &mut Vec<Grouped>,
-    group: usize,
-    spans: &[Span],
-) -> std::result::Result<(), AllocError>
-    ensures { OnOk result (ranges.new.items ≡ ranges.old.items ++ map (grouped group) spans.now) }
-{
-    for span in spans {
-        ranges.push(Grouped { group, span: *span })?;
-    }
-    Ok(())
+    ghost invariant = { λ l. length l.ranges.list.items ≡ length l.ranges.owners.items };
 }
 
 fn call_by(description: &Description) -> InlinedFunction
@@ -78,12 +62,13 @@ fn call_by(description: &Description) -> InlinedFunction
 
 impl CallLists {
     fn new(alloc: Global) -> CallLists
-        ensures { result ≡ no_calls }
+        ensures calls { result.calls ≡ [] }
+        ensures ranges { result.ranges.list ≡ [] }
+        ensures shared { result.ranges.shared ≡ [] }
     {
         CallLists {
             calls: Vec::new(alloc),
-            ranges: Vec::new(alloc),
-            owners: Vec::new(alloc),
+            ranges: DepthRanges::new(alloc),
             spans: Vec::new(alloc),
         }
     }
@@ -101,18 +86,21 @@ impl CallLists {
         let CallLists {
             mut calls,
             mut ranges,
-            mut owners,
             mut spans,
         } = self;
-        spans.clear();
-        lists.append(unit, depth, &description.ranges, &mut spans)?;
-        group(&mut ranges, depth, spans.as_slice())?;
-        own(&mut owners, calls.len(), ranges.len())?;
+        let number = calls.len();
+        lists.add(
+            unit,
+            depth,
+            number,
+            &description.ranges,
+            &mut ranges,
+            &mut spans,
+        )?;
         calls.push(call_by(description))?;
         Ok(CallLists {
             calls,
             ranges,
-            owners,
             spans,
         })
     }
@@ -232,14 +220,13 @@ impl CallLists {
     ) -> std::result::Result<InlinedFunctions, AllocError>
         ensures calls { IfOk result (λ x. x.calls ≡ self.calls) }
         ensures ranges { IfOk result (λ x. x.ranges ≡ self.ranges) }
-        ensures accepted { IfOk result (λ x. IsAccepted O.pair_places (map group_key (items_of self.ranges)) x.ordered) }
+        ensures accepted { IfOk result (λ x. IsAccepted O.pair_places (map group_key (items_of self.ranges.list)) x.ordered) }
     {
         let CallLists {
             calls,
             ranges,
-            owners,
             spans: _,
         } = self;
-        InlinedFunctions::build(alloc, orders, calls, ranges, owners)
+        InlinedFunctions::build(alloc, orders, calls, ranges)
     }
 }

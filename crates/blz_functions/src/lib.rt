@@ -3,6 +3,7 @@
 
 mod call_lists;
 mod depth_lists;
+mod depth_ranges;
 mod description;
 mod function_lists;
 mod functions;

@@ -147,7 +147,12 @@ impl ReadLists {
     }
 
     /// Appends the ranges of a list as far as they were not read before, and tells whether the whole list has one.
-    fn read(&mut self, unit: &OpenUnit<'_, '_>, offset: u64, out: &mut Vec<Span>) -> Result<bool>
+    pub(crate) fn read(
+        &mut self,
+        unit: &OpenUnit<'_, '_>,
+        offset: u64,
+        out: &mut Vec<Span>,
+    ) -> Result<bool>
         ensures value { AppendsRead (open_view unit.now) self.old self.new (spans_behind (open_view unit.now) (list_tail unit.now.root offset)) out.old.items out.new.items result }
         ensures front { OnOk result (take (vec_len out.old) out.new.items ≡ out.old.items) }
         ensures none { IfOk result (λ some. some ≡ false → out.new.items ≡ out.old.items) }

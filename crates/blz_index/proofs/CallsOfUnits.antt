@@ -2,7 +2,7 @@
 use Rattle.std.proofs.Common.{◌≡◌, ℕ, List, map, Option, Some, None, refl, subst}
 use Rattle.blz_model.specs.Reads.{◌>>=◌}
 use Rattle.blz_units.specs.BuiltUnits.{Files}
-use Rattle.blz_functions.specs.AskedCalls.{AnswersAsTree, AskedCalls, asked_calls, calls_asked, if_asked}
+use Rattle.blz_functions.specs.AskedCalls.{AnswersAsTree, AskedCalls, by_all_ranges, calls_asked, if_asked}
 use Rattle.blz_functions.specs.CallTree.{RangedCall, calls_of, calls_with, no_calls, tree_call}
 use Rattle.blz_functions.specs.Describing.{Refer}
 use Rattle.blz_functions.specs.Leaves.{UnitParts}
@@ -25,7 +25,7 @@ through (Some x) f y e = record { value = x; gives = e }
 by_calls : (refer : Refer) (u : UnitParts) (place : ℕ) (o : Option (List RangedCall)) (asked : AskedCalls) → calls_of refer u place ≡ o → if_asked (o >>= λ (calls : List RangedCall). Some (calls_with no_calls calls)) ≡ Some asked → HasTree asked
 by_calls refer u place None asked is e = absurd cc
 by_calls refer u place (Some ks) asked is e =
-    let same : asked_calls (calls_with no_calls ks) ≡ asked = cc in
+    let same : by_all_ranges (calls_with no_calls ks) ≡ asked = cc in
     record { tree = map tree_call ks; is = subst (λ (a : AskedCalls). AnswersAsTree a (map tree_call ks)) same (tree_answers (calls_with no_calls ks) (map tree_call ks) (calls_are_tree refer u place ks is)) }
 
 calls_have_tree : (refer : Refer) (u : UnitParts) (place : ℕ) (asked : AskedCalls) → calls_asked refer u place ≡ Some asked → HasTree asked

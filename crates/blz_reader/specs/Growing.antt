@@ -27,7 +27,7 @@ LinesOrdered told None = ⊤
 LinesOrdered told (Some l) = IsAccepted told (map begin_key (spans_of l.table.sequences)) l.ordered
 
 abbrev pub CallsOrdered : Told → CallRanges → Type 0
-CallsOrdered told x = IsAccepted told (map group_key (items_of x.ranges)) x.ordered
+CallsOrdered told x = IsAccepted told (map group_key (items_of x.ranges.list)) x.ordered
 
 -- ---- growing
 

@@ -1,4 +1,4 @@
-use Rattle.std.proofs.Common.{◌≡◌, ◌≤◌, Some, None, length, refl, arith, rules, sym, vec_len, ◌∙◌}
+use Rattle.std.proofs.Common.{◌≡◌, Some, None, length, refl, arith, rules, vec_len, ◌∙◌}
 use Rattle.std.proofs.lemmas.List.{take-append-le}
 use Rattle.blz_info.proofs.Marked.{good_some, marks_on}
 use Rattle.blz_entry.specs.RangeTails.{list_tail}

@@ -1,11 +1,9 @@
-use Rattle.std.proofs.Common.{sym, ap, ◌∙◌}
+use Rattle.std.proofs.Common.{ap, ◌∙◌}
 use Rattle.std.proofs.lemmas.Result.{err_from_is_err_and}
 use Rattle.blz_model.specs.Part.{Good}
-use Rattle.blz_functions.specs.AskedCalls.{asked_calls}
-use Rattle.blz_functions.specs.CallTree.{CallLists}
 use Rattle.blz_functions.specs.Opened.{open_view}
 use Rattle.blz_functions.proofs.CallEntry.{begins, refused, calls_outside, calls_over, calls_stuck, calls_zero, calls_unread, calls_leaf, calls_inside, not_true, not_false, skipped_pending}
-use Rattle.blz_functions.proofs.SearchedCalls.{asked_is, asked_of_calls, unasked}
+use Rattle.blz_functions.proofs.SearchedCalls.{asked_is, asked_of_calls, none_asked, unasked}
 use Rattle.blz_functions.proofs.call_lists.CallLists.read.Goals as goal
 
 pub returns-in_err-entries-clause-value : goal.returns-in_err-entries-clause-value
@@ -43,7 +41,7 @@ returns-then-not-entry-clause-value g c =
     let u = open_view c.args.unit.now in
     let b = begins u c.args.place c.in_ok-entries.entries c.in_ok-entries.ensures in
     asked_is _ u c.args.place _ (calls_leaf _ u c.args.place c.in_ok-entries.entries b c.next_entry.new.self c.skip_attributes.new.self _ (rw c.in-Ok-Some.field-0-is at c.in-Ok-Some.ensures.value) c.in-Ok.ensures.value c.if-entry-eq0.false (not_true c.in-Ok-Some.entry.children c.if-not-entry.true))
-    ∙ ap (λ (l : CallLists). Good (asked_calls l)) (sym c.new.ensures)
+    ∙ ap Good (none_asked c.new.result c.new.ensures.calls c.new.ensures.ranges c.new.ensures.shared)
 
 pub read_below-requires-clause-pending : goal.read_below-requires-clause-pending
 read_below-requires-clause-pending g c = skipped_pending c.next_entry.new.self c.skip_attributes.new.self c.in-Ok.ensures.value

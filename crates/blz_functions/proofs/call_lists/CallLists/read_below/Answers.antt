@@ -1,4 +1,4 @@
-use Rattle.std.proofs.Common.{◌<◌, List, [], Option, ℕ, refl, sym, ap, ◌∙◌, length}
+use Rattle.std.proofs.Common.{◌<◌, List, Option, ℕ, refl, sym, ap, ◌∙◌, length}
 use Rattle.std.proofs.lemmas.Bool.{ltb-true}
 use Rattle.blz_model.specs.Reads.{◌>>=◌}
 use Rattle.blz_info.proofs.Marked.{marks, marks_on}
@@ -21,7 +21,7 @@ loop-entries-init g c = record {
   source = c.requires.source;
   same = refl;
   all = no_calls;
-  searched = rw c.new-calls.ensures (none_searched (open_view c.args.unit.now) c.new-lists.result (c.new-lists.ensures (open_view c.args.unit.now) []));
+  searched = none_searched (open_view c.args.unit.now) c.new-calls.result c.new-lists.result c.new-calls.ensures.calls (c.new-lists.ensures (open_view c.args.unit.now) c.new-calls.result.ranges c.new-calls.ensures.ranges c.new-calls.ensures.shared);
   rest = rw c.in_ok-levels.ensures (rest_start (g.F.Links.refer (g.F.Links.linkage c.args.links.now)) (open_view c.args.unit.now) c.args.entries.now.place);
 }
 
