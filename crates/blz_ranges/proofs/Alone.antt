@@ -8,8 +8,8 @@ use Rattle.std.proofs.lemmas.Option.{slice_get-map}
 use Rattle.blz_ranges.specs.declared.span.Span.{Span}
 use Rattle.blz_ranges.specs.declared.placed.Placed.{Placed}
 use Rattle.blz_ranges.specs.declared.grouped.Grouped.{Grouped}
-use Rattle.blz_ranges.specs.Best.{best, next, placed, passes, IsBest}
-use Rattle.blz_ranges.specs.Groups.{grouped, group_is, spans_of, in_group, best_in, next_in, AreApart, AreApartInGroups}
+use Rattle.blz_ranges.specs.Best.{best, next_after, passes, IsBest}
+use Rattle.blz_ranges.specs.Groups.{grouped, group_is, spans_of, after_in, in_group, best_in, AreApart, AreApartInGroups}
 use Rattle.blz_ranges.specs.Ranges.{AllInGroup}
 use Rattle.blz_ranges.proofs.BestOf.{best_is, best_is_best}
 
@@ -41,10 +41,8 @@ alone g list test (Some p) all h = record {
 pub best_alone : (g : ℕ) (list : List Grouped) (a : ℕ) → AllInGroup g list → best_in list g a ≡ best (spans_of list) a
 best_alone g list a all = best_is (passes a None) (spans_of list) _ (alone g list (passes a None) _ all (best_is_best (in_group list g (passes a None)) (spans_of list)))
 
-pub next_alone : (g : ℕ) (list : List Grouped) (a bound : ℕ) → AllInGroup g list → next_in list g a bound ≡ next (spans_of list) a bound
-next_alone g list a bound all =
-    let after : Option Placed = Some (placed (spans_of list) bound) in
-    best_is (passes a after) (spans_of list) _ (alone g list (passes a after) _ all (best_is_best (in_group list g (passes a after)) (spans_of list)))
+pub after_alone : (g : ℕ) (list : List Grouped) (a : ℕ) (b : Placed) → AllInGroup g list → after_in list g a b ≡ next_after (spans_of list) a b
+after_alone g list a b all = best_is (passes a (Some b)) (spans_of list) _ (alone g list (passes a (Some b)) _ all (best_is_best (in_group list g (passes a (Some b))) (spans_of list)))
 
 span_there : (list : List Grouped) (p : ℕ) (x : Grouped) → slice_get list p ≡ Some x → slice_get (spans_of list) p ≡ Some x.span
 span_there list p x is = slice_get-map (λ (e : Grouped). e.span) list p ∙ ap (option_map (λ (e : Grouped). e.span)) is

@@ -9,7 +9,7 @@ use Rattle.blz_ranges.specs.declared.placed.Placed.{Placed}
 use Rattle.blz_ranges.specs.declared.grouped.Grouped.{Grouped}
 use Rattle.blz_ranges.specs.declared.ordered.Ordered.{Ordered}
 use Rattle.blz_ranges.specs.Best.{no_span, placed, best_by, place_of, passes, IsBest}
-use Rattle.blz_ranges.specs.Groups.{group_is, spans_of, in_group, best_in, next_in, AreApartInGroups}
+use Rattle.blz_ranges.specs.Groups.{group_is, spans_of, after_in, in_group, best_in, next_in, AreApartInGroups}
 use Rattle.blz_ranges.specs.Sorted.{range_of, IsIndexOf, IsChain}
 use Rattle.blz_ranges.specs.Search.{tests, IsFound, place_found}
 use Rattle.blz_ranges.proofs.BestOf.{best_is}
@@ -81,13 +81,11 @@ placed_is list bound x is =
     let s : slice_get (spans_of list) bound ≡ Some x.span = slice_get-map (λ (e : Grouped). e.span) list bound ∙ ap (option_map (λ (e : Grouped). e.span)) is in
     ap (bound_at bound) (get_or_from_slice_get (spans_of list) bound x.span no_span s)
 
-pub next_scanned : (list : List Grouped) (g a bound : ℕ) (x : Grouped) (r : Option ℕ) → slice_get list bound ≡ Some x
-    → r ≡ place_of (best_by (in_group list g (passes a (Some (record { place = bound; span = x.span })))) 0 (spans_of list)) → r ≡ next_in list g a bound
-next_scanned list g a bound x r is h = h ∙ ap (λ (b : Placed). place_of (best_by (in_group list g (passes a (Some b))) 0 (spans_of list))) (sym (placed_is list bound x is))
+pub after_found : (list : List Grouped) (es : List Ordered) (g a : ℕ) (b : Placed) (best : Option Ordered) → IsIndexOf list es → IsFound es g a (Some b) best → place_found best ≡ after_in list g a b
+after_found list es g a b best index h = found_by list es g a (Some b) best index h
 
-pub next_found : (list : List Grouped) (es : List Ordered) (g a bound : ℕ) (x : Grouped) (best : Option Ordered) → IsIndexOf list es → slice_get list bound ≡ Some x
-    → IsFound es g a (Some (record { place = bound; span = x.span })) best → place_found best ≡ next_in list g a bound
-next_found list es g a bound x best index is h = next_scanned list g a bound x (place_found best) is (found_by list es g a (Some (record { place = bound; span = x.span })) best index h)
+pub after_it : (list : List Grouped) (g a bound : ℕ) (x : Grouped) → slice_get list bound ≡ Some x → after_in list g a (record { place = bound; span = x.span }) ≡ next_in list g a bound
+after_it list g a bound x is = ap (after_in list g a) (sym (placed_is list bound x is))
 
 -- ranges apart stand one after another in their order
 pub chained : (list : List Grouped) (es : List Ordered) → IsIndexOf list es → AreApartInGroups list → IsChain es

@@ -3,7 +3,7 @@ ghost use Rattle.std.specs.Prelude.{◌≡◌, ℕ, ◌+◌, ◌*◌, ◌^◌, �
 ghost use Rattle.std.specs.List.{slice_get};
 ghost use Rattle.blz_bytes.specs.declared.orders.Key.{Key};
 ghost use Rattle.blz_ranges.specs.Best.{best_by, better, passes};
-ghost use Rattle.blz_ranges.specs.Groups.{best_in, next_in, in_group, spans_of, group_is, AreApartInGroups};
+ghost use Rattle.blz_ranges.specs.Groups.{after_in, best_in, next_in, in_group, spans_of, group_is, AreApartInGroups};
 ghost use Rattle.blz_ranges.specs.Keyed.{AreKeysOf, IsAccepted};
 ghost use Rattle.blz_ranges.specs.Ranges.{GroupedRanges, IsIndexIf};
 
@@ -134,6 +134,26 @@ impl GroupIndex {
         }
     }
 
+    /// The next range of a group that covers an address, after one that need not be of the list.
+    pub fn after_in<L: Ledger>(
+        &self,
+        group: usize,
+        addr: u64,
+        after: Placed,
+        steps: &mut Steps<L>,
+    ) -> Option<usize>
+        ensures next { result ≡ after_in self.now.list group addr after }
+        ensures later { steps.old ≤ steps.new }
+    {
+        if self.ordered {
+            let target = Target::after(group, addr, after.place, after.span.begin);
+            let high = split(&self.order, &target, steps);
+            place_found(&last_before(&self.order, &self.skips, group, addr, high, steps))
+        } else {
+            place_of(&scan(&self.list, group, addr, &Some(after), steps))
+        }
+    }
+
     /// The next range of a group that covers an address, after the one at a place.
     pub fn next_in<L: Ledger>(
         &self,
@@ -149,14 +169,10 @@ impl GroupIndex {
         let Some(range) = self.list.look(bound, steps) else {
             return None;
         };
-        let span = range.span;
-        let after = Some(Placed { place: bound, span });
-        if self.ordered {
-            let target = Target::after(group, addr, bound, span.begin);
-            let high = split(&self.order, &target, steps);
-            place_found(&last_before(&self.order, &self.skips, group, addr, high, steps))
-        } else {
-            place_of(&scan(&self.list, group, addr, &after, steps))
-        }
+        let after = Placed {
+            place: bound,
+            span: range.span,
+        };
+        self.after_in(group, addr, after, steps)
     }
 }

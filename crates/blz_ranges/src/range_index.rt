@@ -1,13 +1,14 @@
 //! An index of ranges.
 ghost use Rattle.std.specs.Prelude.{◌≡◌, ℕ, ◌+◌, ◌*◌, ◌^◌, ◌-◌, ◌<◌, ◌≤◌, true, List, length, map, Option, None, Some, IfOk};
 ghost use Rattle.std.specs.List.{slice_get};
-ghost use Rattle.blz_ranges.specs.Best.{best, next};
+ghost use Rattle.blz_ranges.specs.Best.{best, next, next_after};
 ghost use Rattle.blz_ranges.specs.Groups.{AreApart, spans_of};
 ghost use Rattle.blz_ranges.specs.Keyed.{IsAccepted, begin_key};
 ghost use Rattle.blz_ranges.specs.Ranges.{Ranges, AllInGroup};
 
 use crate::group_index::GroupIndex;
 use crate::grouped::{begin_keys, one_group};
+use crate::placed::Placed;
 use crate::span::Span;
 use blz_bytes::{Orders, Steps};
 use std::alloc::{AllocError, Global};
@@ -83,6 +84,19 @@ impl RangeIndex {
         ensures later { steps.old ≤ steps.new }
     {
         self.index.next_in(0, addr, bound, steps)
+    }
+
+    /// The next range that covers an address, after one that need not be of the list.
+    pub fn next_after<L: Ledger>(
+        &self,
+        addr: u64,
+        after: Placed,
+        steps: &mut Steps<L>,
+    ) -> Option<usize>
+        ensures next { result ≡ next_after self.now.spans addr after }
+        ensures later { steps.old ≤ steps.new }
+    {
+        self.index.after_in(0, addr, after, steps)
     }
 
     fn best_from<L: Ledger>(&self, addr: u64, blank: Blank) -> Option<usize>
