@@ -1,5 +1,5 @@
 -- Caches of units of which nothing is kept.
-use Rattle.std.specs.Prelude.{◌≡◌, ℕ, List, length, Option}
+use Rattle.std.specs.Prelude.{◌≡◌, ℕ, List, length, Option, None}
 use Rattle.std.specs.BTreeMap.{IsEmpty}
 use Rattle.std.specs.List.{slice_get}
 use Rattle.blz_model.specs.declared.cache.Cache.{Cache}
@@ -34,5 +34,6 @@ pub record IsCold (kept : SideUnits) (count sups : ℕ) (c : Caches) : Type 0 wh
   pub sups_empty : NothingKept c.built.sups.units.items
   pub sups_share : (s : FileSections) → AreShared s c.built.sups.shared
   pub sups_packed : IsEmpty c.built.sups.packed.tables
+  pub sups_rows : c.built.sups.packed.rows ≡ None
   pub long_seen : (f : Files) (t : UnitTable) → AreSeen f t c.built.long
   pub units_empty : AreEmpty c.units.items

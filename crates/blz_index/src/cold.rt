@@ -1,5 +1,5 @@
 //! Caches of units of which nothing is kept yet.
-ghost use Rattle.std.specs.Prelude.{◌≡◌, length, IfOk};
+ghost use Rattle.std.specs.Prelude.{◌≡◌, None, length, IfOk};
 ghost use Rattle.std.specs.BTreeMap.{IsEmpty};
 ghost use Rattle.blz_index.specs.Cold.{NothingKept, AreEmpty, IsCold};
 ghost use Rattle.blz_units.specs.Sharing.{AreShared};
@@ -47,6 +47,7 @@ fn empty_sups(alloc: Global, count: usize) -> Result<SideUnits, AllocError>
     ensures empty { IfOk result (λ b. NothingKept b.units.items) }
     ensures shared { IfOk result (λ b. (s : FileSections) → AreShared s b.shared) }
     ensures packed { IfOk result (λ b. IsEmpty b.packed.tables) }
+    ensures rows { IfOk result (λ b. b.packed.rows ≡ None) }
 {
     let units = empty_units(alloc, count)?;
     Ok(SideUnits {

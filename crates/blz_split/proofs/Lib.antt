@@ -1,1 +1,2 @@
 pub mod FirstIn
+pub mod IndexRows

@@ -55,12 +55,15 @@ unfoldable pub first_in : (ℕ → Bool) → ℕ → ℕ → Option ℕ
 first_in test zero at = None
 first_in test (suc n) at = if test at then Some at else first_in test n (at + 1)
 
+abbrev pub id_of : ByteOrder → List ℕ → ℕ → ℕ
+id_of order index slot = field order index (16 + 8 * slot) 8
+
 abbrev pub row_of : ByteOrder → List ℕ → Tables → ℕ → ℕ
 row_of order index t slot = field order index (t.rows + 4 * slot) 4
 
 -- a slot that has an id together with a row, whose number is not 0
 abbrev pub is_slot_of : ByteOrder → List ℕ → Tables → ℕ → ℕ → Bool
-is_slot_of order index t id slot = (field order index (16 + 8 * slot) 8 == id) && nat_lt 0 (row_of order index t slot)
+is_slot_of order index t id slot = (id_of order index slot == id) && nat_lt 0 (row_of order index t slot)
 
 -- the row of the first such slot
 abbrev pub found_row : ByteOrder → List ℕ → Tables → ℕ → Option ℕ

@@ -3,3 +3,4 @@ pub mod TablesFit
 pub mod SectionNames
 pub mod PackageParts
 pub mod SplitSections
+pub mod IndexRows

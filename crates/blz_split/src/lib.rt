@@ -2,9 +2,11 @@
 #![tactic(auto)]
 
 mod dwo_section;
+mod id_rows;
 mod package;
 mod split_unit;
 mod tables;
 
+pub use id_rows::IdRows;
 pub use package::Package;
 pub use split_unit::{Piece, SplitUnit};

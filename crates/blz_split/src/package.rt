@@ -8,10 +8,12 @@ ghost use Rattle.blz_split.specs.Contributions.{index_tables, found_row, contrib
 ghost use Rattle.blz_info.specs.FileSections.{sections_view};
 ghost use Rattle.blz_split.specs.SplitSections.{split_sections, piece_of};
 ghost use Rattle.blz_split.specs.PackageParts.{package_view, package_of, row_pieces, unit_of_row, split_unit, PiecesFit, IfPiecesFit, Inside};
+ghost use Rattle.blz_split.specs.IndexRows.{AreRowsOf};
 ghost use Rattle.blz_split.specs.SectionNames.{name_of};
 ghost use Rattle.blz_split.specs.TablesFit.{TablesFit};
 
 use crate::dwo_section::DwoSection;
+use crate::id_rows::IdRows;
 use crate::split_unit::{Piece, SplitUnit};
 use crate::tables::{Tables, index_tables};
 use blz_constants::dwarf;
@@ -20,6 +22,7 @@ use blz_entry::{Section, Sections};
 use blz_error::{Error, ErrorKind, Result, Str};
 use blz_model::ByteOrder;
 use blz_moves::RelocationMap;
+use std::alloc::{AllocError, Global};
 
 /// The sections of a package, and its unit index.
 #[derive(Clone, Copy)]
@@ -183,6 +186,25 @@ impl<'b> Package<'b> {
         })
     }
 
+    /// The pieces of the unit whose row was found.
+    fn unit_of_row(&self, tables: &Tables, row: Option<u32>) -> Result<Option<SplitUnit>>
+        requires fit { TablesFit (length self.now.index.now) tables.now }
+        requires row { IfSome row (λ r. 0 < r) }
+        ensures value { Exactly (λ u. u) result (or_mark (unit_of_row (package_view self.now) tables.now row) InvalidDwarf) }
+        ensures fit { IfOk result (IfPiecesFit (package_view self.now)) }
+    {
+        let Some(row) = row else {
+            return Ok(None);
+        };
+        if row as usize > tables.units {
+            return Err(invalid("a slot of the index of a package names a row that is not there"));
+        }
+        match self.row_pieces(tables, row) {
+            Some(unit) => Ok(Some(unit)),
+            None => Err(invalid("a contribution of a package passes its section")),
+        }
+    }
+
     /// The pieces of the split unit of an id: the first slot that has the id together with a row number that is not 0
     /// decides, and None exactly where there is no such slot. InvalidDwarf exactly where the row or one of its four
     /// contributions lies outside.
@@ -192,16 +214,28 @@ impl<'b> Package<'b> {
         ensures fit { IfOk result (IfPiecesFit (package_view self.now)) }
     {
         let tables = tables_of(self.order, self.index)?;
-        let Some(row) = tables.find_row(self.order, self.index, id) else {
-            return Ok(None);
-        };
-        if row as usize > tables.units {
-            return Err(invalid("a slot of the index of a package names a row that is not there"));
+        self.unit_of_row(&tables, tables.find_row(self.order, self.index, id))
+    }
+
+    /// The rows of all ids, for many searches: one goes over half of the slots.
+    pub fn rows(&self, alloc: Global) -> std::result::Result<IdRows, AllocError>
+        ensures { IfOk result (AreRowsOf (package_view self.now)) }
+    {
+        match index_tables(self.order, self.index) {
+            Some(tables) => IdRows::read(alloc, self.order, self.index, &tables),
+            None => Ok(IdRows::new(alloc)),
         }
-        match self.row_pieces(&tables, row) {
-            Some(unit) => Ok(Some(unit)),
-            None => Err(invalid("a contribution of a package passes its section")),
-        }
+    }
+
+    /// What `find_cu` gives, by the rows of all ids.
+    #[tactic(auto, unfolding(crate::specs::PackageParts::split_unit))]
+    pub fn find_by(&self, rows: &IdRows, id: u64) -> Result<Option<SplitUnit>>
+        requires { AreRowsOf (package_view self.now) rows.now }
+        ensures value { Exactly (λ u. u) result (or_mark (split_unit (package_view self.now) id) InvalidDwarf) }
+        ensures fit { IfOk result (IfPiecesFit (package_view self.now)) }
+    {
+        let tables = tables_of(self.order, self.index)?;
+        self.unit_of_row(&tables, rows.get(id))
     }
 
     /// The sections that a split unit is read from: its pieces and the strings of this package, and the addresses of the

@@ -1,6 +1,6 @@
 //! The unit index of a package (DWARF 5 section 7.3.5.3).
 ghost use Rattle.std.specs.Prelude.{◌≡◌, ◌≤◌, ◌<◌, ◌+◌, ◌*◌, ◌^◌, Bool, true, length, IfSome, Option};
-ghost use Rattle.blz_split.specs.Contributions.{tables_in, tables_of_5, index_tables, no_tables, first_in, found_row, is_slot_of, row_of, is_column_of, contribution, contribution_in, inside, cell};
+ghost use Rattle.blz_split.specs.Contributions.{tables_in, tables_of_5, index_tables, no_tables, first_in, found_row, id_of, is_slot_of, row_of, is_column_of, contribution, contribution_in, inside, cell};
 ghost use Rattle.blz_split.specs.TablesFit.{TablesFit};
 
 use crate::split_unit::Piece;
@@ -93,7 +93,17 @@ pub fn index_tables(order: ByteOrder, index: &[u8]) -> Option<Tables>
 }
 
 impl Tables {
-    fn row(&self, order: ByteOrder, index: &[u8], slot: usize) -> u32
+    /// The id of a slot.
+    pub fn id(&self, order: ByteOrder, index: &[u8], slot: usize) -> u64
+        requires fit { TablesFit (length index.now) self.now }
+        requires there { slot < self.now.slots }
+        ensures { result ≡ id_of order index.now slot }
+    {
+        u64_in(index, 16 + 8 * slot, order)
+    }
+
+    /// The row number of a slot.
+    pub fn row(&self, order: ByteOrder, index: &[u8], slot: usize) -> u32
         requires fit { TablesFit (length index.now) self.now }
         requires there { slot < self.now.slots }
         ensures { result ≡ row_of order index.now self.now slot }
@@ -106,7 +116,7 @@ impl Tables {
         requires there { slot < self.now.slots }
         ensures { result ≡ is_slot_of order index.now self.now id slot }
     {
-        u64_in(index, 16 + 8 * slot, order) == id && self.row(order, index, slot) > 0
+        self.id(order, index, slot) == id && self.row(order, index, slot) > 0
     }
 
     /// The row of the first slot that has the id together with a row number that is not 0.

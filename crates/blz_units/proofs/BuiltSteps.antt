@@ -105,8 +105,8 @@ side_same f headers old new e same shared fits = record { all = rw e fits.all; s
 nothing_built : (f : Files) → AllBuilt f File [] []
 nothing_built f = record { same = refl; each = λ k. tt }
 
-pub none_built : (f : Files) (headers : List UnitHeader) (b : SideUnits) → headers ≡ [] → b.units.items ≡ [] → ((s : FileSections) → AreShared s b.shared) → IsEmpty b.packed.tables → SideFits f File headers b
-none_built f headers b none empty shared packed = record { all = rw (none, empty) (nothing_built f); shared = shared f.main; packed = nothing_shared f b.packed packed }
+pub none_built : (f : Files) (headers : List UnitHeader) (b : SideUnits) → headers ≡ [] → b.units.items ≡ [] → ((s : FileSections) → AreShared s b.shared) → IsEmpty b.packed.tables → b.packed.rows ≡ None → SideFits f File headers b
+none_built f headers b none empty shared packed rows = record { all = rw (none, empty) (nothing_built f); shared = shared f.main; packed = nothing_shared f b.packed packed rows }
 
 -- the kept units share more
 pub shared_again : (f : Files) (t : UnitTable) (old new : built.BuiltUnits) → new.kept.units ≡ old.kept.units → new.kept.packed ≡ old.kept.packed → new.sups ≡ old.sups → new.long ≡ old.long → AreShared f.main new.kept.shared → BuiltFit f t old → BuiltFit f t new

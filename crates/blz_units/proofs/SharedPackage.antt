@@ -4,20 +4,28 @@ use Rattle.std.specs.Prelude.{IfSome}
 use Rattle.std.specs.BTreeMap.{BTreeMap, get, IsEmpty, Updates}
 use Rattle.blz_info.specs.FileSections.{FileSections}
 use Rattle.blz_split.specs.PackageParts.{PackageParts}
+use Rattle.blz_split.specs.declared.id_rows.IdRows.{IdRows}
 use Rattle.blz_split.specs.declared.split_unit.SplitUnit.{SplitUnit}
 use Rattle.blz_units.specs.declared.dwarf.Origin.TheVariants.{Split}
 use Rattle.blz_units.specs.declared.shared_package.SharedPackage.{SharedPackage}
 use Rattle.blz_units.specs.declared.shared_tables.SharedTables.{SharedTables}
 use Rattle.blz_units.specs.BuiltUnits.{Files, sections_from, split_from}
-use Rattle.blz_units.specs.SharedPackage.{tables_of, tables_at, IsPackageShared}
+use Rattle.blz_units.specs.SharedPackage.{tables_of, tables_at, AreRows, IsPackageShared}
 use Rattle.blz_units.specs.SharedTables.{table_cmp, AreTables}
 use Rattle.blz_units.proofs.KeptValues.{if_empty, pair_more}
 
 abbrev HaveTables : Files → BTreeMap (ℕ × ℕ) SharedTables → Type 0
 HaveTables f tables = (key : ℕ × ℕ) → IfSome (get table_cmp tables key) (AreTables (tables_at f key))
 
-pub nothing_shared : (f : Files) (p : SharedPackage) → IsEmpty p.tables → IsPackageShared f p
-nothing_shared f p empty = if_empty table_cmp p.tables (λ key x. AreTables (tables_at f key) x) empty
+no_rows_by : (o : Option PackageParts) (rows : Option IdRows) → rows ≡ None → IfSome o (λ x. AreRows x rows)
+no_rows_by None rows e = tt
+no_rows_by (Some p) rows e = rw e tt
+
+pub nothing_shared : (f : Files) (p : SharedPackage) → IsEmpty p.tables → p.rows ≡ None → IsPackageShared f p
+nothing_shared f p empty none = record {
+  tables = if_empty table_cmp p.tables (λ key x. AreTables (tables_at f key) x) empty;
+  rows = no_rows_by f.«package» p.rows none;
+}
 
 tables_by : (f : Files) (pieces : SplitUnit) (o : Option PackageParts) → (split_from f pieces o).«abbrev».bytes ≡ tables_of f.main pieces.«abbrev» o
 tables_by f pieces None = refl

@@ -98,9 +98,16 @@ fn root_of(
 
 /// The pieces of the split unit of a unit, where the package has one that is not empty.
 #[tactic(auto, unfolding(crate::specs::BuiltUnits::pieces_of))]
-fn pieces_of(dwarf: &Dwarf<'_, '_>, header: &UnitHeader) -> Result<Option<SplitUnit>>
-    ensures value { Exactly (λ p. p) result (or_invalid (pieces_of (files_view dwarf.now) header.now)) }
+fn pieces_of(
+    alloc: Global,
+    dwarf: &Dwarf<'_, '_>,
+    packed: &mut SharedPackage,
+    header: &UnitHeader,
+) -> Result<Option<SplitUnit>>
+    requires { IsPackageShared (files_view dwarf.now) packed.old }
+    ensures value { Gives (λ p. p) result (or_invalid (pieces_of (files_view dwarf.now) header.now)) }
     ensures inside { IfOk result (λ o. IfSome o (λ p. IsInside (files_view dwarf.now).«package» (Split p))) }
+    ensures packed { IsPackageShared (files_view dwarf.now) packed.new }
 {
     if !has_id(header.kind) {
         return Ok(None);
@@ -108,7 +115,7 @@ fn pieces_of(dwarf: &Dwarf<'_, '_>, header: &UnitHeader) -> Result<Option<SplitU
     let Some(parts) = &dwarf.package else {
         return Ok(None);
     };
-    let pieces = parts.find_cu(header.id)?;
+    let pieces = packed.find_cu(alloc, parts, header.id)?;
     Ok(not_empty(pieces))
 }
 
@@ -258,7 +265,7 @@ impl BuiltUnit {
         ensures shared { AreShared (files_view dwarf.now).main shared.new }
         ensures packed { IsPackageShared (files_view dwarf.now) packed.new }
     {
-        let Some(pieces) = pieces_of(dwarf, header)? else {
+        let Some(pieces) = pieces_of(alloc, dwarf, packed, header)? else {
             return BuiltUnit::of_file(alloc, dwarf, shared, Origin::Main, header);
         };
         let main = BuiltUnit::of_file(alloc, dwarf, shared, Origin::Main, header)?;

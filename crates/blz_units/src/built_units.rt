@@ -1,5 +1,5 @@
 //! Units that are built, where they are kept.
-ghost use Rattle.std.specs.Prelude.{◌≡◌, true, List, [], Option, IfOk};
+ghost use Rattle.std.specs.Prelude.{◌≡◌, true, List, [], None, Option, IfOk};
 ghost use Rattle.std.specs.BTreeMap.{IsEmpty};
 ghost use Rattle.std.specs.Bool.{OnTrue};
 ghost use Rattle.std.specs.List.{slice_get, slice_set};
@@ -69,6 +69,7 @@ impl SideUnits {
         ensures units { result.units.items ≡ [] }
         ensures shared { (s : FileSections) → AreShared s result.shared }
         ensures packed { IsEmpty result.packed.tables }
+        ensures rows { result.packed.rows ≡ None }
         ensures bytes { IsEmpty result.shared.tables.bytes }
     {
         SideUnits {

@@ -48,6 +48,6 @@ loop-built-init c = record {
   section = search rules;
   last = search rules;
   behind = search rules;
-  built = none_built (files_view c.args.dwarf.now) c.new-units.result.kept c.new-built.result (search rules) c.new-built.ensures.units c.new-built.ensures.shared c.new-built.ensures.packed;
+  built = none_built (files_view c.args.dwarf.now) c.new-units.result.kept c.new-built.result (search rules) c.new-built.ensures.units c.new-built.ensures.shared c.new-built.ensures.packed c.new-built.ensures.rows;
   rest = search rules;
 }
