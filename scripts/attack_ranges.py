@@ -79,6 +79,24 @@ def two_range_lists_of_units_in_turn(n):
     return Attack(dwarf(shapes, units * n, rnglists=data), [0])
 
 
+@shape
+def ranges_in_one_another_before_units_in_turn(n):
+    # what the units in turn announce covers nothing that is asked
+    shapes = {ROOT: root(RANGES, 0)}
+    around = b"".join(offset_pair(BASE + k, BASE + 2 * n - k) for k in range(n))
+    lists = [around + b"\0", pairs(1) + b"\0", pairs(2) + b"\0"]
+    data, first = range_lists(b"".join(lists))
+    one, two, three = (unit(entry(shapes, ROOT, first + begin)) for begin in begins_of(lists))
+    return Attack(dwarf(shapes, one + (two + three) * (n // 2), rnglists=data), [BASE + n])
+
+
+@shape
+def ranges_in_one_another_of_units(n):
+    shapes = {ROOT: root(RANGES, 0)}
+    data, first = range_lists(b"".join(offset_pair(BASE + k, BASE + 2 * n - k) for k in range(n)) + b"\0")
+    return Attack(dwarf(shapes, unit(entry(shapes, ROOT, first)) * n, rnglists=data), [BASE + n])
+
+
 # ---- lists that begin within one another
 
 

@@ -1,6 +1,8 @@
 -- One unit more among those that are kept.
-use Rattle.std.proofs.Common.{◌≡◌, ℕ, ◌<◌, length, List, [], ◌∷◌, ◌++◌, Option, Some, None, refl, sym, ap, subst, ◌∙◌, arith}
+use Rattle.std.proofs.Common.{◌≡◌, ℕ, length, List, [], ◌∷◌, ◌++◌, Option, Some, None, refl, sym, ap, subst, ◌∙◌, arith}
 use Rattle.std.specs.Prelude.{IfSome}
+use Rattle.std.specs.BTreeMap.{get, IsEmpty, Updates}
+use Rattle.std.specs.List.{slice_get}
 use Rattle.blz_error.specs.declared.kind.ErrorKind.{ErrorKind}
 use Rattle.blz_functions.specs.Leaves.{UnitParts}
 use Rattle.blz_model.specs.Part.{Fails}
@@ -11,12 +13,16 @@ use Rattle.blz_ranges.specs.Owned.{Owned, own_all}
 use Rattle.blz_ranges.specs.declared.span.Span.{Span}
 use Rattle.blz_info.specs.declared.units.UnitHeader.{UnitHeader}
 use Rattle.blz_info.proofs.Marked.{marks_on}
-use Rattle.blz_units.specs.Copies.{KeptRanges, all_kept, IsLastList, IsOnceMore, IsWithUnit}
-use Rattle.blz_units.specs.Keeping.{Keeping, units_told, IsAgain, IsKeyOfLast, IsLastKey}
-use Rattle.blz_units.specs.RootKeys.{AreSpansOf, IsToldByLast}
+use Rattle.blz_units.specs.Copies.{KeptRanges, all_kept, IsListOf, IsOnceMore, IsWithKeeper, IsWithUnit}
+use Rattle.blz_units.specs.Keeping.{Keeping, units_told, AreRoots, IsAgain, IsRootOf}
+use Rattle.blz_units.specs.RootKeys.{AreSpansOf}
+use Rattle.blz_units.specs.SharedTables.{table_cmp}
 use Rattle.blz_units.specs.UnitLists.{EndBefore, IsInPlace}
 use Rattle.blz_units.specs.UnitTables.{KeptUnits, by_root, keep, root_spans}
+use Rattle.blz_units.specs.declared.known_roots.KnownRoot.{KnownRoot}
+use Rattle.blz_units.specs.declared.known_roots.KnownRoots.{KnownRoots}
 use Rattle.blz_units.specs.declared.root_key.RootKey.{RootKey}
+use Rattle.blz_units.proofs.KeptValues.{if_empty, pair_more}
 use Rattle.blz_units.proofs.UnitsInPlace.{end_later, end_more}
 
 -- the units with one more, by what it announces
@@ -35,57 +41,52 @@ kept_same k h o e = ap (with_it k h) e
 
 -- ---- a unit that is kept
 
--- What is known of it: its ranges, as they are kept behind the others, and the key that tells them.
-pub record IsNext (s : FileSections) (old new : KeptRanges) (key : Option RootKey) (announced : Option (Option (List Span))) : Type 0 where
+-- What is known of it: its ranges, as they are kept behind the others.
+pub record IsNext (old new : KeptRanges) (announced : Option (Option (List Span))) : Type 0 where
   pub spans : List Span
   pub is : announced ≡ Some (Some spans)
   pub with_unit : IsWithUnit old spans new
-  pub are : IfSome key (AreSpansOf s spans)
 
-pub next_more : (s : FileSections) (k : Keeping) (h : UnitHeader) (new : KeptRanges) (key : Option RootKey) (o : Option (Option (List Span))) → length k.ranges.keepers ≡ length k.kept → IsNext s k.ranges new key o → with_it (units_told k) h o ≡ Some (units_told (record { kept = k.kept ++ h ∷ []; ranges = new; key = key }))
-next_more s k h new key o same next =
+pub next_more : (k : Keeping) (h : UnitHeader) (new : KeptRanges) (o : Option (Option (List Span))) → length k.ranges.keepers ≡ length k.kept → IsNext k.ranges new o → with_it (units_told k) h o ≡ Some (units_told (record { kept = k.kept ++ h ∷ []; ranges = new }))
+next_more k h new o same next =
     let all : all_kept new ≡ all_kept k.ranges ++ own_all (length k.kept) next.spans = next.with_unit.all ∙ ap (λ (n : ℕ). all_kept k.ranges ++ own_all n next.spans) same in
     ap (with_it (units_told k) h) next.is ∙ ap (λ (l : List (Owned Span)). Some (record { kept = k.kept ++ h ∷ []; announced = l })) (sym all)
 
-last_key : (s : FileSections) (ranges : KeptRanges) (spans : List Span) (key : Option RootKey) → IsLastList ranges spans → IfSome key (AreSpansOf s spans) → IfSome key (IsKeyOfLast s ranges)
-last_key s ranges spans None last are = tt
-last_key s ranges spans (Some key) last are = record { spans = spans; last = last; are = are }
+-- ---- the keys that were met
 
-pub next_key : (s : FileSections) (old new : KeptRanges) (key : Option RootKey) (o : Option (Option (List Span))) → IsNext s old new key o → IfSome key (IsKeyOfLast s new)
-next_key s old new key o next = last_key s new next.spans key next.with_unit.last next.are
+root_stays : (s : FileSections) (old new : KeptRanges) (spans : List Span) → IsWithUnit old spans new → (o : Option KnownRoot) → IfSome o (IsRootOf s old) → IfSome o (IsRootOf s new)
+root_stays s old new spans w None r = tt
+root_stays s old new spans w (Some known) r = record { spans = r.spans; list = w.others r.spans known.keeper r.list; are = r.are }
 
--- ---- a unit that is told by the key of the last one
+pub roots_stay : (s : FileSections) (old new : KeptRanges) (roots : KnownRoots) (o : Option (Option (List Span))) → IsNext old new o → AreRoots s old roots → AreRoots s new roots
+roots_stay s old new roots o next are = λ place. root_stays s old new next.spans next.with_unit (get table_cmp roots.roots place) (are place)
 
-record IsRepeated (s : FileSections) (ranges : KeptRanges) (key : Option RootKey) (announced : Option (Option (List Span))) : Type 0 where
-  spans : List Span
-  is : announced ≡ Some (Some spans)
-  last : IsLastList ranges spans
-  are : IfSome key (AreSpansOf s spans)
+pub root_noted : (s : FileSections) (old : KeptRanges) (spans : List Span) (new : KeptRanges × Option ℕ) (key : Option RootKey) → IsWithKeeper old spans new → IfSome key (AreSpansOf s spans) → IfSome key (λ k. IsRootOf s new.0 (record { key = k; keeper = new.1 }))
+root_noted s old spans new None w are = tt
+root_noted s old spans new (Some key) w are = record { spans = spans; list = w.list; are = are }
+
+-- ---- a unit with such a key
 
 root_told : (u : UnitParts) (spans : List Span) → root_spans u ≡ Some spans → by_root (Some u) ≡ Some (Some spans)
 root_told u spans e = ap (λ (o : Option (List Span)). o >>= λ l. Some (Some l)) e
 
-repeated_by : (s : FileSections) (ranges : KeptRanges) (key : Option RootKey) (o : Option (Option (List Span))) (u : UnitParts) → u.sections ≡ s → IsToldByLast key u → o ≡ by_root (Some u) → IfSome key (IsKeyOfLast s ranges) → IsRepeated s ranges key o
-repeated_by s ranges None o u main told is last = absurd told
-repeated_by s ranges (Some key) o u main told is last = record {
-  spans = last.spans;
-  is = is ∙ root_told u last.spans (last.are u main told);
-  last = last.last;
-  are = last.are;
-}
+own_keeper : (ranges : KeptRanges) (spans : List Span) (keeper : Option ℕ) → IsListOf ranges spans keeper → IfSome keeper (λ k. slice_get ranges.keepers k ≡ Some k)
+own_keeper ranges spans None h = tt
+own_keeper ranges spans (Some k) h = h.0
 
-repeated : (s : FileSections) (ranges : KeptRanges) (key : Option RootKey) (o : Option (Option (List Span))) → IsAgain s key o → IfSome key (IsKeyOfLast s ranges) → IsRepeated s ranges key o
-repeated s ranges key o again last = repeated_by s ranges key o again.unit again.main again.told again.is last
+module _ (s : FileSections) (ranges : KeptRanges) (roots : KnownRoots) (known : AreRoots s ranges roots) (keeper : Option ℕ) (o : Option (Option (List Span))) (again : IsAgain s roots keeper o) where
+  root : IsRootOf s ranges (record { key = again.key; keeper = keeper })
+  root = let at = again.known in rw at.1 at (known at.0)
 
-module _ (s : FileSections) (k v : Keeping) (view : v ≡ k) (last : IsLastKey s k) (o : Option (Option (List Span))) (again : IsAgain s v.key o) where
-  told : IsRepeated s v.ranges v.key o
-  told = repeated s v.ranges v.key o again (subst (IsLastKey s) (sym view) last)
+  pub again_keeper : IfSome keeper (λ n. slice_get ranges.keepers n ≡ Some n)
+  again_keeper = own_keeper ranges root.spans keeper root.list
 
-  pub some_kept : 0 < length v.ranges.keepers
-  some_kept = told.last.some
-
-  pub again_next : (new : KeptRanges) → IsOnceMore v.ranges new → IsNext s v.ranges new v.key o
-  again_next new more = record { spans = told.spans; is = told.is; with_unit = more told.spans told.last; are = told.are }
+  pub again_next : (new : KeptRanges) → IsOnceMore ranges keeper new → IsNext ranges new o
+  again_next new more = record {
+    spans = root.spans;
+    is = again.is ∙ root_told again.unit root.spans (root.are again.unit again.main again.told);
+    with_unit = more root.spans root.list;
+  }
 
 -- ---- where the units end
 
@@ -96,7 +97,15 @@ module _ (k v : Keeping) (view : v ≡ k) (h : UnitHeader) (behind : EndBefore k
   pub same_behind : EndBefore v.kept h.end
   same_behind = let p = in_place in end_later v.kept h.start h.end view_behind (omega arith)
 
-  pub more_behind : (new : Keeping) (ranges : KeptRanges) (key : Option RootKey) → new ≡ record { kept = v.kept ++ h ∷ []; ranges = ranges; key = key } → EndBefore new.kept h.end
-  more_behind new ranges key is =
+  pub more_behind : (new : Keeping) (ranges : KeptRanges) → new ≡ record { kept = v.kept ++ h ∷ []; ranges = ranges } → EndBefore new.kept h.end
+  more_behind new ranges is =
       let p = in_place in
       subst (λ (x : Keeping). EndBefore x.kept h.end) (sym is) (end_more v.kept h h.start view_behind (omega arith) in_place)
+
+-- ---- the keys that are known
+
+pub none_known : (s : FileSections) (ranges : KeptRanges) (roots : KnownRoots) → IsEmpty roots.roots → AreRoots s ranges roots
+none_known s ranges roots e = if_empty table_cmp roots.roots (λ _ known. IsRootOf s ranges known) e
+
+pub root_more : (s : FileSections) (ranges : KeptRanges) (old new : KnownRoots) (place : ℕ × ℕ) (key : RootKey) (keeper : Option ℕ) → Updates table_cmp old.roots new.roots place (Some (record { key = key; keeper = keeper })) → AreRoots s ranges old → IsRootOf s ranges (record { key = key; keeper = keeper }) → AreRoots s ranges new
+root_more s ranges old new place key keeper u are known = pair_more old.roots new.roots place (record { key = key; keeper = keeper }) (λ _ known. IsRootOf s ranges known) u known are

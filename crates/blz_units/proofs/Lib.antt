@@ -10,6 +10,7 @@ pub mod Copies
 pub mod NextCopies
 pub mod PlaceSteps
 pub mod RowSteps
+pub mod RepeatSteps
 pub mod TurnSteps
 pub mod BuiltSteps
 pub mod Choosing

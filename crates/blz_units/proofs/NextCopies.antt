@@ -1,16 +1,16 @@
 -- The best of all ranges and those after it, by the ranges that are kept.
-use Rattle.std.proofs.Common.{◌≡◌, ℕ, zero, suc, ◌+◌, ◌<◌, ◌≤◌, Bool, true, List, [], ◌∷◌, map, Option, Some, None, refl, sym, ap, subst, ◌∙◌, arith, inl, inr, ◌⊎◌}
-use Rattle.std.specs.Prelude.{◌&&◌, option_map}
+use Rattle.std.proofs.Common.{◌≡◌, ℕ, zero, suc, ◌<◌, ◌≤◌, eqb, Bool, true, false, List, [], ◌∷◌, map, Option, Some, None, refl, sym, ap, subst, ◌∙◌, arith, inl, inr, ◌⊎◌}
+use Rattle.std.specs.Prelude.{◌&&◌, nat_lt, option_map}
 use Rattle.std.specs.List.{slice_get}
-use Rattle.std.proofs.lemmas.Bool.{cases_lt, and_parts, and_from, or_cases, or_left, or_right, ltb-true, lt-ltb, eqb-true, eq-eqb}
+use Rattle.std.proofs.lemmas.Bool.{cases_lt, and_parts, and_from, or_cases, or_left, or_right, ltb-true, lt-ltb, eqb-true, eq-eqb, false≢true}
 use Rattle.std.proofs.lemmas.Option.{slice_get-map, get_or_from_slice_get}
 use Rattle.blz_ranges.specs.declared.span.Span.{Span}
 use Rattle.blz_ranges.specs.declared.placed.Placed.{Placed}
-use Rattle.blz_ranges.specs.Best.{best, covers, comes_after, next, no_span, placed, NotAfter, IsBest, IsBestAt}
+use Rattle.blz_ranges.specs.Best.{best, covers, comes_after, next, next_after, no_span, placed, NotAfter, IsBest, IsBestAt}
 use Rattle.blz_ranges.specs.Owned.{Owned, items_of}
 use Rattle.blz_ranges.proofs.BestOf.{best_is, best_is_best}
 use Rattle.blz_units.specs.declared.announced.Place.{Place}
-use Rattle.blz_units.specs.Copies.{Copy, full_place, restarted, told, AreInRows, IsPlaced}
+use Rattle.blz_units.specs.Copies.{Copy, comes_first, full_place, told, HaveKeepers, IsAlike, IsLater, IsNextOwn, IsNextRepeat, IsOwn, IsPlaced, IsRepeat}
 use Rattle.blz_units.proofs.Copies.{copy_place, AreCopies}
 
 -- ---- ranges after another one
@@ -74,6 +74,11 @@ next_by spans addr p s (Some q) h = let k = and_parts _ _ h.passes in record {
 pub is_next : (spans : List Span) (addr p : ℕ) (s : Span) (o : Option ℕ) → slice_get spans p ≡ Some s → IsNext spans addr p s o → o ≡ next spans addr p
 is_next spans addr p s o at h = best_is (later addr (placed spans p)) spans o (subst (λ (b : Placed). IsBest (later addr b) spans o) (sym (placed_is spans p s at)) (next_from spans addr p s o h))
 
+-- what is next after a range that need not be of the list
+pub after_is : (spans : List Span) (addr p : ℕ) (s : Span) (o : Option ℕ) → o ≡ next_after spans addr (record { place = p; span = s }) → IsNext spans addr p s o
+unfolding item
+after_is spans addr p s o e = next_by spans addr p s o (subst (λ (r : Option ℕ). IsBest (later addr (item p s)) spans r) (sym e) (best_is_best (later addr (item p s)) spans))
+
 pub next_is : (spans : List Span) (addr p : ℕ) (s : Span) (o : Option ℕ) → slice_get spans p ≡ Some s → next spans addr p ≡ o → IsNext spans addr p s o
 next_is spans addr p s o at e =
     next_by spans addr p s o (subst (λ (b : Placed). IsBest (later addr b) spans o) (placed_is spans p s at) (subst (λ (r : Option ℕ). IsBest (later addr (placed spans p)) spans r) e (best_is_best (later addr (placed spans p)) spans)))
@@ -117,7 +122,7 @@ has_copy (d ∷ list) (suc q) s e = let h = has_copy list q s e in record { copy
 
 -- ---- one range of each list
 
-module _ (kept : List (Owned Span)) (keepers : List ℕ) (list : List Copy) (rows : AreInRows kept keepers) (are : AreCopies kept keepers list) (addr : ℕ) where
+module _ (kept : List (Owned Span)) (keepers : List ℕ) (list : List Copy) (rows : HaveKeepers kept keepers) (are : AreCopies kept keepers list) (addr : ℕ) where
   abbrev pub all_spans : List Span
   all_spans = items_of (told list)
 
@@ -183,7 +188,7 @@ module _ (kept : List (Owned Span)) (keepers : List ℕ) (list : List Copy) (row
       none r.copy.place t (item_at kept r.copy.place (record { item = t; owner = r.keeper }) r.kept_is) passes
 
   abbrev pub as_kept : ℕ → ℕ → Place
-  as_kept p keeper = record { first = p; place = p; unit = keeper }
+  as_kept p keeper = record { place = p; unit = keeper }
 
   abbrev best_at : Option ℕ → Type 0
   best_at o = IsBest (λ at s. covers s addr) (items_of kept) o
@@ -219,11 +224,6 @@ module _ (kept : List (Owned Span)) (keepers : List ℕ) (list : List Copy) (row
     is = is;
     row = own_row p keeper b.span is;
     reached = b.passes;
-    front = b.span;
-    front_is = is;
-    front_reached = b.passes;
-    alike = refl;
-    least = λ q t at reached e. (b.first q t (item_at kept q (record { item = t; owner = keeper }) at) reached).tie e;
   }
 
   -- ---- the next one
@@ -264,15 +264,15 @@ module _ (kept : List (Owned Span)) (keepers : List ℕ) (list : List Copy) (row
 
     -- of the same unit
 
-    pub moved_next : (q : ℕ) (n : IsNextAt (items_of kept) addr at.place w.span q) → slice_get kept q ≡ Some (record { item = n.span; owner = w.keeper }) → n.span.begin ≡ w.span.begin → IsNextAt all_spans addr full w.span (full_place list (record { first = at.first; place = q; unit = at.unit }))
+    pub moved_next : (q : ℕ) (n : IsNextAt (items_of kept) addr at.place w.span q) → slice_get kept q ≡ Some (record { item = n.span; owner = w.keeper }) → n.span.begin ≡ w.span.begin → IsNextAt all_spans addr full w.span (full_place list (record { place = q; unit = at.unit }))
     unfolding here
     moved_next q n is same =
-        let there = is_at (record { first = at.first; place = q; unit = at.unit }) w.keeper n.span w.row is in
+        let there = is_at (record { place = q; unit = at.unit }) w.keeper n.span w.row is in
         record {
           span = n.span;
           at = there.full;
           reached = n.reached;
-          behind = inr (same, stands_before full (full_place list (record { first = at.first; place = q; unit = at.unit })) this (record { unit = at.unit; place = q; span = n.span }) here.copy there.copy (inr (refl, later_place n.behind)));
+          behind = inr (same, stands_before full (full_place list (record { place = q; unit = at.unit })) this (record { unit = at.unit; place = q; span = n.span }) here.copy there.copy (inr (refl, later_place n.behind)));
           first = λ r t is_t reached after. not_after there r t is_t reached after;
         }
       where
@@ -280,11 +280,11 @@ module _ (kept : List (Owned Span)) (keepers : List ℕ) (list : List Copy) (row
         later_place (inl lt) = absurd (omega arith)
         later_place (inr h) = h.1
 
-        not_after : IsAt (record { first = at.first; place = q; unit = at.unit }) n.span → (r : ℕ) (t : Span) → slice_get all_spans r ≡ Some t → covers t addr ≡ true → After full w.span r t → NotAfter (full_place list (record { first = at.first; place = q; unit = at.unit })) n.span r t
+        not_after : IsAt (record { place = q; unit = at.unit }) n.span → (r : ℕ) (t : Span) → slice_get all_spans r ≡ Some t → covers t addr ≡ true → After full w.span r t → NotAfter (full_place list (record { place = q; unit = at.unit })) n.span r t
         not_after there r t is_t reached (inl lt) = record { below = omega arith; tie = λ e. absurd (omega arith) }
         not_after there r t is_t reached (inr h) =
             let x = is_range r t is_t in
-            record { below = let k = h.0 in omega arith; tie = λ e. not_before (full_place list (record { first = at.first; place = q; unit = at.unit })) r (record { unit = at.unit; place = q; span = n.span }) x.copy there.copy x.is (not_unit x.copy (in_order full r this x.copy here.copy x.is h.1)) (place_after x e (in_order full r this x.copy here.copy x.is h.1)) }
+            record { below = let k = h.0 in omega arith; tie = λ e. not_before (full_place list (record { place = q; unit = at.unit })) r (record { unit = at.unit; place = q; span = n.span }) x.copy there.copy x.is (not_unit x.copy (in_order full r this x.copy here.copy x.is h.1)) (place_after x e (in_order full r this x.copy here.copy x.is h.1)) }
           where
             not_unit : (d : Copy) → (at.unit < d.unit) ⊎ ((at.unit ≡ d.unit) × (at.place < d.place)) → d.unit < at.unit → ⊥
             not_unit d (inl a) b = omega arith
@@ -294,166 +294,154 @@ module _ (kept : List (Owned Span)) (keepers : List ℕ) (list : List Copy) (row
             place_after x e (inl a) same = absurd (omega arith)
             place_after x e (inr a) same = (n.first x.copy.place t (item_at kept x.copy.place (record { item = t; owner = x.keeper }) x.kept_is) reached (inr (h.0, a.1))).tie e
 
-    pub moved_placed : (q : ℕ) (n : IsNextAt (items_of kept) addr at.place w.span q) → slice_get kept q ≡ Some (record { item = n.span; owner = w.keeper }) → n.span.begin ≡ w.span.begin → IsPlaced kept keepers addr (record { first = at.first; place = q; unit = at.unit })
+    pub moved_placed : (q : ℕ) (n : IsNextAt (items_of kept) addr at.place w.span q) → slice_get kept q ≡ Some (record { item = n.span; owner = w.keeper }) → n.span.begin ≡ w.span.begin → IsPlaced kept keepers addr (record { place = q; unit = at.unit })
     moved_placed q n is same = record {
       keeper = w.keeper;
       span = n.span;
       is = is;
       row = w.row;
       reached = n.reached;
-      front = w.front;
-      front_is = w.front_is;
-      front_reached = w.front_reached;
-      alike = w.alike ∙ sym same;
-      least = λ r t at reached e. w.least r t at reached (e ∙ same);
     }
 
-    -- of the next unit
+    -- ---- behind the unit
 
     -- no range of the keeper that begins alike comes after it
-    abbrev pub IsLast : Type 0
-    IsLast = (q : ℕ) (t : Span) → slice_get kept q ≡ Some (record { item = t; owner = w.keeper }) → covers t addr ≡ true → t.begin ≡ w.span.begin → at.place < q → ⊥
+    abbrev pub IsLastOne : Type 0
+    IsLastOne = (q : ℕ) (t : Span) → slice_get kept q ≡ Some (record { item = t; owner = w.keeper }) → covers t addr ≡ true → t.begin ≡ w.span.begin → at.place < q → ⊥
 
-    pub restarted_next : IsLast → slice_get keepers (at.unit + 1) ≡ Some w.keeper → IsNextAt all_spans addr full w.span (full_place list (restarted at))
+    later_unit : IsLastOne → (r : ℕ) (t : Span) (x : IsRange r t) → covers t addr ≡ true → t.begin ≡ w.span.begin → full < r → at.unit < x.copy.unit
     unfolding here
-    restarted_next last row =
-        let there = is_at (restarted at) w.keeper w.front row w.front_is in
-        record {
-          span = w.front;
-          at = there.full;
-          reached = w.front_reached;
-          behind = inr (w.alike, stands_before full (full_place list (restarted at)) this (record { unit = at.unit + 1; place = at.first; span = w.front }) here.copy there.copy (inl (omega arith)));
-          first = λ r t is_t reached after. not_after there r t is_t reached after;
-        }
+    later_unit last r t x reached same lt = by (in_order full r this x.copy here.copy x.is lt)
       where
-        not_after : IsAt (restarted at) w.front → (r : ℕ) (t : Span) → slice_get all_spans r ≡ Some t → covers t addr ≡ true → After full w.span r t → NotAfter (full_place list (restarted at)) w.front r t
-        not_after there r t is_t reached (inl lt) = let k = w.alike in record { below = omega arith; tie = λ e. absurd (omega arith) }
-        not_after there r t is_t reached (inr h) =
-            let x = is_range r t is_t in
-            let k = w.alike in
-            record { below = let l = h.0 in omega arith; tie = λ e. not_before (full_place list (restarted at)) r (record { unit = at.unit + 1; place = at.first; span = w.front }) x.copy there.copy x.is (not_unit x (in_order full r this x.copy here.copy x.is h.1)) (place_after x) }
-          where
-            not_unit : (x : IsRange r t) → (at.unit < x.copy.unit) ⊎ ((at.unit ≡ x.copy.unit) × (at.place < x.copy.place)) → x.copy.unit < at.unit + 1 → ⊥
-            not_unit x (inl a) b = omega arith
-            not_unit x (inr a) b = last x.copy.place t (subst (λ (n : ℕ). slice_get kept x.copy.place ≡ Some (record { item = t; owner = n })) (same_keeper at.unit x.copy.unit w.keeper x.keeper a.0 w.row x.row) x.kept_is) reached h.0 a.1
+        by : (at.unit < x.copy.unit) ⊎ ((at.unit ≡ x.copy.unit) × (at.place < x.copy.place)) → at.unit < x.copy.unit
+        by (inl a) = a
+        by (inr a) = absurd (last x.copy.place t (subst (λ (n : ℕ). slice_get kept x.copy.place ≡ Some (record { item = t; owner = n })) (same_keeper at.unit x.copy.unit w.keeper x.keeper a.0 w.row x.row) x.kept_is) reached same a.1)
 
-            place_after : (x : IsRange r t) → at.unit + 1 ≡ x.copy.unit → at.first ≤ x.copy.place
-            place_after x same = w.least x.copy.place t (subst (λ (n : ℕ). slice_get kept x.copy.place ≡ Some (record { item = t; owner = n })) (same_keeper (at.unit + 1) x.copy.unit w.keeper x.keeper same row x.row) x.kept_is) reached h.0
+    alike : (r : ℕ) (t : Span) (x : IsRange r t) → covers t addr ≡ true → t.begin ≡ w.span.begin → IsAlike kept x.keeper addr w.span.begin x.copy.place
+    alike r t x reached same = record { span = t; is = x.kept_is; begins = same; reached = reached }
 
-    pub restarted_placed : slice_get keepers (at.unit + 1) ≡ Some w.keeper → IsPlaced kept keepers addr (restarted at)
-    restarted_placed row = record {
-      keeper = w.keeper;
-      span = w.front;
-      is = w.front_is;
-      row = row;
-      reached = w.front_reached;
-      front = w.front;
-      front_is = w.front_is;
-      front_reached = w.front_reached;
-      alike = refl;
-      least = λ r t at reached e. w.least r t at reached (e ∙ w.alike);
-    }
+    -- nothing is next where neither is
 
-    -- of the next keeper
-
-    within_row : (unit : ℕ) (n v : ℕ) (l : List ℕ) → unit ≤ n → slice_get l n ≡ Some v → (x : ℕ) × (slice_get l unit ≡ Some x)
-    within_row unit n v [] le is = absurd cc
-    within_row zero n v (k ∷ l) le is = (k, refl)
-    within_row (suc unit) zero v (k ∷ l) le is = absurd (omega arith)
-    within_row (suc unit) (suc n) v (k ∷ l) le is = within_row unit n v l (omega arith) is
-
-    later_keeper : (slice_get keepers (at.unit + 1) ≡ Some w.keeper → ⊥) → (unit next : ℕ) → at.unit < unit → slice_get keepers unit ≡ Some next → at.unit < next
-    later_keeper none unit next lt is =
-        let x = within_row (at.unit + 1) unit next keepers (omega arith) is in
-        let above = rows.rising at.unit (at.unit + 1) w.keeper x.0 (omega arith) w.row x.1 in
-        let up = rows.rising (at.unit + 1) unit x.0 next (omega arith) x.1 is in
-        elim (cases_lt at.unit x.0) [
-          | inl more ↦ omega arith
-          | inr less ↦
-              let down = rows.rising x.0 at.unit x.0 w.keeper less (rows.own (at.unit + 1) x.0 x.1) w.row in
-              let e : x.0 ≡ w.keeper = omega arith in
-              absurd (none (subst (λ (n : ℕ). slice_get keepers (at.unit + 1) ≡ Some n) e x.1))
-        ]
-
-    -- of a later keeper at a later place
-    later_at : (q next : ℕ) (t : Span) → slice_get kept q ≡ Some (record { item = t; owner = next }) → w.keeper < next → at.place < q
-    later_at q next t is lt =
-        elim (cases_lt at.place q) [
-          | inl less ↦ less
-          | inr ge ↦ absurd (let k = later_kept q at.place next w.keeper t w.span is w.is ge in omega arith)
-        ]
-
-    -- what comes after it among all comes after it among those that are kept
-    after_kept : (slice_get keepers (at.unit + 1) ≡ Some w.keeper → ⊥) → (r : ℕ) (t : Span) (x : IsRange r t) → After full w.span r t → After at.place w.span x.copy.place t
-    after_kept none r t x (inl lt) = inl lt
-    after_kept none r t x (inr h) = inr (h.0, by (in_order full r this x.copy here.copy x.is h.1))
+    pub none_next : IsLastOne → IsNextOwn kept at.unit addr w.span.begin None → IsNextRepeat kept keepers at.unit addr w.span.begin None → IsNext all_spans addr full w.span None
+    none_next last own repeat = λ r t is_t reached after. by r t (is_range r t is_t) reached after
       where
-        by : (at.unit < x.copy.unit) ⊎ ((at.unit ≡ x.copy.unit) × (at.place < x.copy.place)) → at.place < x.copy.place
-        by (inl a) =
-            let k = later_keeper none x.copy.unit x.keeper a x.row in
-            let l = rows.before at.unit w.keeper w.row in
-            later_at x.copy.place x.keeper t x.kept_is (omega arith)
-        by (inr a) = a.1
+        by : (r : ℕ) (t : Span) → IsRange r t → covers t addr ≡ true → After full w.span r t → ⊥
+        by r t x reached (inl lt) = own x.copy.place (record { item = t; owner = x.keeper }) x.kept_is reached (inl lt)
+        by r t x reached (inr h) =
+            let lt = later_unit last r t x reached h.0 h.1 in
+            elim (cases_lt x.keeper x.copy.unit) [
+              | inl less ↦ repeat x.copy.unit x.keeper x.copy.place lt x.row less (alike r t x reached h.0)
+              | inr same ↦ own x.copy.place (record { item = t; owner = x.keeper }) x.kept_is reached (inr (h.0, omega arith))
+            ]
 
-    pub none_next : (slice_get keepers (at.unit + 1) ≡ Some w.keeper → ⊥) → IsNext (items_of kept) addr at.place w.span None → IsNext all_spans addr full w.span None
-    none_next none h = λ r t is_t reached after.
-        let x = is_range r t is_t in
-        h x.copy.place t (item_at kept x.copy.place (record { item = t; owner = x.keeper }) x.kept_is) reached (after_kept none r t x after)
+    -- the best that is kept for a later unit or begins below
 
-    -- the next one that is kept is of another keeper, or begins below
-    pub kept_next : (slice_get keepers (at.unit + 1) ≡ Some w.keeper → ⊥) → (q keeper : ℕ) (n : IsNextAt (items_of kept) addr at.place w.span q) → slice_get kept q ≡ Some (record { item = n.span; owner = keeper }) → (keeper ≡ w.keeper → n.span.begin ≡ w.span.begin → ⊥) → IsNextAt all_spans addr full w.span (full_place list (as_kept q keeper))
+    -- it precedes each unit that is not its own keeper
+    abbrev pub Precedes : (q : ℕ) → IsOwn kept at.unit addr w.span.begin q → Type 0
+    Precedes q n = (other k p : ℕ) → at.unit < other → slice_get keepers other ≡ Some k → k < other → IsAlike kept k addr w.span.begin p → (n.range.item.begin ≡ w.span.begin) × (n.range.owner < other)
+
+    pub own_next : IsLastOne → (q : ℕ) (n : IsOwn kept at.unit addr w.span.begin q) → Precedes q n → IsNextAt all_spans addr full w.span (full_place list (as_kept q n.range.owner))
     unfolding here
-    kept_next none q keeper n is other =
-        let there = is_at (as_kept q keeper) keeper n.span (own_row q keeper n.span is) is in
+    own_next last q n precedes =
+        let there = is_at (as_kept q n.range.owner) n.range.owner n.range.item (own_row q n.range.owner n.range.item n.is) n.is in
         record {
-          span = n.span;
+          span = n.range.item;
           at = there.full;
           reached = n.reached;
-          behind = behind there n.behind;
-          first = λ r t is_t reached after.
-              let x = is_range r t is_t in
-              let k = n.first x.copy.place t (item_at kept x.copy.place (record { item = t; owner = x.keeper }) x.kept_is) reached (after_kept none r t x after) in
-              record {
-                below = k.below;
-                tie = λ e.
-                    let le = k.tie e in
-                    let above = later_kept q x.copy.place keeper x.keeper n.span t is x.kept_is le in
-                    let l = rows.before x.copy.unit x.keeper x.row in
-                    not_before (full_place list (as_kept q keeper)) r (record { unit = keeper; place = q; span = n.span }) x.copy there.copy x.is (λ lt. omega arith) (λ _. le);
-              };
+          behind = behind there n.later;
+          first = λ r t is_t reached after. not_after there r t (is_range r t is_t) reached after;
         }
       where
-        behind : IsAt (as_kept q keeper) n.span → After at.place w.span q n.span → After full w.span (full_place list (as_kept q keeper)) n.span
+        behind : IsAt (as_kept q n.range.owner) n.range.item → IsLater at.unit w.span.begin n.range → After full w.span (full_place list (as_kept q n.range.owner)) n.range.item
         behind there (inl lt) = inl lt
-        behind there (inr h) =
-            let le = later_kept at.place q w.keeper keeper w.span n.span w.is is (let k = h.1 in omega arith) in
-            let differ : keeper ≡ w.keeper → ⊥ = λ e. other e h.0 in
-            inr (
-              h.0,
-              stands_before full (full_place list (as_kept q keeper)) this (record { unit = keeper; place = q; span = n.span }) here.copy there.copy (inl (
-                  elim (cases_lt at.unit keeper) [
-                    | inl lt ↦ lt
-                    | inr ge ↦ absurd (let k = rows.rising keeper at.unit keeper w.keeper ge (own_row q keeper n.span is) w.row in differ (omega arith))
-                  ])),
-            )
+        behind there (inr h) = inr (h.0, stands_before full (full_place list (as_kept q n.range.owner)) this (record { unit = n.range.owner; place = q; span = n.range.item }) here.copy there.copy (inl h.1))
 
-    pub next_placed : (q keeper : ℕ) (n : IsNextAt (items_of kept) addr at.place w.span q) → slice_get kept q ≡ Some (record { item = n.span; owner = keeper }) → (keeper ≡ w.keeper → n.span.begin ≡ w.span.begin → ⊥) → IsPlaced kept keepers addr (as_kept q keeper)
-    next_placed q keeper n is other = record {
-      keeper = keeper;
-      span = n.span;
-      is = is;
-      row = own_row q keeper n.span is;
-      reached = n.reached;
-      front = n.span;
-      front_is = is;
-      front_reached = n.reached;
-      alike = refl;
-      least = λ r t is_t reached e. (n.first r t (item_at kept r (record { item = t; owner = keeper }) is_t) reached (by n.behind r t is_t e)).tie e;
-    }
+        after_kept : IsAt (as_kept q n.range.owner) n.range.item → (r : ℕ) (t : Span) (x : IsRange r t) → covers t addr ≡ true → IsLater at.unit w.span.begin (record { item = t; owner = x.keeper }) → NotAfter (full_place list (as_kept q n.range.owner)) n.range.item r t
+        after_kept there r t x reached later =
+            let k = n.first x.copy.place (record { item = t; owner = x.keeper }) x.kept_is reached later in
+            record {
+              below = k.below;
+              tie = λ e.
+                  let le = k.tie e in
+                  let above = later_kept q x.copy.place n.range.owner x.keeper n.range.item t n.is x.kept_is le in
+                  let l = rows.before x.copy.unit x.keeper x.row in
+                  not_before (full_place list (as_kept q n.range.owner)) r (record { unit = n.range.owner; place = q; span = n.range.item }) x.copy there.copy x.is (λ lt. omega arith) (λ _. le);
+            }
+
+        not_after : IsAt (as_kept q n.range.owner) n.range.item → (r : ℕ) (t : Span) → IsRange r t → covers t addr ≡ true → After full w.span r t → NotAfter (full_place list (as_kept q n.range.owner)) n.range.item r t
+        not_after there r t x reached (inl lt) = after_kept there r t x reached (inl lt)
+        not_after there r t x reached (inr h) =
+            let lt = later_unit last r t x reached h.0 h.1 in
+            elim (cases_lt x.keeper x.copy.unit) [
+              | inl less ↦
+                  let p = precedes x.copy.unit x.keeper x.copy.place lt x.row less (alike r t x reached h.0) in
+                  let begins = p.0 in
+                  let before = p.1 in
+                  let same = h.0 in
+                  record { below = omega arith; tie = λ e. not_before (full_place list (as_kept q n.range.owner)) r (record { unit = n.range.owner; place = q; span = n.range.item }) x.copy there.copy x.is (λ l. omega arith) (λ u. absurd (omega arith)) }
+              | inr same ↦ after_kept there r t x reached (inr (h.0, omega arith))
+            ]
+
+    pub own_placed : (q : ℕ) (n : IsOwn kept at.unit addr w.span.begin q) → IsPlaced kept keepers addr (as_kept q n.range.owner)
+    own_placed q n = record { keeper = n.range.owner; span = n.range.item; is = n.is; row = own_row q n.range.owner n.range.item n.is; reached = n.reached }
+
+    comes_is : (q unit : ℕ) (x : Owned Span) → slice_get kept q ≡ Some x → comes_first kept w.span.begin unit (Some q) ≡ (nat_lt x.owner unit && eqb x.item.begin w.span.begin)
+    comes_is q unit x is = rw (item_at kept q x is, ap (option_map (λ (y : Owned Span). y.owner)) is) refl
+
+    pub precedes_repeat : (q : ℕ) (n : IsOwn kept at.unit addr w.span.begin q) (r : Place) → IsRepeat kept keepers at.unit addr w.span.begin r → comes_first kept w.span.begin r.unit (Some q) ≡ true → Precedes q n
+    precedes_repeat q n r m e = λ other k p lt row less a.
+        let both = and_parts _ _ (sym (comes_is q r.unit n.range n.is) ∙ e) in
+        let before = ltb-true n.range.owner r.unit both.0 in
+        let least = m.least other k p lt row less a in
+        (eqb-true n.range.item.begin w.span.begin both.1, omega arith)
+
+    -- the next unit that is not its own keeper
+
+    none_first : (o : Option ℕ) → IsNextOwn kept at.unit addr w.span.begin o → (unit : ℕ) → comes_first kept w.span.begin unit o ≡ false → (p : ℕ) (x : Owned Span) → slice_get kept p ≡ Some x → covers x.item addr ≡ true → x.item.begin ≡ w.span.begin → at.unit < x.owner → x.owner < unit → ⊥
+    none_first None own unit f p x is reached same above below = own p x is reached (inr (same, above))
+    none_first (Some q) own unit f p x is reached same above below =
+        let k = own.first p x is reached (inr (same, above)) in
+        let begins : own.range.item.begin ≡ w.span.begin = not_below own.later k.below in
+        let le = k.tie (same ∙ sym begins) in
+        let up = rows.sorted q p own.range x le own.is is in
+        false≢true (sym f ∙ (comes_is q unit own.range own.is ∙ and_from _ _ (lt-ltb own.range.owner unit (omega arith)) (eq-eqb own.range.item.begin w.span.begin begins)))
       where
-        by : After at.place w.span q n.span → (r : ℕ) (t : Span) → slice_get kept r ≡ Some (record { item = t; owner = keeper }) → t.begin ≡ n.span.begin → After at.place w.span r t
-        by (inl lt) r t is_t e = inl (omega arith)
-        by (inr h) r t is_t e =
-            let le = later_kept at.place q w.keeper keeper w.span n.span w.is is (let k = h.1 in omega arith) in
-            let differ : keeper ≡ w.keeper → ⊥ = λ same. other same h.0 in
-            inr (e ∙ h.0, later_at r keeper t is_t (elim (cases_lt w.keeper keeper) [ inl lt ↦ lt | inr ge ↦ absurd (differ (omega arith)) ]))
+        not_below : IsLater at.unit w.span.begin own.range → x.item.begin ≤ own.range.item.begin → own.range.item.begin ≡ w.span.begin
+        not_below (inl lt) le = absurd (omega arith)
+        not_below (inr h) le = h.0
+
+    pub repeat_next : IsLastOne → (o : Option ℕ) → IsNextOwn kept at.unit addr w.span.begin o → (r : Place) (n : IsRepeat kept keepers at.unit addr w.span.begin r) → comes_first kept w.span.begin r.unit o ≡ false → IsNextAt all_spans addr full w.span (full_place list r)
+    unfolding here
+    repeat_next last o own r n f =
+        let there = is_at r n.keeper n.first.0.span n.row n.first.0.is in
+        record {
+          span = n.first.0.span;
+          at = there.full;
+          reached = n.first.0.reached;
+          behind = inr (n.first.0.begins, stands_before full (full_place list r) this (record { unit = r.unit; place = r.place; span = n.first.0.span }) here.copy there.copy (inl n.later));
+          first = λ p t is_t reached after. not_after there p t (is_range p t is_t) reached after;
+        }
+      where
+        no_unit : (p : ℕ) (t : Span) (x : IsRange p t) → covers t addr ≡ true → t.begin ≡ w.span.begin → at.unit < x.copy.unit → x.copy.unit < r.unit → ⊥
+        no_unit p t x reached same lt less =
+            let l = rows.before x.copy.unit x.keeper x.row in
+            elim (cases_lt x.keeper x.copy.unit) [
+              | inl other ↦ let k = n.least x.copy.unit x.keeper x.copy.place lt x.row other (alike p t x reached same) in absurd (omega arith)
+              | inr one ↦ none_first o own r.unit f x.copy.place (record { item = t; owner = x.keeper }) x.kept_is reached same (omega arith) (omega arith)
+            ]
+
+        not_after : IsAt r n.first.0.span → (p : ℕ) (t : Span) → IsRange p t → covers t addr ≡ true → After full w.span p t → NotAfter (full_place list r) n.first.0.span p t
+        not_after there p t x reached (inl lt) = let b = n.first.0.begins in record { below = omega arith; tie = λ e. absurd (omega arith) }
+        not_after there p t x reached (inr h) =
+            let b = n.first.0.begins in
+            let same = h.0 in
+            let lt = later_unit last p t x reached h.0 h.1 in
+            record {
+              below = omega arith;
+              tie = λ e. not_before (full_place list r) p (record { unit = r.unit; place = r.place; span = n.first.0.span }) x.copy there.copy x.is
+                  (λ less. no_unit p t x reached same lt less)
+                  (λ unit. n.first.1 x.copy.place (subst (λ (k : ℕ). IsAlike kept k addr w.span.begin x.copy.place) (same_keeper r.unit x.copy.unit n.keeper x.keeper unit n.row x.row) (alike p t x reached same)));
+            }
+
+    pub repeat_placed : (r : Place) → IsRepeat kept keepers at.unit addr w.span.begin r → IsPlaced kept keepers addr r
+    repeat_placed r n = record { keeper = n.keeper; span = n.first.0.span; is = n.first.0.is; row = n.row; reached = n.first.0.reached }

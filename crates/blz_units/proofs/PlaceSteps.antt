@@ -10,11 +10,11 @@ use Rattle.blz_ranges.specs.Groups.{AreApart}
 use Rattle.blz_ranges.specs.Owned.{Owned, items_of, owner_at}
 use Rattle.blz_ranges.proofs.BestOf.{best_is, best_is_best}
 use Rattle.blz_units.specs.declared.announced.Place.{Place}
-use Rattle.blz_units.specs.Copies.{Announced, Copy, announced_all, announced_copies, begun, full_place, goes_on, has_next, moved, restarted, same_number, told, AreInRows, IsPlaced, StandsFor}
+use Rattle.blz_units.specs.Copies.{Announced, Copy, announced_all, announced_copies, begun, comes_first, full_place, goes_on, moved, told, HaveKeepers, IsLast, IsNextOwn, IsNextRepeat, IsOwn, IsPlaced, IsRepeat, StandsFor}
 use Rattle.blz_units.proofs.Copies.{are_copies, within, AreCopies}
-use Rattle.blz_units.proofs.NextCopies.{as_kept, best_none, best_some, has_item, is_at, is_next, item_at, kept_next, moved_next, moved_placed, next_is, next_placed, none_next, placed_kept, restarted_next, restarted_placed, some_is, stands_before, IsAt, IsNext}
+use Rattle.blz_units.proofs.NextCopies.{as_kept, best_none, best_some, has_item, is_at, is_next, item_at, moved_next, moved_placed, next_is, none_next, own_next, own_placed, placed_kept, precedes_repeat, repeat_next, repeat_placed, some_is, stands_before, IsAt, IsNext, Precedes}
 
-module _ (a : Announced) (rows : AreInRows a.kept.ranges a.keepers) (addr : ℕ) where
+module _ (a : Announced) (rows : HaveKeepers a.kept.ranges a.keepers) (addr : ℕ) where
   abbrev kept : List (Owned Span)
   kept = a.kept.ranges
 
@@ -74,7 +74,7 @@ module _ (a : Announced) (rows : AreInRows a.kept.ranges a.keepers) (addr : ℕ)
         let begin : n.span.begin ≡ w.span.begin = sym (eqb-true w.span.begin n.span.begin both.1) in
         let is = subst (λ (k : ℕ). slice_get kept q ≡ Some (record { item = n.span; owner = k })) same h.is in
         record {
-          is = is_full_next (Some (full_place list (record { first = at.first; place = q; unit = at.unit }))) (moved_next kept a.keepers list rows are addr at w q n is begin);
+          is = is_full_next (Some (full_place list (record { place = q; unit = at.unit }))) (moved_next kept a.keepers list rows are addr at w q n is begin);
           placed = moved_placed kept a.keepers list rows are addr at w q n is begin;
         }
 
@@ -103,40 +103,61 @@ module _ (a : Announced) (rows : AreInRows a.kept.ranges a.keepers) (addr : ℕ)
         behind_it e (inl less) = absurd (omega arith)
         behind_it e (inr h) = let k = h.1 in omega arith
 
-    number_is : (o : Option ℕ) → same_number o (Some w.keeper) ≡ true → o ≡ Some w.keeper
-    number_is None e = absurd cc
-    number_is (Some n) e = ap (λ (k : ℕ). Some k) (eqb-true n w.keeper e)
+    pub is_last : (o : Option ℕ) → o ≡ next (items_of kept) addr at.place → goes_on kept at.place o ≡ false → IsLast kept addr w.span.begin at.place
+    is_last o e goes = λ keeper q t own is reached same lt.
+        let k : keeper ≡ w.keeper = some_is keeper w.keeper (sym own ∙ owner_is at.place w.keeper w.span w.is) in
+        last_by o (is_kept_next o e) goes q t (subst (λ (n : ℕ). slice_get kept q ≡ Some (record { item = t; owner = n })) k is) reached same lt
 
-    number_not : (o : Option ℕ) → same_number o (Some w.keeper) ≡ false → o ≡ Some w.keeper → ⊥
-    number_not o e is = false≢true (sym e ∙ (ap (λ (x : Option ℕ). same_number x (Some w.keeper)) is ∙ eq-eqb w.keeper w.keeper refl))
+    -- ---- behind its unit
 
-    next_number : (b : Bool) → has_next kept a.keepers at ≡ b → same_number (slice_get a.keepers (at.unit + 1)) (Some w.keeper) ≡ b
-    next_number b e = ap (same_number (slice_get a.keepers (at.unit + 1))) (sym (owner_is at.place w.keeper w.span w.is)) ∙ e
+    module _ (last : IsLast kept addr w.span.begin at.place) where
+      last_one : (q : ℕ) (t : Span) → slice_get kept q ≡ Some (record { item = t; owner = w.keeper }) → covers t addr ≡ true → t.begin ≡ w.span.begin → at.place < q → ⊥
+      last_one q t is reached same lt = last w.keeper q t (owner_is at.place w.keeper w.span w.is) is reached same lt
 
-    pub restarted_stands : (o : Option ℕ) → o ≡ next (items_of kept) addr at.place → goes_on kept at.place o ≡ false → has_next kept a.keepers at ≡ true → Stands (Some (restarted at)) (next all addr (full_place list at))
-    restarted_stands o e goes has =
-        let row = number_is (slice_get a.keepers (at.unit + 1)) (next_number true has) in
-        record {
-          is = is_full_next (Some (full_place list (restarted at))) (restarted_next kept a.keepers list rows are addr at w (last_by o (is_kept_next o e) goes) row);
-          placed = restarted_placed kept a.keepers list rows are addr at w row;
-        }
+      own_by : (q : ℕ) (n : IsOwn kept at.unit addr w.span.begin q) → Precedes kept a.keepers list rows are addr at w q n → Stands (begun kept (Some q)) (next all addr (full_place list at))
+      own_by q n precedes =
+          rw (owner_is q n.range.owner n.range.item n.is) (record {
+            is = is_full_next (Some (full_place list (as_kept kept a.keepers list rows are addr q n.range.owner))) (own_next kept a.keepers list rows are addr at w last_one q n precedes);
+            placed = own_placed kept a.keepers list rows are addr at w q n;
+          })
 
-    begun_by : (o : Option ℕ) → IsKeptNext o → goes_on kept at.place o ≡ false → (slice_get a.keepers (at.unit + 1) ≡ Some w.keeper → ⊥) → Stands (begun kept o) (next all addr (full_place list at))
-    begun_by None n goes none = record { is = is_full_next None (none_next kept a.keepers list rows are addr at w none n); placed = tt }
-    begun_by (Some q) n goes none =
-        let h = has_item kept q n.span n.at in
-        let other : h.keeper ≡ w.keeper → n.span.begin ≡ w.span.begin → ⊥ = λ same begin. false≢true (sym goes ∙ (goes_is q h.keeper n.span h.is ∙ and_from _ _ (eq-eqb w.keeper h.keeper (sym same)) (eq-eqb w.span.begin n.span.begin (sym begin)))) in
-        rw (owner_is q h.keeper n.span h.is) (record {
-          is = is_full_next (Some (full_place list (as_kept kept a.keepers list rows are addr q h.keeper))) (kept_next kept a.keepers list rows are addr at w none q h.keeper n h.is other);
-          placed = next_placed kept a.keepers list rows are addr at w q h.keeper n h.is other;
-        })
+      own_stands : (o : Option ℕ) → IsNextOwn kept at.unit addr w.span.begin o → IsNextRepeat kept a.keepers at.unit addr w.span.begin None → Stands (begun kept o) (next all addr (full_place list at))
+      own_stands None own repeat = record { is = is_full_next None (none_next kept a.keepers list rows are addr at w last_one own repeat); placed = tt }
+      own_stands (Some q) own repeat = own_by q own (λ other k p lt row less alike. absurd (repeat other k p lt row less alike))
 
-    pub begun_stands : (o : Option ℕ) → o ≡ next (items_of kept) addr at.place → goes_on kept at.place o ≡ false → has_next kept a.keepers at ≡ false → Stands (begun kept o) (next all addr (full_place list at))
-    begun_stands o e goes has = begun_by o (is_kept_next o e) goes (number_not (slice_get a.keepers (at.unit + 1)) (next_number false has))
+      own_first_stands : (o : Option ℕ) → IsNextOwn kept at.unit addr w.span.begin o → (r : Place) → IsRepeat kept a.keepers at.unit addr w.span.begin r → comes_first kept w.span.begin r.unit o ≡ true → Stands (begun kept o) (next all addr (full_place list at))
+      own_first_stands None own r repeat e = absurd cc
+      own_first_stands (Some q) own r repeat e = own_by q own (precedes_repeat kept a.keepers list rows are addr at w q own r repeat e)
+
+      repeat_stands : (o : Option ℕ) → IsNextOwn kept at.unit addr w.span.begin o → (r : Place) → IsRepeat kept a.keepers at.unit addr w.span.begin r → comes_first kept w.span.begin r.unit o ≡ false → Stands (Some r) (next all addr (full_place list at))
+      repeat_stands o own r repeat e = record {
+        is = is_full_next (Some (full_place list r)) (repeat_next kept a.keepers list rows are addr at w last_one o own r repeat e);
+        placed = repeat_placed kept a.keepers list rows are addr at w r repeat;
+      }
+
+    pub first_owner : (x : Owned Span) → slice_get kept 0 ≡ Some x → x.owner ≤ at.unit
+    first_owner x is =
+        let up = rows.sorted 0 at.place x (record { item = w.span; owner = w.keeper }) (omega arith) is w.is in
+        let le = rows.before at.unit w.keeper w.row in
+        omega arith
+
+    pub begin_read : (s : Span) → slice_get (items_of kept) at.place ≡ Some s → w.span.begin ≡ s.begin
+    begin_read s is = ap (λ (t : Span). t.begin) (some_is w.span s (sym (item_at kept at.place (record { item = w.span; owner = w.keeper }) w.is) ∙ is))
+
+    -- by the begin as it was read
+    module _ (begin : ℕ) (is_begin : w.span.begin ≡ begin) where
+      pub own_behind : IsLast kept addr begin at.place → (o : Option ℕ) → IsNextOwn kept at.unit addr begin o → IsNextRepeat kept a.keepers at.unit addr begin None → Stands (begun kept o) (next all addr (full_place list at))
+      own_behind = subst (λ (b : ℕ). IsLast kept addr b at.place → (o : Option ℕ) → IsNextOwn kept at.unit addr b o → IsNextRepeat kept a.keepers at.unit addr b None → Stands (begun kept o) (next all addr (full_place list at))) is_begin (λ last o own repeat. own_stands last o own repeat)
+
+      pub own_first : IsLast kept addr begin at.place → (o : Option ℕ) → IsNextOwn kept at.unit addr begin o → (r : Place) → IsRepeat kept a.keepers at.unit addr begin r → comes_first kept begin r.unit o ≡ true → Stands (begun kept o) (next all addr (full_place list at))
+      own_first = subst (λ (b : ℕ). IsLast kept addr b at.place → (o : Option ℕ) → IsNextOwn kept at.unit addr b o → (r : Place) → IsRepeat kept a.keepers at.unit addr b r → comes_first kept b r.unit o ≡ true → Stands (begun kept o) (next all addr (full_place list at))) is_begin (λ last o own r repeat e. own_first_stands last o own r repeat e)
+
+      pub repeat_first : IsLast kept addr begin at.place → (o : Option ℕ) → IsNextOwn kept at.unit addr begin o → (r : Place) → IsRepeat kept a.keepers at.unit addr begin r → comes_first kept begin r.unit o ≡ false → Stands (Some r) (next all addr (full_place list at))
+      repeat_first = subst (λ (b : ℕ). IsLast kept addr b at.place → (o : Option ℕ) → IsNextOwn kept at.unit addr b o → (r : Place) → IsRepeat kept a.keepers at.unit addr b r → comes_first kept b r.unit o ≡ false → Stands (Some r) (next all addr (full_place list at))) is_begin (λ last o own r repeat e. repeat_stands last o own r repeat e)
 
 -- ---- looks
 
-module _ (a : Announced) (rows : AreInRows a.kept.ranges a.keepers) where
+module _ (a : Announced) (rows : HaveKeepers a.kept.ranges a.keepers) where
   abbrev ranges : List (Owned Span)
   ranges = a.kept.ranges
 
@@ -148,7 +169,7 @@ module _ (a : Announced) (rows : AreInRows a.kept.ranges a.keepers) where
 
   -- where a range that is kept stands among all, as that of its keeper
   abbrev own_place : ℕ → ℕ → Place
-  own_place p keeper = record { first = p; place = p; unit = keeper }
+  own_place p keeper = record { place = p; unit = keeper }
 
   stands_at : (p keeper : ℕ) (s : Span) → slice_get ranges p ≡ Some (record { item = s; owner = keeper }) → IsAt ranges a.keepers copies_in rows (are_copies ranges a.keepers) 0 (own_place p keeper) s
   stands_at p keeper s is = is_at ranges a.keepers copies_in rows (are_copies ranges a.keepers) 0 (own_place p keeper) keeper s (rows.ranges p (record { item = s; owner = keeper }) is) is

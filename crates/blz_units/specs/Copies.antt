@@ -1,12 +1,14 @@
--- What units announce, kept once for those in a row that announce one list, and all that it stands for. The first of such
--- units is the keeper of each of them, and what is kept belongs to keepers.
-use Rattle.std.specs.Prelude.{◌≡◌, ℕ, suc, ◌+◌, ◌-◌, ◌<◌, ◌≤◌, Bool, true, false, List, [], ◌∷◌, ◌++◌, length, drop, map, Option, Some, None, IfSome, ◌&&◌, ◌==◌, if◌then◌else◌, option_map}
+-- What units announce, kept once for those that announce one list, and all that it stands for. The first of such units is
+-- the keeper of each of them, and what is kept belongs to keepers.
+use Rattle.std.specs.Prelude.{◌≡◌, ℕ, zero, suc, ◌+◌, ◌<◌, ◌≤◌, Bool, true, false, List, [], ◌∷◌, ◌++◌, length, drop, map, Option, Some, None, IfSome, ◌⊎◌, ◌&&◌, ◌==◌, nat_lt, if◌then◌else◌, option_map, unwrap_or}
 use Rattle.std.specs.List.{slice_get}
+use Rattle.std.specs.List.Sorted.{IsNonDecreasingBy}
 use Rattle.blz_ranges.specs.declared.span.Span.{Span}
-use Rattle.blz_ranges.specs.Best.{covers}
+use Rattle.blz_ranges.specs.Best.{covers, NotAfter}
 use Rattle.blz_ranges.specs.Owned.{Owned, items_of, own_all, owned, owner_at}
 use Rattle.blz_ranges.specs.Ranges.{OwnedRanges}
 use Rattle.blz_units.specs.declared.announced.Place.{Place}
+use Rattle.blz_units.specs.declared.keepers.Keepers.{Keepers}
 
 -- a range of a unit, and its place among the ranges that are kept
 pub record Copy : Type 0 where
@@ -35,13 +37,42 @@ all_ranges kept keepers = told (copies kept 0 keepers)
 abbrev pub list_of : List (Owned Span) → ℕ → List Span
 list_of kept keeper = map (λ (c : Copy). c.span) (copies_of keeper keeper 0 kept)
 
--- Keepers are their own, and units with one keeper stand together, as their ranges do.
-pub record AreInRows (kept : List (Owned Span)) (keepers : List ℕ) : Type 0 where
+-- Keepers are their own, and stand at or before their units; ranges stand in the order of their keepers.
+pub record HaveKeepers (kept : List (Owned Span)) (keepers : List ℕ) : Type 0 where
   pub before : (unit keeper : ℕ) → slice_get keepers unit ≡ Some keeper → keeper ≤ unit
   pub own : (unit keeper : ℕ) → slice_get keepers unit ≡ Some keeper → slice_get keepers keeper ≡ Some keeper
-  pub rising : (unit other keeper next : ℕ) → unit ≤ other → slice_get keepers unit ≡ Some keeper → slice_get keepers other ≡ Some next → keeper ≤ next
   pub ranges : (place : ℕ) (x : Owned Span) → slice_get kept place ≡ Some x → slice_get keepers x.owner ≡ Some x.owner
   pub sorted : (place other : ℕ) (x y : Owned Span) → place ≤ other → slice_get kept place ≡ Some x → slice_get kept other ≡ Some y → x.owner ≤ y.owner
+
+-- For each unit where the ranges of the units up to it end.
+pub record AreEnds (kept : List (Owned Span)) (keepers ends : List ℕ) : Type 0 where
+  pub count : length ends ≡ length keepers
+  pub within : (unit end : ℕ) → slice_get ends unit ≡ Some end → end ≤ length kept
+  pub below : (unit end place : ℕ) (x : Owned Span) → slice_get ends unit ≡ Some end → slice_get kept place ≡ Some x → place < end → x.owner ≤ unit
+  pub above : (unit end place : ℕ) (x : Owned Span) → slice_get ends unit ≡ Some end → slice_get kept place ≡ Some x → end ≤ place → unit < x.owner
+
+-- where the ranges of a unit begin
+abbrev pub start_of : List ℕ → ℕ → ℕ
+start_of ends zero = 0
+start_of ends (suc unit) = unwrap_or (slice_get ends unit) 0
+
+-- All units that are not their own keepers, in their order.
+pub record AreRepeats (keepers repeats : List ℕ) : Type 0 where
+  pub rising : IsNonDecreasingBy (λ (n : ℕ). n) repeats
+  pub units : (at unit : ℕ) → slice_get repeats at ≡ Some unit → unit < length keepers
+  pub all : (unit keeper : ℕ) → slice_get keepers unit ≡ Some keeper → keeper < unit → (at : ℕ) × (slice_get repeats at ≡ Some unit)
+
+-- Up to a place no number of a list is above one, and from there on each is.
+pub record IsSplitAt (list : List ℕ) (n at : ℕ) : Type 0 where
+  pub within : at ≤ length list
+  pub above : (i x : ℕ) → at ≤ i → slice_get list i ≡ Some x → n < x
+  pub below : (i x : ℕ) → i < at → slice_get list i ≡ Some x → x ≤ n
+
+-- The keepers of units, with what is found by them.
+pub record AreKeepers (kept : List (Owned Span)) (k : Keepers) : Type 0 where
+  pub have : HaveKeepers kept k.of_units.items
+  pub ends : AreEnds kept k.of_units.items k.ends.items
+  pub repeats : AreRepeats k.of_units.items k.repeats.items
 
 -- ---- what is kept, as it is seen
 
@@ -65,31 +96,37 @@ pub record KeptRanges : Type 0 where
 abbrev pub all_kept : KeptRanges → List (Owned Span)
 all_kept k = all_ranges k.ranges k.keepers
 
--- the ranges from a place on are those of the last keeper
-pub record AreKeptOnce (spans : List Span) (owners keepers : List ℕ) (last : ℕ) : Type 0 where
+-- What is kept while units are read: the ranges from a place on are those of one keeper.
+pub record AreKeptOnce (spans : List Span) (owners : List ℕ) (k : Keepers) (keeper from : ℕ) : Type 0 where
   pub same : length spans ≡ length owners
-  pub rows : AreInRows (owned spans owners) keepers
-  pub within : last ≤ length spans
-  pub list : (keeper : ℕ) → slice_get keepers (length keepers - 1) ≡ Some keeper → list_of (owned spans owners) keeper ≡ drop last spans
+  pub are : AreKeepers (owned spans owners) k
+  pub within : from ≤ length spans
+  pub own : 0 < length k.of_units.items → slice_get k.of_units.items keeper ≡ Some keeper
+  pub list : list_of (owned spans owners) keeper ≡ drop from spans
 
--- There is a last unit, and it announces a list.
-pub record IsLastList (k : KeptRanges) (spans : List Span) : Type 0 where
-  pub some : 0 < length k.keepers
-  pub list : (keeper : ℕ) → slice_get k.keepers (length k.keepers - 1) ≡ Some keeper → list_of k.ranges keeper ≡ spans
+-- A unit announces some ranges if it has that keeper, and none without one.
+abbrev pub IsListOf : KeptRanges → List Span → Option ℕ → Type 0
+IsListOf k spans None = spans ≡ []
+IsListOf k spans (Some keeper) = (slice_get k.keepers keeper ≡ Some keeper) × (list_of k.ranges keeper ≡ spans)
 
 -- one unit more, which is its own keeper
 abbrev pub with_list : KeptRanges → List Span → KeptRanges
 with_list k spans = record { ranges = k.ranges ++ own_all (length k.keepers) spans; keepers = k.keepers ++ length k.keepers ∷ [] }
 
--- one unit more, which announces a list
+-- One unit more, which announces a list; what the keepers of others announce stays.
 pub record IsWithUnit (old : KeptRanges) (spans : List Span) (new : KeptRanges) : Type 0 where
   pub all : all_kept new ≡ all_kept old ++ own_all (length old.keepers) spans
   pub count : length new.keepers ≡ length old.keepers + 1
-  pub last : IsLastList new spans
+  pub others : (list : List Span) (keeper : Option ℕ) → IsListOf old list keeper → IsListOf new list keeper
 
--- one unit more, which announces what the last one does
-abbrev pub IsOnceMore : KeptRanges → KeptRanges → Type 0
-IsOnceMore old new = (spans : List Span) → IsLastList old spans → IsWithUnit old spans new
+-- one unit more, which announces what one with a keeper does
+abbrev pub IsOnceMore : KeptRanges → Option ℕ → KeptRanges → Type 0
+IsOnceMore old keeper new = (spans : List Span) → IsListOf old spans keeper → IsWithUnit old spans new
+
+-- one unit more, with its keeper
+pub record IsWithKeeper (old : KeptRanges) (spans : List Span) (new : KeptRanges × Option ℕ) : Type 0 where
+  pub with_unit : IsWithUnit old spans new.0
+  pub list : IsListOf new.0 spans new.1
 
 -- ---- the ranges that cover an address, one after the other
 
@@ -101,18 +138,13 @@ place_of_copy (c ∷ list) unit place = if c.unit == unit && c.place == place th
 abbrev pub full_place : List Copy → Place → ℕ
 full_place list at = place_of_copy list at.unit at.place
 
--- A place among the ranges that cover an address, with the first of those of its keeper that begin alike.
+-- A place among the ranges that cover an address.
 pub record IsPlaced (kept : List (Owned Span)) (keepers : List ℕ) (addr : ℕ) (at : Place) : Type 0 where
   pub keeper : ℕ
   pub span : Span
   pub is : slice_get kept at.place ≡ Some (record { item = span; owner = keeper })
   pub row : slice_get keepers at.unit ≡ Some keeper
   pub reached : covers span addr ≡ true
-  pub front : Span
-  pub front_is : slice_get kept at.first ≡ Some (record { item = front; owner = keeper })
-  pub front_reached : covers front addr ≡ true
-  pub alike : front.begin ≡ span.begin
-  pub least : (q : ℕ) (t : Span) → slice_get kept q ≡ Some (record { item = t; owner = keeper }) → covers t addr ≡ true → t.begin ≡ span.begin → at.first ≤ q
 
 -- whether two numbers are there and the same
 abbrev pub same_number : Option ℕ → Option ℕ → Bool
@@ -133,32 +165,85 @@ abbrev pub goes_on : List (Owned Span) → ℕ → Option ℕ → Bool
 goes_on kept place None = false
 goes_on kept place (Some next) = are_alike kept place next
 
--- whether the next unit announces the list of a range
-abbrev pub has_next : List (Owned Span) → List ℕ → Place → Bool
-has_next kept keepers at = same_number (slice_get keepers (at.unit + 1)) (owner_at kept at.place)
-
 -- the same unit at another place
 abbrev pub moved : Place → Option ℕ → Option Place
 moved at None = None
-moved at (Some place) = Some (record { first = at.first; place = place; unit = at.unit })
-
--- the next unit at the first of the ranges that begin alike
-abbrev pub restarted : Place → Place
-restarted at = record { first = at.first; place = at.first; unit = at.unit + 1 }
+moved at (Some place) = Some (record { place = place; unit = at.unit })
 
 -- a range as its keeper has it
 abbrev pub kept_at : Option ℕ → ℕ → Option Place
 kept_at None place = None
-kept_at (Some keeper) place = Some (record { first = place; place = place; unit = keeper })
+kept_at (Some keeper) place = Some (record { place = place; unit = keeper })
 
 abbrev pub begun : List (Owned Span) → Option ℕ → Option Place
 begun kept None = None
 begun kept (Some place) = kept_at (owner_at kept place) place
 
--- The range behind one: of its unit where the next that is kept is of one keeper with it and begins alike; else of the next
--- unit, where that announces the same list; and else the next that is kept.
-abbrev pub place_behind : List (Owned Span) → List ℕ → Place → Option ℕ → Option Place
-place_behind kept keepers at next = if goes_on kept at.place next then moved at next else (if has_next kept keepers at then Some (restarted at) else begun kept next)
+-- ---- the next unit with a range that begins alike
+
+-- No range of the keeper of a range comes after it that covers an address and begins at a number.
+abbrev pub IsLast : List (Owned Span) → ℕ → ℕ → ℕ → Type 0
+IsLast kept addr begin place = (keeper q : ℕ) (t : Span) → owner_at kept place ≡ Some keeper → slice_get kept q ≡ Some (record { item = t; owner = keeper }) → covers t addr ≡ true → t.begin ≡ begin → place < q → ⊥
+
+-- A range of a keeper that covers an address and begins at a number.
+pub record IsAlike (kept : List (Owned Span)) (keeper addr begin place : ℕ) : Type 0 where
+  pub span : Span
+  pub is : slice_get kept place ≡ Some (record { item = span; owner = keeper })
+  pub begins : span.begin ≡ begin
+  pub reached : covers span addr ≡ true
+
+-- the same as a test
+abbrev pub begins_at : ℕ → ℕ → Option Span → Bool
+begins_at addr begin None = false
+begins_at addr begin (Some s) = s.begin == begin && covers s addr
+
+abbrev pub is_alike : List (Owned Span) → ℕ → ℕ → ℕ → ℕ → Bool
+is_alike kept keeper addr begin place = same_number (owner_at kept place) (Some keeper) && begins_at addr begin (slice_get (items_of kept) place)
+
+-- the first of these
+abbrev pub IsFirstAlike : List (Owned Span) → ℕ → ℕ → ℕ → Option ℕ → Type 0
+IsFirstAlike kept keeper addr begin None = (q : ℕ) → IsAlike kept keeper addr begin q → ⊥
+IsFirstAlike kept keeper addr begin (Some place) = IsAlike kept keeper addr begin place × ((q : ℕ) → IsAlike kept keeper addr begin q → place ≤ q)
+
+-- The next unit that is not its own keeper and has such a range, at the first of these.
+pub record IsRepeat (kept : List (Owned Span)) (keepers : List ℕ) (unit addr begin : ℕ) (at : Place) : Type 0 where
+  pub keeper : ℕ
+  pub later : unit < at.unit
+  pub row : slice_get keepers at.unit ≡ Some keeper
+  pub first : IsFirstAlike kept keeper addr begin (Some at.place)
+  pub least : (other k q : ℕ) → unit < other → slice_get keepers other ≡ Some k → k < other → IsAlike kept k addr begin q → at.unit ≤ other
+
+abbrev pub IsNextRepeat : List (Owned Span) → List ℕ → ℕ → ℕ → ℕ → Option Place → Type 0
+IsNextRepeat kept keepers unit addr begin None = (other k q : ℕ) → unit < other → slice_get keepers other ≡ Some k → k < other → IsAlike kept k addr begin q → ⊥
+IsNextRepeat kept keepers unit addr begin (Some at) = IsRepeat kept keepers unit addr begin at
+
+-- a range that begins below a number, or there and is kept for a later unit
+abbrev pub IsLater : ℕ → ℕ → Owned Span → Type 0
+IsLater unit begin x = (x.item.begin < begin) ⊎ ((x.item.begin ≡ begin) × (unit < x.owner))
+
+-- The best of these that covers an address.
+pub record IsOwn (kept : List (Owned Span)) (unit addr begin place : ℕ) : Type 0 where
+  pub range : Owned Span
+  pub is : slice_get kept place ≡ Some range
+  pub reached : covers range.item addr ≡ true
+  pub later : IsLater unit begin range
+  pub first : (q : ℕ) (x : Owned Span) → slice_get kept q ≡ Some x → covers x.item addr ≡ true → IsLater unit begin x → NotAfter place range.item q x.item
+
+abbrev pub IsNextOwn : List (Owned Span) → ℕ → ℕ → ℕ → Option ℕ → Type 0
+IsNextOwn kept unit addr begin None = (q : ℕ) (x : Owned Span) → slice_get kept q ≡ Some x → covers x.item addr ≡ true → IsLater unit begin x → ⊥
+IsNextOwn kept unit addr begin (Some place) = IsOwn kept unit addr begin place
+
+abbrev pub no_longer : ℕ → Span
+no_longer begin = record { begin = begin; end = begin }
+
+abbrev pub is_below : ℕ → Option ℕ → Bool
+is_below unit None = false
+is_below unit (Some keeper) = nat_lt keeper unit
+
+-- whether a range begins at a number and is kept for a unit before another one
+abbrev pub comes_first : List (Owned Span) → ℕ → ℕ → Option ℕ → Bool
+comes_first kept begin unit None = false
+comes_first kept begin unit (Some place) = is_below unit (owner_at kept place) && begin_alike (slice_get (items_of kept) place) (Some (no_longer begin))
 
 -- a place that stands for one among all ranges
 pub record StandsFor (a : Announced) (addr : ℕ) (at : Option Place) (place : Option ℕ) : Type 0 where

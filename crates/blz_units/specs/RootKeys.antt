@@ -43,10 +43,6 @@ abbrev pub IsToldBy : RootKey → UnitParts → Type 0
 IsToldBy (ByRanges ranges) u = ranges ≡ ranges_key u
 IsToldBy (ByLines ranges program) u = (ranges ≡ ranges_key u) × (program ≡ program_key u)
 
-abbrev pub IsToldByLast : Option RootKey → UnitParts → Type 0
-IsToldByLast None u = ⊥
-IsToldByLast (Some key) u = IsToldBy key u
-
 -- Each unit of the same sections that is told by a key announces what the unit does.
 abbrev pub IsKeyOf : UnitParts → RootKey → Type 0
 IsKeyOf u key = (v : UnitParts) → v.sections ≡ u.sections → IsToldBy key v → root_spans v ≡ root_spans u

@@ -1,6 +1,5 @@
 //! What a unit announces.
-ghost use Rattle.std.specs.Prelude.{◌≡◌, ◌≢◌, ◌++◌, Option, Some, IfOk, MatchResult, OnOk, option_map};
-ghost use Rattle.std.specs.Bool.{OnTrue};
+ghost use Rattle.std.specs.Prelude.{◌≡◌, ◌≢◌, ◌++◌, Option, Some, IfOk, MatchResult, OnOk, IfSome, option_map};
 ghost use Rattle.blz_error.specs.declared.kind.ErrorKind.TheVariants.{OutOfMemory};
 ghost use Rattle.blz_model.specs.Part.{Good, Gives};
 ghost use Rattle.blz_info.specs.Marks.{or_invalid};
@@ -9,8 +8,8 @@ ghost use Rattle.blz_line.specs.UnitLines.{OrderedLines};
 ghost use Rattle.blz_units.specs.BuiltUnits.{built, built_view, files_view, BuiltFits, IsReadable};
 ghost use Rattle.blz_units.specs.KeptParts.{IsPartOf};
 ghost use Rattle.blz_functions.specs.Opened.{open_view};
-ghost use Rattle.blz_units.specs.Keeping.{HasPartOf, IsToldOr};
-ghost use Rattle.blz_units.specs.RootKeys.{IsKeyOf, IsToldByLast};
+ghost use Rattle.blz_units.specs.Keeping.{HasPartOf, IsKnown, IsToldOr};
+ghost use Rattle.blz_units.specs.RootKeys.{IsKeyOf, IsToldBy};
 ghost use Rattle.blz_units.specs.Sharing.{AreShared};
 ghost use Rattle.blz_units.specs.declared.dwarf.Origin.TheVariants.{Main};
 ghost use Rattle.blz_units.specs.UnitLists.{IsInPlace};
@@ -19,7 +18,8 @@ ghost use Rattle.blz_units.specs.UnitTables.{announces, by_root, is_type, is_par
 use crate::address_sets::AddressSets;
 use crate::built_unit::{BuiltUnit, may_be_split};
 use crate::dwarf::{Dwarf, Origin};
-use crate::root_key::{RootKey, is_of_last, program_key, ranges_key};
+use crate::known_roots::{KnownRoot, KnownRoots};
+use crate::root_key::{RootKey, program_key, ranges_key};
 use crate::shared_lines::{ProgramSpans, lines_key};
 use crate::shared_parts::SharedParts;
 use blz_bytes::AsTheyStand;
@@ -35,8 +35,8 @@ use std::alloc::{AllocError, Global};
 pub enum Announcement {
     /// Nothing: it is not kept.
     NotKept,
-    /// What the last unit does, by the key of its root.
-    Again(Cache<BuiltUnit>),
+    /// What units with a keeper do, by the key of its root, and nothing without one.
+    Again(Cache<BuiltUnit>, Option<usize>),
     /// Some ranges, with the key of its root where that tells them.
     Ranges(Vec<Span>, Cache<BuiltUnit>, Option<RootKey>),
 }
@@ -227,35 +227,36 @@ fn kept_of(
     Cache::Value(unit)
 }
 
-/// Whether a unit announces what the key of the last one tells.
-fn repeats_last(dwarf: &Dwarf<'_, '_>, unit: &BuiltUnit, last: Option<RootKey>) -> bool
+/// What is known by the key of a unit.
+fn known_root(dwarf: &Dwarf<'_, '_>, unit: &BuiltUnit, roots: &KnownRoots) -> Option<KnownRoot>
     requires readable { IsReadable dwarf.now }
     requires fits { BuiltFits (files_view dwarf.now) unit.now }
-    ensures { OnTrue result (IsToldByLast last (built_view (files_view dwarf.now) unit.now)) }
+    ensures { IfSome result (λ known. IsKnown roots.now known × IsToldBy known.key (built_view (files_view dwarf.now) unit.now)) }
 {
-    is_of_last(last, &unit.open(dwarf))
+    roots.of_unit(&unit.open(dwarf))
 }
 
-/// What a unit announces that is built: nothing is read where the key of the last one tells it.
+/// What a unit announces that is built: nothing is read where its key was met.
 fn announced_by(
     alloc: Global,
     dwarf: &Dwarf<'_, '_>,
     shared: &mut SharedParts,
     header: &UnitHeader,
     unit: BuiltUnit,
-    last: Option<RootKey>,
+    roots: &KnownRoots,
 ) -> Result<Announcement>
     requires readable { IsReadable dwarf.now }
     requires fits { BuiltFits (files_view dwarf.now) unit }
     requires main { unit.origin ≡ Main }
     requires is { or_invalid (built (files_view dwarf.now).main header.now) ≡ Good (built_view (files_view dwarf.now) unit) }
     requires shared { AreShared (files_view dwarf.now).main shared.old }
-    ensures told { IsToldOr (files_view dwarf.now).main last (by_root (built (files_view dwarf.now).main header.now)) result }
+    ensures told { IsToldOr (files_view dwarf.now).main roots.now (by_root (built (files_view dwarf.now).main header.now)) result }
     ensures part { IfOk result (HasPartOf (files_view dwarf.now) header.now) }
     ensures shared { AreShared (files_view dwarf.now).main shared.new }
 {
-    if repeats_last(dwarf, &unit, last) {
-        return Ok(Announcement::Again(kept_of(dwarf, shared, header, unit)));
+    if let Some(known) = known_root(dwarf, &unit, roots) {
+        let part = kept_of(dwarf, shared, header, unit);
+        return Ok(Announcement::Again(part, known.keeper));
     }
     let mut spans = Vec::new(alloc);
     let key = append_unit(alloc, dwarf, shared, &unit, &mut spans)?;
@@ -269,17 +270,17 @@ fn announced_by_root(
     dwarf: &Dwarf<'_, '_>,
     shared: &mut SharedParts,
     header: &UnitHeader,
-    last: Option<RootKey>,
+    roots: &KnownRoots,
 ) -> Result<Announcement>
     requires readable { IsReadable dwarf.now }
     requires in_place { IsInPlace header.now }
     requires shared { AreShared (files_view dwarf.now).main shared.old }
-    ensures told { IsToldOr (files_view dwarf.now).main last (by_root (built (files_view dwarf.now).main header.now)) result }
+    ensures told { IsToldOr (files_view dwarf.now).main roots.now (by_root (built (files_view dwarf.now).main header.now)) result }
     ensures part { IfOk result (HasPartOf (files_view dwarf.now) header.now) }
     ensures shared { AreShared (files_view dwarf.now).main shared.new }
 {
     match BuiltUnit::of_file(alloc, dwarf, shared, Origin::Main, header) {
-        Ok(unit) => announced_by(alloc, dwarf, shared, header, unit, last),
+        Ok(unit) => announced_by(alloc, dwarf, shared, header, unit, roots),
         Err(fault) => {
             unless_memory(fault)?;
             Ok(Announcement::NotKept)
@@ -287,7 +288,7 @@ fn announced_by_root(
     }
 }
 
-/// What a unit announces, by the key of the last one where that tells it. InvalidDwarf exactly where the list of ranges of
+/// What a unit announces, by the key of its root where that was met. InvalidDwarf exactly where the list of ranges of
 /// its root is needed and has no value.
 #[tactic(auto, unfolding(crate::specs::UnitTables::announces))]
 pub fn announced(
@@ -296,12 +297,12 @@ pub fn announced(
     sets: &AddressSets,
     shared: &mut SharedParts,
     header: &UnitHeader,
-    last: Option<RootKey>,
+    roots: &KnownRoots,
 ) -> Result<Announcement>
     requires readable { IsReadable dwarf.now }
     requires in_place { IsInPlace header.now }
     requires shared { AreShared (files_view dwarf.now).main shared.old }
-    ensures told { IsToldOr (files_view dwarf.now).main last (announces (files_view dwarf.now).main sets.now header.now) result }
+    ensures told { IsToldOr (files_view dwarf.now).main roots.now (announces (files_view dwarf.now).main sets.now header.now) result }
     ensures part { IfOk result (HasPartOf (files_view dwarf.now) header.now) }
     ensures shared { AreShared (files_view dwarf.now).main shared.new }
 {
@@ -316,5 +317,5 @@ pub fn announced(
     if !spans.is_empty() {
         return Ok(Announcement::Ranges(spans, Cache::Empty, None));
     }
-    announced_by_root(alloc, dwarf, shared, header, last)
+    announced_by_root(alloc, dwarf, shared, header, roots)
 }

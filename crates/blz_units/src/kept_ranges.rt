@@ -1,22 +1,26 @@
 //! The ranges that units announce, while the units are read.
-ghost use Rattle.std.specs.Prelude.{◌≡◌, ◌<◌, [], length, IfOk};
+ghost use Rattle.std.specs.Prelude.{◌≡◌, ◌<◌, [], length, IfOk, IfSome, Some};
 ghost use Rattle.std.specs.Bool.{OnTrue};
+ghost use Rattle.std.specs.List.{slice_get};
 ghost use Rattle.blz_ranges.specs.Owned.{owned};
-ghost use Rattle.blz_units.specs.Copies.{AreInRows, IsLastList, IsOnceMore, IsWithUnit};
+ghost use Rattle.blz_units.specs.Copies.{AreKeepers, IsListOf, IsOnceMore, IsWithKeeper, IsWithUnit};
 
+use crate::keepers::Keepers;
 use blz_ranges::{Span, own};
 use std::alloc::{AllocError, Global};
 use std::marker::Model;
 
-/// The ranges that units announce. What several units in a row announce is kept once, as that of the first of them, their
-/// keeper.
+/// The ranges that units announce. What several units announce is kept once, as that of the first of them, their keeper,
+/// where that is known.
 #[derive(Drop)]
 pub struct KeptRanges {
     spans: Vec<Span>,
     owners: Vec<usize>,
-    keepers: Vec<usize>,
-    /// Where the list of the last keeper begins.
+    keepers: Keepers,
+    /// The last unit that is its own keeper.
     last: usize,
+    /// Where its list begins.
+    from: usize,
 }
 
 impl Model for KeptRanges {
@@ -26,9 +30,9 @@ impl Model for KeptRanges {
 
     ghost Value = { KeptRanges };
 
-    ghost view = { λ k. record { ranges = owned k.spans.items k.owners.items; keepers = k.keepers.items } };
+    ghost view = { λ k. record { ranges = owned k.spans.items k.owners.items; keepers = k.keepers.of_units.items } };
 
-    ghost invariant = { λ k. AreKeptOnce k.spans.items k.owners.items k.keepers.items k.last };
+    ghost invariant = { λ k. AreKeptOnce k.spans.items k.owners.items k.keepers k.last k.from };
 }
 
 /// Whether two lists of ranges are the same.
@@ -53,61 +57,88 @@ impl KeptRanges {
         KeptRanges {
             spans: Vec::new(alloc),
             owners: Vec::new(alloc),
-            keepers: Vec::new(alloc),
+            keepers: Keepers::new(alloc),
             last: 0,
+            from: 0,
         }
     }
 
-    /// Whether the last unit announces a list.
-    fn has_last(&self, spans: &[Span]) -> bool
-        ensures { OnTrue result (IsLastList self.now spans.now) }
+    /// The keeper of a list, where it is the last that was kept.
+    fn keeper_of(&self, spans: &[Span]) -> Option<usize>
+        ensures { IfSome result (λ keeper. IsListOf self.now spans.now (Some keeper)) }
     {
-        if self.keepers.is_empty() {
-            return false;
+        if self.keepers.of_units.is_empty() || spans.is_empty() {
+            return None;
         }
-        are_same(&self.spans[self.last..], spans)
+        if are_same(&self.spans[self.from..], spans) {
+            Some(self.last)
+        } else {
+            None
+        }
     }
 
-    /// One unit more, which announces what the last one does.
-    pub fn again(mut self) -> Result<KeptRanges, AllocError>
-        requires { 0 < length self.keepers }
-        ensures { IfOk result (IsOnceMore self) }
+    /// One unit more, with the keeper of another one.
+    fn with_keeper(mut self, keeper: usize) -> Result<KeptRanges, AllocError>
+        requires { slice_get self.keepers keeper ≡ Some keeper }
+        ensures { IfOk result (IsOnceMore self (Some keeper)) }
     {
-        let keeper = self.keepers[self.keepers.len() - 1];
-        self.keepers.push(keeper)?;
+        let unit = self.keepers.of_units.len();
+        self.keepers.of_units.push(keeper)?;
+        self.keepers.ends.push(self.spans.len())?;
+        self.keepers.repeats.push(unit)?;
         Ok(self)
     }
 
     /// One unit more, with ranges of its own.
     fn with_list(mut self, spans: &[Span]) -> Result<KeptRanges, AllocError>
-        ensures { IfOk result (IsWithUnit self spans.now) }
+        ensures unit { IfOk result (IsWithUnit self spans.now) }
+        ensures keeper { IfOk result (λ k. IsListOf k spans.now (Some (length self.keepers))) }
     {
-        let unit = self.keepers.len();
-        let last = self.spans.len();
+        let unit = self.keepers.of_units.len();
+        let from = self.spans.len();
         self.spans.extend_from_slice(spans)?;
         own(&mut self.owners, unit, self.spans.len())?;
-        self.keepers.push(unit)?;
-        self.last = last;
+        self.keepers.of_units.push(unit)?;
+        self.keepers.ends.push(self.spans.len())?;
+        self.last = unit;
+        self.from = from;
         Ok(self)
     }
 
-    /// One unit more, which announces some ranges.
-    pub fn with_unit(self, spans: &[Span]) -> Result<KeptRanges, AllocError>
-        ensures { IfOk result (IsWithUnit self spans.now) }
+    /// One unit more, which announces what one with a keeper does, and nothing without one.
+    pub fn again(self, keeper: Option<usize>) -> Result<KeptRanges, AllocError>
+        requires { IfSome keeper (λ k. slice_get self.keepers k ≡ Some k) }
+        ensures { IfOk result (IsOnceMore self keeper) }
     {
-        if self.has_last(spans) {
-            self.again()
-        } else {
-            self.with_list(spans)
+        match keeper {
+            Some(keeper) => self.with_keeper(keeper),
+            None => self.with_list(&[]),
         }
     }
 
-    /// The ranges, for each the number of its keeper, and for each unit the number of its keeper.
-    pub fn into_parts(self) -> (Vec<Span>, Vec<usize>, Vec<usize>)
+    /// One unit more, which announces some ranges, and the keeper that it has where these are any.
+    pub fn with_unit(self, spans: &[Span]) -> Result<(KeptRanges, Option<usize>), AllocError>
+        ensures { IfOk result (IsWithKeeper self spans.now) }
+    {
+        let known = self.keeper_of(spans);
+        if known.is_some() {
+            let ranges = self.again(known)?;
+            return Ok((ranges, known));
+        }
+        let unit = self.keepers.of_units.len();
+        let ranges = self.with_list(spans)?;
+        if spans.is_empty() {
+            return Ok((ranges, None));
+        }
+        Ok((ranges, Some(unit)))
+    }
+
+    /// The ranges, for each the number of its keeper, and the keepers of units.
+    pub fn into_parts(self) -> (Vec<Span>, Vec<usize>, Keepers)
         ensures ranges { owned result.0.items result.1.items ≡ self.ranges }
-        ensures keepers { result.2.items ≡ self.keepers }
+        ensures keepers { result.2.of_units.items ≡ self.keepers }
         ensures same { length result.0.items ≡ length result.1.items }
-        ensures rows { AreInRows self.ranges self.keepers }
+        ensures are { AreKeepers self.ranges result.2 }
     {
         (self.spans, self.owners, self.keepers)
     }

@@ -1,9 +1,9 @@
 //! The units of a file that are kept, and the ranges that they announce.
-ghost use Rattle.std.specs.Prelude.{◌≡◌, ◌+◌, ◌++◌, ◌∷◌, [], None, length, IfOk};
+ghost use Rattle.std.specs.Prelude.{◌≡◌, ◌+◌, ◌++◌, ◌∷◌, [], length, IfOk};
 ghost use Rattle.blz_model.specs.Part.{Gives};
 ghost use Rattle.blz_info.specs.Marks.{or_invalid};
 ghost use Rattle.blz_units.specs.BuiltUnits.{files_view, IsReadable};
-ghost use Rattle.blz_units.specs.Keeping.{units_told, IsLastKey};
+ghost use Rattle.blz_units.specs.Keeping.{units_told, AreRoots};
 ghost use Rattle.blz_units.specs.KeptParts.{SideFits};
 ghost use Rattle.blz_units.specs.declared.built_units.Side.TheVariants.{File};
 ghost use Rattle.blz_units.specs.UnitLists.{EndBefore, IsInPlace};
@@ -14,7 +14,7 @@ use crate::announcing::{Announcement, announced};
 use crate::built_units::SideUnits;
 use crate::dwarf::Dwarf;
 use crate::kept_ranges::KeptRanges;
-use crate::root_key::RootKey;
+use crate::known_roots::KnownRoots;
 use crate::unit_list::UnitList;
 use blz_entry::{UnitHeader, UnitHeaders};
 use blz_error::Result;
@@ -26,8 +26,6 @@ use std::marker::Model;
 pub struct KeptUnits {
     kept: UnitList,
     ranges: KeptRanges,
-    /// What tells what the last unit announces, where its root does.
-    key: Option<RootKey>,
 }
 
 impl Model for KeptUnits {
@@ -36,7 +34,7 @@ impl Model for KeptUnits {
 
     ghost Value = { Keeping };
 
-    ghost view = { λ k. record { kept = k.kept; ranges = k.ranges; key = k.key } };
+    ghost view = { λ k. record { kept = k.kept; ranges = k.ranges } };
 
     ghost invariant = { λ k. length k.ranges.keepers ≡ length k.kept };
 }
@@ -46,27 +44,24 @@ fn keep(
     mut kept: UnitList,
     ranges: KeptRanges,
     header: UnitHeader,
-    key: Option<RootKey>,
 ) -> std::result::Result<KeptUnits, AllocError>
     requires in_place { IsInPlace header }
     requires behind { EndBefore kept header.start }
     requires count { length ranges.keepers ≡ length kept + 1 }
-    ensures { IfOk result (λ k. k ≡ record { kept = kept ++ header ∷ []; ranges = ranges; key = key }) }
+    ensures { IfOk result (λ k. k ≡ record { kept = kept ++ header ∷ []; ranges = ranges }) }
 {
     kept.push(header)?;
-    Ok(KeptUnits { kept, ranges, key })
+    Ok(KeptUnits { kept, ranges })
 }
 
 impl KeptUnits {
     #[tactic(auto, unfolding(crate::specs::Copies::copies))]
     fn new(alloc: Global) -> KeptUnits
         ensures told { units_told result ≡ no_units }
-        ensures key { result.key ≡ None }
     {
         KeptUnits {
             kept: UnitList::new(alloc),
             ranges: KeptRanges::new(alloc),
-            key: None,
         }
     }
 
@@ -77,37 +72,39 @@ impl KeptUnits {
         dwarf: &Dwarf<'_, '_>,
         sets: &AddressSets,
         built: &mut SideUnits,
+        roots: &mut KnownRoots,
         header: UnitHeader,
     ) -> Result<KeptUnits>
         requires readable { IsReadable dwarf.now }
         requires in_place { IsInPlace header }
         requires behind { EndBefore self.kept header.start }
-        requires last { IsLastKey (files_view dwarf.now).main self }
+        requires known { AreRoots (files_view dwarf.now).main self.ranges roots.old }
         requires fits { SideFits (files_view dwarf.now) File self.kept built.old }
         ensures value { Gives units_told result (or_invalid (with_unit (files_view dwarf.now).main sets.now (units_told self) header)) }
         ensures behind { IfOk result (λ k. EndBefore k.kept header.end) }
-        ensures last { IfOk result (IsLastKey (files_view dwarf.now).main) }
+        ensures known { IfOk result (λ k. AreRoots (files_view dwarf.now).main k.ranges roots.new) }
         ensures fits { IfOk result (λ k. SideFits (files_view dwarf.now) File k.kept built.new) }
     {
-        let KeptUnits { kept, ranges, key } = self;
-        let told = announced(alloc, dwarf, sets, &mut built.shared, &header, key)?;
+        let KeptUnits { kept, ranges } = self;
+        let told = announced(alloc, dwarf, sets, &mut built.shared, &header, roots)?;
         match told {
-            Announcement::NotKept => Ok(KeptUnits { kept, ranges, key }),
-            Announcement::Again(unit) => {
-                let ranges = ranges.again()?;
+            Announcement::NotKept => Ok(KeptUnits { kept, ranges }),
+            Announcement::Again(unit, keeper) => {
+                let ranges = ranges.again(keeper)?;
                 built.units.push(unit)?;
-                Ok(keep(kept, ranges, header, key)?)
+                Ok(keep(kept, ranges, header)?)
             },
             Announcement::Ranges(spans, unit, key) => {
-                let ranges = ranges.with_unit(spans.as_slice())?;
+                let (ranges, keeper) = ranges.with_unit(spans.as_slice())?;
+                roots.note(key, keeper)?;
                 built.units.push(unit)?;
-                Ok(keep(kept, ranges, header, key)?)
+                Ok(keep(kept, ranges, header)?)
             },
         }
     }
 
     /// Reads the headers of all units, each with what it announces. Those that had to be built for that are given too.
-    #[tactic(auto, using(crate::proofs::BuiltSteps::none_built))]
+    #[tactic(auto, using(crate::proofs::BuiltSteps::none_built, crate::proofs::KeepSteps::none_known))]
     pub fn read(
         alloc: Global,
         dwarf: &Dwarf<'_, '_>,
@@ -120,8 +117,9 @@ impl KeptUnits {
         let mut headers = UnitHeaders::new(dwarf.main.info);
         let mut units = KeptUnits::new(alloc);
         let mut built = SideUnits::new(alloc);
+        let mut roots = KnownRoots::new(alloc);
         while let Some(header) = headers.next_header()? {
-            units = units.with_unit(alloc, dwarf, sets, &mut built, header)?;
+            units = units.with_unit(alloc, dwarf, sets, &mut built, &mut roots, header)?;
         }
         Ok((units, built))
     }

@@ -3,7 +3,7 @@ ghost use Rattle.std.specs.Prelude.{◌≡◌};
 ghost use Rattle.std.specs.Bool.{OnTrue};
 ghost use Rattle.blz_entry.specs.RangeLists.{bounds_of, not_empty};
 ghost use Rattle.blz_functions.specs.Opened.{open_view};
-ghost use Rattle.blz_units.specs.RootKeys.{list_key, program_key, ranges_key, IsToldBy, IsToldByLast};
+ghost use Rattle.blz_units.specs.RootKeys.{list_key, program_key, ranges_key, IsToldBy};
 
 use crate::shared_lines::{LinesKey, lines_key};
 use blz_entry::{RangeAttributes, Span};
@@ -163,8 +163,40 @@ impl RangesKey {
     }
 }
 
+/// Where what tells the ranges of a root is sought.
+fn ranges_place(ranges: RangesKey) -> (u64, u64) {
+    match ranges {
+        RangesKey::Listed(list) => (list.offset, list.low_pc ^ list.addr_base),
+        RangesKey::Bounded(bounds) => match bounds {
+            Some(span) => (span.begin, span.end),
+            None => (0, 0),
+        },
+    }
+}
+
+/// The same with a line program.
+fn program_place(ranges: RangesKey, program: Option<ProgramKey>) -> (u64, u64) {
+    let place = ranges_place(ranges);
+    match program {
+        Some(program) => (
+            place.0 ^ program.offset,
+            place.1 ^ program.lines.str_offsets_base,
+        ),
+        None => place,
+    }
+}
+
 impl RootKey {
-    fn is_of(self, unit: &OpenUnit<'_, '_>) -> bool
+    /// Where a key is sought. What is found there is asked whether it is the key.
+    pub fn place(self) -> (u64, u64) {
+        match self {
+            RootKey::ByRanges(ranges) => ranges_place(ranges),
+            RootKey::ByLines(ranges, program) => program_place(ranges, program),
+        }
+    }
+
+    /// Whether a unit has a key.
+    pub fn is_of(self, unit: &OpenUnit<'_, '_>) -> bool
         ensures { OnTrue result (IsToldBy self (open_view unit.now)) }
     {
         match self {
@@ -176,15 +208,5 @@ impl RootKey {
                 false
             },
         }
-    }
-}
-
-/// Whether a unit announces what a key tells that is kept of the last one.
-pub fn is_of_last(last: Option<RootKey>, unit: &OpenUnit<'_, '_>) -> bool
-    ensures { OnTrue result (IsToldByLast last (open_view unit.now)) }
-{
-    match last {
-        Some(key) => key.is_of(unit),
-        None => false,
     }
 }

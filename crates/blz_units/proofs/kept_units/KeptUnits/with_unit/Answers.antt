@@ -3,13 +3,13 @@ use Rattle.std.proofs.lemmas.Result.{err_from_is_err_and}
 use Rattle.blz_info.specs.Marks.{or_invalid}
 use Rattle.blz_ranges.specs.declared.span.Span.{Span}
 use Rattle.blz_units.specs.BuiltUnits.{files_view}
-use Rattle.blz_units.specs.Copies.{IsWithUnit}
+use Rattle.blz_units.specs.Copies.{IsWithKeeper}
 use Rattle.blz_units.specs.KeptParts.{SideFits}
-use Rattle.blz_units.specs.Keeping.{Keeping, units_told}
+use Rattle.blz_units.specs.Keeping.{Keeping, units_told, AreRoots}
 use Rattle.blz_units.specs.UnitTables.{announces, with_unit}
 use Rattle.blz_units.specs.declared.built_units.Side.TheVariants.{File}
 use Rattle.blz_units.proofs.BuiltSteps.{side_more, side_same}
-use Rattle.blz_units.proofs.KeepSteps.{again_next, kept_fails, kept_same, more_behind, next_key, next_more, same_behind, some_kept, view_behind, IsNext}
+use Rattle.blz_units.proofs.KeepSteps.{again_keeper, again_next, kept_fails, kept_same, more_behind, next_more, root_noted, roots_stay, same_behind, view_behind, IsNext}
 use Rattle.blz_units.proofs.kept_units.KeptUnits.with_unit.Goals as goal
 
 pub returns-in_err-told-clause-value : goal.returns-in_err-told-clause-value
@@ -27,7 +27,7 @@ returns-in-NotKept-clause-value c =
     rw (← c.self.view_is) (ap or_invalid (kept_same _ c.args.header _ is))
 
 pub returns-in-NotKept-clause-behind : goal.returns-in-NotKept-clause-behind
-returns-in-NotKept-clause-behind c = same_behind c.args.self (record { kept = c.self.inside.kept; ranges = c.self.inside.ranges; key = c.self.inside.key }) c.self.view_is c.args.header c.requires.behind c.requires.in_place
+returns-in-NotKept-clause-behind c = same_behind c.args.self (record { kept = c.self.inside.kept; ranges = c.self.inside.ranges }) c.self.view_is c.args.header c.requires.behind c.requires.in_place
 
 pub returns-in-NotKept-clause-fits : goal.returns-in-NotKept-clause-fits
 returns-in-NotKept-clause-fits c =
@@ -35,17 +35,17 @@ returns-in-NotKept-clause-fits c =
     let before = subst (λ (k : Keeping). SideFits f File k.kept c.args.built.now) (sym c.self.view_is) c.requires.fits in
     side_same f c.self.inside.kept c.args.built.now _ refl refl c.announced.ensures.shared before
 
--- ---- a unit that announces what the last one does
+-- ---- a unit with a key that was met
 
 pub again-requires : goal.again-requires
-again-requires c = some_kept (files_view c.args.dwarf.now).main c.args.self (record { kept = c.self.inside.kept; ranges = c.self.inside.ranges; key = c.self.inside.key }) c.self.view_is c.requires.last (announces (files_view c.args.dwarf.now).main c.args.sets.now c.args.header) (rw c.in-Again.is at c.in_ok-told.ensures.told)
+again-requires c = again_keeper (files_view c.args.dwarf.now).main c.self.inside.ranges c.args.roots.now (subst (λ (k : Keeping). AreRoots (files_view c.args.dwarf.now).main k.ranges c.args.roots.now) (sym c.self.view_is) c.requires.known) c.in-Again.keeper (announces (files_view c.args.dwarf.now).main c.args.sets.now c.args.header) (rw c.in-Again.is at c.in_ok-told.ensures.told)
 
 pub keep-requires-clause-behind : goal.keep-requires-clause-behind
-keep-requires-clause-behind c = view_behind c.args.self (record { kept = c.self.inside.kept; ranges = c.self.inside.ranges; key = c.self.inside.key }) c.self.view_is c.args.header c.requires.behind c.requires.in_place
+keep-requires-clause-behind c = view_behind c.args.self (record { kept = c.self.inside.kept; ranges = c.self.inside.ranges }) c.self.view_is c.args.header c.requires.behind c.requires.in_place
 
 pub keep-requires-clause-count : goal.keep-requires-clause-count
 keep-requires-clause-count c =
-    let next : IsNext (files_view c.args.dwarf.now).main c.self.inside.ranges c.in_ok-ranges-in-Again.ranges c.self.inside.key (announces (files_view c.args.dwarf.now).main c.args.sets.now c.args.header) = again_next (files_view c.args.dwarf.now).main c.args.self (record { kept = c.self.inside.kept; ranges = c.self.inside.ranges; key = c.self.inside.key }) c.self.view_is c.requires.last (announces (files_view c.args.dwarf.now).main c.args.sets.now c.args.header) (rw c.in-Again.is at c.in_ok-told.ensures.told) c.in_ok-ranges-in-Again.ranges c.in_ok-ranges-in-Again.ensures in
+    let next : IsNext c.self.inside.ranges c.in_ok-ranges-in-Again.ranges (announces (files_view c.args.dwarf.now).main c.args.sets.now c.args.header) = again_next (files_view c.args.dwarf.now).main c.self.inside.ranges c.args.roots.now (subst (λ (k : Keeping). AreRoots (files_view c.args.dwarf.now).main k.ranges c.args.roots.now) (sym c.self.view_is) c.requires.known) c.in-Again.keeper (announces (files_view c.args.dwarf.now).main c.args.sets.now c.args.header) (rw c.in-Again.is at c.in_ok-told.ensures.told) c.in_ok-ranges-in-Again.ranges c.in_ok-ranges-in-Again.ensures in
     let count = next.with_unit.count in
     let same = c.self.invariant in
     omega arith
@@ -53,16 +53,16 @@ keep-requires-clause-count c =
 pub returns-in_ok-keep-in-Again-clause-value : goal.returns-in_ok-keep-in-Again-clause-value
 unfolding with_unit
 returns-in_ok-keep-in-Again-clause-value c =
-    let next : IsNext (files_view c.args.dwarf.now).main c.self.inside.ranges c.in_ok-ranges-in-Again.ranges c.self.inside.key (announces (files_view c.args.dwarf.now).main c.args.sets.now c.args.header) = again_next (files_view c.args.dwarf.now).main c.args.self (record { kept = c.self.inside.kept; ranges = c.self.inside.ranges; key = c.self.inside.key }) c.self.view_is c.requires.last (announces (files_view c.args.dwarf.now).main c.args.sets.now c.args.header) (rw c.in-Again.is at c.in_ok-told.ensures.told) c.in_ok-ranges-in-Again.ranges c.in_ok-ranges-in-Again.ensures in
-    rw (← c.self.view_is, c.in_ok-keep-in-Again.ensures) (ap or_invalid (next_more (files_view c.args.dwarf.now).main (record { kept = c.self.inside.kept; ranges = c.self.inside.ranges; key = c.self.inside.key }) c.args.header c.in_ok-ranges-in-Again.ranges c.self.inside.key (announces (files_view c.args.dwarf.now).main c.args.sets.now c.args.header) c.self.invariant next))
+    let next : IsNext c.self.inside.ranges c.in_ok-ranges-in-Again.ranges (announces (files_view c.args.dwarf.now).main c.args.sets.now c.args.header) = again_next (files_view c.args.dwarf.now).main c.self.inside.ranges c.args.roots.now (subst (λ (k : Keeping). AreRoots (files_view c.args.dwarf.now).main k.ranges c.args.roots.now) (sym c.self.view_is) c.requires.known) c.in-Again.keeper (announces (files_view c.args.dwarf.now).main c.args.sets.now c.args.header) (rw c.in-Again.is at c.in_ok-told.ensures.told) c.in_ok-ranges-in-Again.ranges c.in_ok-ranges-in-Again.ensures in
+    rw (← c.self.view_is, c.in_ok-keep-in-Again.ensures) (ap or_invalid (next_more (record { kept = c.self.inside.kept; ranges = c.self.inside.ranges }) c.args.header c.in_ok-ranges-in-Again.ranges (announces (files_view c.args.dwarf.now).main c.args.sets.now c.args.header) c.self.invariant next))
 
 pub returns-in_ok-keep-in-Again-clause-behind : goal.returns-in_ok-keep-in-Again-clause-behind
-returns-in_ok-keep-in-Again-clause-behind c = more_behind c.args.self (record { kept = c.self.inside.kept; ranges = c.self.inside.ranges; key = c.self.inside.key }) c.self.view_is c.args.header c.requires.behind c.requires.in_place c.in_ok-keep-in-Again.field-0 c.in_ok-ranges-in-Again.ranges c.self.inside.key c.in_ok-keep-in-Again.ensures
+returns-in_ok-keep-in-Again-clause-behind c = more_behind c.args.self (record { kept = c.self.inside.kept; ranges = c.self.inside.ranges }) c.self.view_is c.args.header c.requires.behind c.requires.in_place c.in_ok-keep-in-Again.field-0 c.in_ok-ranges-in-Again.ranges c.in_ok-keep-in-Again.ensures
 
-pub returns-in_ok-keep-in-Again-clause-last : goal.returns-in_ok-keep-in-Again-clause-last
-returns-in_ok-keep-in-Again-clause-last c =
-    let next : IsNext (files_view c.args.dwarf.now).main c.self.inside.ranges c.in_ok-ranges-in-Again.ranges c.self.inside.key (announces (files_view c.args.dwarf.now).main c.args.sets.now c.args.header) = again_next (files_view c.args.dwarf.now).main c.args.self (record { kept = c.self.inside.kept; ranges = c.self.inside.ranges; key = c.self.inside.key }) c.self.view_is c.requires.last (announces (files_view c.args.dwarf.now).main c.args.sets.now c.args.header) (rw c.in-Again.is at c.in_ok-told.ensures.told) c.in_ok-ranges-in-Again.ranges c.in_ok-ranges-in-Again.ensures in
-    rw c.in_ok-keep-in-Again.ensures (next_key (files_view c.args.dwarf.now).main c.self.inside.ranges c.in_ok-ranges-in-Again.ranges c.self.inside.key (announces (files_view c.args.dwarf.now).main c.args.sets.now c.args.header) next)
+pub returns-in_ok-keep-in-Again-clause-known : goal.returns-in_ok-keep-in-Again-clause-known
+returns-in_ok-keep-in-Again-clause-known c =
+    let next : IsNext c.self.inside.ranges c.in_ok-ranges-in-Again.ranges (announces (files_view c.args.dwarf.now).main c.args.sets.now c.args.header) = again_next (files_view c.args.dwarf.now).main c.self.inside.ranges c.args.roots.now (subst (λ (k : Keeping). AreRoots (files_view c.args.dwarf.now).main k.ranges c.args.roots.now) (sym c.self.view_is) c.requires.known) c.in-Again.keeper (announces (files_view c.args.dwarf.now).main c.args.sets.now c.args.header) (rw c.in-Again.is at c.in_ok-told.ensures.told) c.in_ok-ranges-in-Again.ranges c.in_ok-ranges-in-Again.ensures in
+    rw c.in_ok-keep-in-Again.ensures (roots_stay (files_view c.args.dwarf.now).main c.self.inside.ranges c.in_ok-ranges-in-Again.ranges c.args.roots.now (announces (files_view c.args.dwarf.now).main c.args.sets.now c.args.header) next (subst (λ (k : Keeping). AreRoots (files_view c.args.dwarf.now).main k.ranges c.args.roots.now) (sym c.self.view_is) c.requires.known))
 
 pub returns-in_ok-keep-in-Again-clause-fits : goal.returns-in_ok-keep-in-Again-clause-fits
 returns-in_ok-keep-in-Again-clause-fits c =
@@ -73,12 +73,13 @@ returns-in_ok-keep-in-Again-clause-fits c =
 -- ---- a unit with ranges of its own
 
 pub keep-requires-in-Ranges-clause-behind : goal.keep-requires-in-Ranges-clause-behind
-keep-requires-in-Ranges-clause-behind c = view_behind c.args.self (record { kept = c.self.inside.kept; ranges = c.self.inside.ranges; key = c.self.inside.key }) c.self.view_is c.args.header c.requires.behind c.requires.in_place
+keep-requires-in-Ranges-clause-behind c = view_behind c.args.self (record { kept = c.self.inside.kept; ranges = c.self.inside.ranges }) c.self.view_is c.args.header c.requires.behind c.requires.in_place
 
 pub keep-requires-in-Ranges-clause-count : goal.keep-requires-in-Ranges-clause-count
 keep-requires-in-Ranges-clause-count c =
     let told = rw c.in-Ranges.is at c.in_ok-told.ensures.told in
-    let next : IsNext (files_view c.args.dwarf.now).main c.self.inside.ranges c.in_ok-ranges-in-Ranges.ranges c.in-Ranges.key (announces (files_view c.args.dwarf.now).main c.args.sets.now c.args.header) = record { spans = c.in-Ranges.spans.items; is = told.0; with_unit = subst (λ (l : List Span). IsWithUnit c.self.inside.ranges l c.in_ok-ranges-in-Ranges.ranges) c.as_slice.ensures.value c.in_ok-ranges-in-Ranges.ensures; are = told.1 } in
+    let more = subst (λ (l : List Span). IsWithKeeper c.self.inside.ranges l (c.in_ok-ranges-in-Ranges.ranges, c.in_ok-ranges-in-Ranges.keeper)) c.as_slice.ensures.value c.in_ok-ranges-in-Ranges.ensures in
+    let next : IsNext c.self.inside.ranges c.in_ok-ranges-in-Ranges.ranges (announces (files_view c.args.dwarf.now).main c.args.sets.now c.args.header) = record { spans = c.in-Ranges.spans.items; is = told.0; with_unit = more.with_unit } in
     let count = next.with_unit.count in
     let same = c.self.invariant in
     omega arith
@@ -87,17 +88,21 @@ pub returns-in_ok-keep-in-Ranges-clause-value : goal.returns-in_ok-keep-in-Range
 unfolding with_unit
 returns-in_ok-keep-in-Ranges-clause-value c =
     let told = rw c.in-Ranges.is at c.in_ok-told.ensures.told in
-    let next : IsNext (files_view c.args.dwarf.now).main c.self.inside.ranges c.in_ok-ranges-in-Ranges.ranges c.in-Ranges.key (announces (files_view c.args.dwarf.now).main c.args.sets.now c.args.header) = record { spans = c.in-Ranges.spans.items; is = told.0; with_unit = subst (λ (l : List Span). IsWithUnit c.self.inside.ranges l c.in_ok-ranges-in-Ranges.ranges) c.as_slice.ensures.value c.in_ok-ranges-in-Ranges.ensures; are = told.1 } in
-    rw (← c.self.view_is, c.in_ok-keep-in-Ranges.ensures) (ap or_invalid (next_more (files_view c.args.dwarf.now).main (record { kept = c.self.inside.kept; ranges = c.self.inside.ranges; key = c.self.inside.key }) c.args.header c.in_ok-ranges-in-Ranges.ranges c.in-Ranges.key (announces (files_view c.args.dwarf.now).main c.args.sets.now c.args.header) c.self.invariant next))
+    let more = subst (λ (l : List Span). IsWithKeeper c.self.inside.ranges l (c.in_ok-ranges-in-Ranges.ranges, c.in_ok-ranges-in-Ranges.keeper)) c.as_slice.ensures.value c.in_ok-ranges-in-Ranges.ensures in
+    let next : IsNext c.self.inside.ranges c.in_ok-ranges-in-Ranges.ranges (announces (files_view c.args.dwarf.now).main c.args.sets.now c.args.header) = record { spans = c.in-Ranges.spans.items; is = told.0; with_unit = more.with_unit } in
+    rw (← c.self.view_is, c.in_ok-keep-in-Ranges.ensures) (ap or_invalid (next_more (record { kept = c.self.inside.kept; ranges = c.self.inside.ranges }) c.args.header c.in_ok-ranges-in-Ranges.ranges (announces (files_view c.args.dwarf.now).main c.args.sets.now c.args.header) c.self.invariant next))
 
 pub returns-in_ok-keep-in-Ranges-clause-behind : goal.returns-in_ok-keep-in-Ranges-clause-behind
-returns-in_ok-keep-in-Ranges-clause-behind c = more_behind c.args.self (record { kept = c.self.inside.kept; ranges = c.self.inside.ranges; key = c.self.inside.key }) c.self.view_is c.args.header c.requires.behind c.requires.in_place c.in_ok-keep-in-Ranges.field-0 c.in_ok-ranges-in-Ranges.ranges c.in-Ranges.key c.in_ok-keep-in-Ranges.ensures
+returns-in_ok-keep-in-Ranges-clause-behind c = more_behind c.args.self (record { kept = c.self.inside.kept; ranges = c.self.inside.ranges }) c.self.view_is c.args.header c.requires.behind c.requires.in_place c.in_ok-keep-in-Ranges.field-0 c.in_ok-ranges-in-Ranges.ranges c.in_ok-keep-in-Ranges.ensures
 
-pub returns-in_ok-keep-in-Ranges-clause-last : goal.returns-in_ok-keep-in-Ranges-clause-last
-returns-in_ok-keep-in-Ranges-clause-last c =
+pub returns-in_ok-keep-in-Ranges-clause-known : goal.returns-in_ok-keep-in-Ranges-clause-known
+returns-in_ok-keep-in-Ranges-clause-known c =
     let told = rw c.in-Ranges.is at c.in_ok-told.ensures.told in
-    let next : IsNext (files_view c.args.dwarf.now).main c.self.inside.ranges c.in_ok-ranges-in-Ranges.ranges c.in-Ranges.key (announces (files_view c.args.dwarf.now).main c.args.sets.now c.args.header) = record { spans = c.in-Ranges.spans.items; is = told.0; with_unit = subst (λ (l : List Span). IsWithUnit c.self.inside.ranges l c.in_ok-ranges-in-Ranges.ranges) c.as_slice.ensures.value c.in_ok-ranges-in-Ranges.ensures; are = told.1 } in
-    rw c.in_ok-keep-in-Ranges.ensures (next_key (files_view c.args.dwarf.now).main c.self.inside.ranges c.in_ok-ranges-in-Ranges.ranges c.in-Ranges.key (announces (files_view c.args.dwarf.now).main c.args.sets.now c.args.header) next)
+    let more = subst (λ (l : List Span). IsWithKeeper c.self.inside.ranges l (c.in_ok-ranges-in-Ranges.ranges, c.in_ok-ranges-in-Ranges.keeper)) c.as_slice.ensures.value c.in_ok-ranges-in-Ranges.ensures in
+    let next : IsNext c.self.inside.ranges c.in_ok-ranges-in-Ranges.ranges (announces (files_view c.args.dwarf.now).main c.args.sets.now c.args.header) = record { spans = c.in-Ranges.spans.items; is = told.0; with_unit = more.with_unit } in
+    let before = roots_stay (files_view c.args.dwarf.now).main c.self.inside.ranges c.in_ok-ranges-in-Ranges.ranges c.args.roots.now (announces (files_view c.args.dwarf.now).main c.args.sets.now c.args.header) next (subst (λ (k : Keeping). AreRoots (files_view c.args.dwarf.now).main k.ranges c.args.roots.now) (sym c.self.view_is) c.requires.known) in
+    let noted = root_noted (files_view c.args.dwarf.now).main c.self.inside.ranges c.in-Ranges.spans.items (c.in_ok-ranges-in-Ranges.ranges, c.in_ok-ranges-in-Ranges.keeper) c.in-Ranges.key more told.1 in
+    rw c.in_ok-keep-in-Ranges.ensures (c.in_ok-note-in-Ranges.ensures (files_view c.args.dwarf.now).main c.in_ok-ranges-in-Ranges.ranges before noted)
 
 pub returns-in_ok-keep-in-Ranges-clause-fits : goal.returns-in_ok-keep-in-Ranges-clause-fits
 returns-in_ok-keep-in-Ranges-clause-fits c =

@@ -1,0 +1,76 @@
+//! What is known of units by the keys of their roots, while they are read.
+ghost use Rattle.std.specs.Prelude.{◌≡◌, IfSome, IfOk, Option};
+ghost use Rattle.std.specs.BTreeMap.{IsEmpty};
+ghost use Rattle.blz_functions.specs.Opened.{open_view};
+ghost use Rattle.blz_info.specs.FileSections.{FileSections};
+ghost use Rattle.blz_units.specs.Copies.{KeptRanges};
+ghost use Rattle.blz_units.specs.Keeping.{AreRoots, IsKnown, IsRootOf};
+ghost use Rattle.blz_units.specs.RootKeys.{IsToldBy};
+
+use crate::root_key::{RootKey, program_key, ranges_key};
+use blz_functions::OpenUnit;
+use std::alloc::{AllocError, Global};
+use std::collections::BTreeMap;
+
+/// A key, with the keeper of the units that have it; none where they announce nothing.
+#[derive(Clone, Copy)]
+pub struct KnownRoot {
+    pub key: RootKey,
+    pub keeper: Option<usize>,
+}
+
+/// The keys that were met.
+#[derive(Drop)]
+pub struct KnownRoots {
+    pub roots: BTreeMap<(u64, u64), KnownRoot>,
+}
+
+impl KnownRoots {
+    /// None; takes no memory.
+    pub fn new(alloc: Global) -> KnownRoots
+        ensures { IsEmpty result.roots }
+    {
+        KnownRoots {
+            roots: BTreeMap::new(alloc),
+        }
+    }
+
+    /// What is known by a key, where it is that of a unit.
+    fn by_key(&self, key: RootKey, unit: &OpenUnit<'_, '_>) -> Option<KnownRoot>
+        ensures { IfSome result (λ known. IsKnown self.now known × IsToldBy known.key (open_view unit.now)) }
+    {
+        match self.roots.get(&key.place()) {
+            Some(known) => if known.key.is_of(unit) {
+                Some(*known)
+            } else {
+                None
+            },
+            None => None,
+        }
+    }
+
+    /// What is known by the key of a unit.
+    pub fn of_unit(&self, unit: &OpenUnit<'_, '_>) -> Option<KnownRoot>
+        ensures { IfSome result (λ known. IsKnown self.now known × IsToldBy known.key (open_view unit.now)) }
+    {
+        let ranges = ranges_key(unit);
+        let known = self.by_key(RootKey::ByRanges(ranges), unit);
+        if known.is_some() {
+            return known;
+        }
+        self.by_key(RootKey::ByLines(ranges, program_key(unit)), unit)
+    }
+
+    /// Notes one more, where there is a key.
+    pub fn note(&mut self, key: Option<RootKey>, keeper: Option<usize>) -> Result<(), AllocError>
+        ensures { IfOk result (λ _. (s : FileSections) (ranges : KeptRanges) → AreRoots s ranges self.old → IfSome key (λ k. IsRootOf s ranges (record { key = k; keeper = keeper })) → AreRoots s ranges self.new) }
+    {
+        match key {
+            Some(key) => {
+                self.roots.insert(key.place(), KnownRoot { key, keeper })?;
+                Ok(())
+            },
+            None => Ok(()),
+        }
+    }
+}
