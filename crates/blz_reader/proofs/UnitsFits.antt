@@ -1,5 +1,5 @@
 -- What is filled stays filled.
-use Rattle.std.proofs.Common.{◌≡◌, ℕ, ◌<◌, ◌≤◌, false, List, length, Option, Some, None, refl, sym, ap, subst}
+use Rattle.std.proofs.Common.{◌≡◌, ℕ, ◌<◌, ◌≤◌, Bool, false, List, length, Option, Some, None, refl, sym, ap, ◌∙◌, subst}
 use Rattle.std.specs.List.{slice_get}
 use Rattle.std.specs.Prelude.{⊤}
 use Rattle.std.proofs.lemmas.Option.{slice_get_past}
@@ -45,38 +45,32 @@ full_past units k le = rw (slice_get_past units k le) none_full
 pub full_stays : (told : Told) (a b : List UnitCaches) (k : ℕ) → length a ≡ length b → UnitsGrowTo told a b → AreFull (slice_get a k) → AreFull (slice_get b k)
 full_stays told a b k same grows full = full_by told a b k (slice_get a k) (slice_get b k) same refl refl (grows k) full
 
--- nothing that is filled becomes unfilled
+-- ---- nothing that is filled becomes unfilled
+
+grown : (told : Told) (a b : List UnitCaches) (k : ℕ) → UnitsGrowTo told a b → (x y : UnitCaches) → slice_get a k ≡ Some x → slice_get b k ≡ Some y → CachesGrow told (Some x) (Some y)
+grown told a b k grows x y is_a is_b = (rw (is_a, is_b) at grows k)
+
+part_by : {X : Type 0} (right : X → Type 0) (part : UnitCaches → Cache X) (lacks : Option UnitCaches → Bool) (a b : List UnitCaches) (k : ℕ) (o p : Option UnitCaches) → slice_get a k ≡ o → slice_get b k ≡ p → length a ≡ length b
+    → lacks None ≡ false → ((c : UnitCaches) → lacks (Some c) ≡ is_empty (part c)) → ((x y : UnitCaches) → o ≡ Some x → p ≡ Some y → Made right (part x) (part y)) → lacks o ≡ false → lacks p ≡ false
+part_by right part lacks a b k o None is_a is_b same none test made e = none
+part_by right part lacks a b k None (Some y) is_a is_b same none test made e = let past = none_both a b k same is_a in absurd cc
+part_by right part lacks a b k (Some x) (Some y) is_a is_b same none test made e = test y ∙ filled_stays right (part x) (part y) (made x y refl refl) (sym (test x) ∙ e)
+
+part_stays : {X : Type 0} (right : X → Type 0) (part : UnitCaches → Cache X) (lacks : Option UnitCaches → Bool) (a b : List UnitCaches) (k : ℕ) → length a ≡ length b
+    → lacks None ≡ false → ((c : UnitCaches) → lacks (Some c) ≡ is_empty (part c)) → ((x y : UnitCaches) → slice_get a k ≡ Some x → slice_get b k ≡ Some y → Made right (part x) (part y)) → lacks (slice_get a k) ≡ false → lacks (slice_get b k) ≡ false
+part_stays right part lacks a b k same none test made e = part_by right part lacks a b k (slice_get a k) (slice_get b k) refl refl same none test made e
+
 pub functions_stay : (told : Told) (a b : List UnitCaches) (k : ℕ) → length a ≡ length b → UnitsGrowTo told a b → lacks_functions (slice_get a k) ≡ false → lacks_functions (slice_get b k) ≡ false
-functions_stay told a b k same grows e = by (slice_get a k) (slice_get b k) refl refl (grows k) e
-  where
-    by : (o p : Option UnitCaches) → slice_get a k ≡ o → slice_get b k ≡ p → CachesGrow told o p → lacks_functions o ≡ false → lacks_functions p ≡ false
-    by o None is_a is_b g h = refl
-    by None (Some y) is_a is_b g h = let past = none_both a b k same is_a in absurd cc
-    by (Some x) (Some y) is_a is_b g h = filled_stays (AreOrdered told) x.functions y.functions g.functions h
+functions_stay told a b k same grows e = part_stays (AreOrdered told) (λ (c : UnitCaches). c.functions) lacks_functions a b k same refl (λ c. refl) (λ x y is_a is_b. (grown told a b k grows x y is_a is_b).functions) e
 
 pub root_stays : (told : Told) (a b : List UnitCaches) (k : ℕ) → length a ≡ length b → UnitsGrowTo told a b → lacks_root (slice_get a k) ≡ false → lacks_root (slice_get b k) ≡ false
-root_stays told a b k same grows e = by (slice_get a k) (slice_get b k) refl refl (grows k) e
-  where
-    by : (o p : Option UnitCaches) → slice_get a k ≡ o → slice_get b k ≡ p → CachesGrow told o p → lacks_root o ≡ false → lacks_root p ≡ false
-    by o None is_a is_b g h = refl
-    by None (Some y) is_a is_b g h = let past = none_both a b k same is_a in absurd cc
-    by (Some x) (Some y) is_a is_b g h = filled_stays (λ _. ⊤) x.root y.root g.root h
+root_stays told a b k same grows e = part_stays (λ _. ⊤) (λ (c : UnitCaches). c.root) lacks_root a b k same refl (λ c. refl) (λ x y is_a is_b. (grown told a b k grows x y is_a is_b).root) e
 
 pub lines_stay : (told : Told) (a b : List UnitCaches) (k : ℕ) → length a ≡ length b → UnitsGrowTo told a b → lacks_lines (slice_get a k) ≡ false → lacks_lines (slice_get b k) ≡ false
-lines_stay told a b k same grows e = by (slice_get a k) (slice_get b k) refl refl (grows k) e
-  where
-    by : (o p : Option UnitCaches) → slice_get a k ≡ o → slice_get b k ≡ p → CachesGrow told o p → lacks_lines o ≡ false → lacks_lines p ≡ false
-    by o None is_a is_b g h = refl
-    by None (Some y) is_a is_b g h = let past = none_both a b k same is_a in absurd cc
-    by (Some x) (Some y) is_a is_b g h = filled_stays (LinesOrdered told) x.lines y.lines g.lines h
+lines_stay told a b k same grows e = part_stays (LinesOrdered told) (λ (c : UnitCaches). c.lines) lacks_lines a b k same refl (λ c. refl) (λ x y is_a is_b. (grown told a b k grows x y is_a is_b).lines) e
 
 pub calls_stay : (told : Told) (a b : List UnitCaches) (k n : ℕ) → length a ≡ length b → UnitsGrowTo told a b → lacks_calls (slice_get a k) n ≡ false → lacks_calls (slice_get b k) n ≡ false
-calls_stay told a b k n same grows e = by (slice_get a k) (slice_get b k) refl refl (grows k) e
-  where
-    by : (o p : Option UnitCaches) → slice_get a k ≡ o → slice_get b k ≡ p → CachesGrow told o p → lacks_calls o n ≡ false → lacks_calls p n ≡ false
-    by o None is_a is_b g h = refl
-    by None (Some y) is_a is_b g h = let past = none_both a b k same is_a in absurd cc
-    by (Some x) (Some y) is_a is_b g h = filled_stays (CallsOrdered told) (call_cache x n) (call_cache y n) (g.calls n) h
+calls_stay told a b k n same grows e = part_stays (CallsOrdered told) (λ (c : UnitCaches). call_cache c n) (λ (o : Option UnitCaches). lacks_calls o n) a b k same refl (λ c. refl) (λ x y is_a is_b. (grown told a b k grows x y is_a is_b).calls n) e
 
 -- as many functions are kept as before
 pub count_stays : (told : Told) (a b : List UnitCaches) (k : ℕ) → length a ≡ length b → UnitsGrowTo told a b → lacks_functions (slice_get a k) ≡ false → functions_count (functions_at b k) ≡ functions_count (functions_at a k)
