@@ -48,7 +48,9 @@ full_stays told a b k same grows full = full_by told a b k (slice_get a k) (slic
 -- ---- nothing that is filled becomes unfilled
 
 grown : (told : Told) (a b : List UnitCaches) (k : ℕ) → UnitsGrowTo told a b → (x y : UnitCaches) → slice_get a k ≡ Some x → slice_get b k ≡ Some y → CachesGrow told (Some x) (Some y)
-grown told a b k grows x y is_a is_b = (rw (is_a, is_b) at grows k)
+grown told a b k grows x y is_a is_b =
+    let here : CachesGrow told (slice_get a k) (slice_get b k) = grows k in
+    (rw (is_a, is_b) at here)
 
 part_by : {X : Type 0} (right : X → Type 0) (part : UnitCaches → Cache X) (lacks : Option UnitCaches → Bool) (a b : List UnitCaches) (k : ℕ) (o p : Option UnitCaches) → slice_get a k ≡ o → slice_get b k ≡ p → length a ≡ length b
     → lacks None ≡ false → ((c : UnitCaches) → lacks (Some c) ≡ is_empty (part c)) → ((x y : UnitCaches) → o ≡ Some x → p ≡ Some y → Made right (part x) (part y)) → lacks o ≡ false → lacks p ≡ false

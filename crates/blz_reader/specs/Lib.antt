@@ -2,8 +2,10 @@ pub mod Linkage
 pub mod SiteViews
 pub mod Growing
 pub mod Readers
+pub mod Filling
 pub mod Following
 pub mod Linking
 pub mod Putting
 pub mod ShownFunctions
 pub mod UnitNames
+pub mod Listing

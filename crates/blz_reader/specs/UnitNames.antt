@@ -15,7 +15,9 @@ use Rattle.blz_units.specs.KeptAnswers.{kept_part, is_value}
 use Rattle.blz_units.specs.KeptParts.{functions_at, lists_view}
 use Rattle.blz_functions.specs.FunctionRanges.{FunctionRanges}
 use Rattle.blz_reader.specs.ShownFunctions.{Numbered, ShowsUnit}
-use Rattle.blz_units.specs.UnitAnswers.{first_called, in_unit}
+use Rattle.blz_units.specs.BuiltUnits.{Files}
+use Rattle.blz_units.specs.UnitAnswers.{first_called, in_unit, unit_functions}
+use Rattle.blz_units.specs.UnitTables.{UnitTable}
 
 -- the first function of a name in a unit
 abbrev pub called_in : Texts → List ℕ → Option AskedFunctions → Option (Option ℕ)
@@ -24,6 +26,10 @@ called_in texts name (Some l) = Some (first_called texts name l)
 
 abbrev pub called_by : Texts → List ℕ → FunctionRanges → Part (Option ℕ)
 called_by texts name x = Good (first_called texts name (lists_view x))
+
+-- the first function of a name in the unit of a number
+abbrev pub named_in : Texts → Files → UnitTable → List ℕ → ℕ → Option (Option ℕ)
+named_in texts f t name k = called_in texts name (unit_functions f t k)
 
 -- the same, by what is kept
 abbrev pub kept_called : Texts → List ℕ → List UnitCaches → ℕ → Part (Option ℕ)

@@ -1,24 +1,17 @@
 //! Questions to units, whose parts are read when they are first asked for.
-ghost use Rattle.std.specs.Prelude.{◌≡◌, ◌<◌, true, false, map, Option, option_map, IfOk, IfSome};
-ghost use Rattle.blz_model.specs.Kept.{Kept};
-ghost use Rattle.blz_model.specs.Part.{Part, Gives, all_good};
+ghost use Rattle.std.specs.Prelude.{◌≡◌, ◌<◌, IfOk, IfSome};
+ghost use Rattle.blz_model.specs.Part.{Gives};
 ghost use Rattle.blz_info.specs.Marks.{or_invalid};
-ghost use Rattle.blz_line.specs.Lookups.{location_view};
-ghost use Rattle.blz_units.specs.BuiltUnits.{IsReadable};
-ghost use Rattle.blz_reader.specs.Growing.{Told, UnitsGrowTo};
-ghost use Rattle.blz_units.specs.KeptParts.{functions_at, lacks_lines, AllFit};
-ghost use Rattle.blz_reader.specs.Readers.{reader_files, reader_table};
-ghost use Rattle.blz_reader.specs.SiteViews.{inlined_view};
-ghost use Rattle.blz_units.specs.UnitAnswers.{unit_language, unit_lines, best_function, function_at, covering_calls};
-ghost use Rattle.blz_units.specs.UnitSites.{line_in, location_at, call_name, call_site, inlined_by};
-ghost use Rattle.blz_units.specs.KeptAnswers.{is_value};
+ghost use Rattle.blz_reader.specs.Filling.{CanBeFilled, Fills, HasFunctions};
+ghost use Rattle.blz_reader.specs.Growing.{Told};
+ghost use Rattle.blz_reader.specs.Readers.{as_read, as_texts_tell};
+ghost use Rattle.blz_reader.specs.SiteViews.{site_view};
+ghost use Rattle.blz_units.specs.UnitAnswers.{unit_language, best_function, function_at};
+ghost use Rattle.blz_units.specs.UnitSites.{line_in, location_at};
 
 use crate::reader::Reader;
-use crate::sites::InlinedSite;
 use blz_bytes::{Orders, Steps};
-use blz_entry::{StrPlace, Texts, invalid};
 use blz_error::Result;
-use blz_functions::InlinedFunction;
 use blz_line::Location;
 use blz_model::SrcLang;
 use blz_units::caches::Caches;
@@ -29,11 +22,9 @@ use std::sync::ledger::{Blank, Ledger};
 impl<'r, 's, 'b> Reader<'r, 's, 'b> {
     /// The language of a unit.
     pub fn language(&self, caches: &mut Caches, number: usize) -> Result<SrcLang>
-        requires readable { IsReadable self.now.dwarf.now }
-        requires fits { AllFit (reader_files self.now) (reader_table self.now) caches.old }
-        ensures value { Gives (λ l. l) result (or_invalid (unit_language (reader_files self.now) (reader_table self.now) number)) }
-        ensures fits { AllFit (reader_files self.now) (reader_table self.now) caches.new }
-        ensures grows { (told : Told) → UnitsGrowTo told caches.old.units.items caches.new.units.items }
+        requires fillable { CanBeFilled self.now caches.old }
+        ensures value { Gives (λ l. l) result (or_invalid (as_read self.now unit_language number)) }
+        ensures fills { (told : Told) → Fills told self.now caches.old caches.new }
     {
         self.fill_root(caches, number)?;
         look::language_of(caches.units.as_slice(), number)
@@ -48,18 +39,18 @@ impl<'r, 's, 'b> Reader<'r, 's, 'b> {
         addr: u64,
         steps: &mut Steps<L>,
     ) -> Result<Option<usize>>
-        requires readable { IsReadable self.now.dwarf.now }
-        requires fits { AllFit (reader_files self.now) (reader_table self.now) caches.old }
-        ensures value { Gives (λ n. n) result (or_invalid (best_function (reader_files self.now) (reader_table self.now) addr number)) }
-        ensures there { IfOk result (λ _. is_value (functions_at caches.new.units.items number) ≡ true) }
-        ensures fits { AllFit (reader_files self.now) (reader_table self.now) caches.new }
-        ensures grows { UnitsGrowTo O.pair_places caches.old.units.items caches.new.units.items }
+        requires fillable { CanBeFilled self.now caches.old }
+        ensures value { Gives (λ n. n) result
+            (or_invalid (as_read self.now best_function addr number)) }
+        ensures there { IfOk result (λ _. HasFunctions caches.new number) }
+        ensures fills { Fills O.pair_places self.now caches.old caches.new }
     {
         self.fill_functions(orders, caches, number)?;
         look::function_at(caches.units.as_slice(), number, addr, steps)
     }
 
     /// The function of an address, of the units that announce it.
+    #[tactic(auto, using(crate::proofs::CacheSteps::fills_same))]
     pub fn find_function<O: Orders, L: Ledger>(
         &self,
         orders: &mut O,
@@ -70,12 +61,10 @@ impl<'r, 's, 'b> Reader<'r, 's, 'b> {
         requires name { blank.name ≡ L.name }
         requires parts { blank.parts ≡ L.parts }
         requires some { 0 < blank.parts }
-        requires readable { IsReadable self.now.dwarf.now }
-        requires fits { AllFit (reader_files self.now) (reader_table self.now) caches.old }
-        ensures value { Gives (λ r. r) result (or_invalid (function_at (reader_files self.now) (reader_table self.now) addr)) }
-        ensures there { IfOk result (λ r. IfSome r (λ r. is_value (functions_at caches.new.units.items r.0) ≡ true)) }
-        ensures fits { AllFit (reader_files self.now) (reader_table self.now) caches.new }
-        ensures grows { UnitsGrowTo O.pair_places caches.old.units.items caches.new.units.items }
+        requires fillable { CanBeFilled self.now caches.old }
+        ensures value { Gives (λ r. r) result (or_invalid (as_read self.now function_at addr)) }
+        ensures there { IfOk result (λ r. IfSome r (λ r. HasFunctions caches.new r.0)) }
+        ensures fills { Fills O.pair_places self.now caches.old caches.new }
     {
         let mut steps: Steps<L> = Steps::new(blank);
         let mut units = UnitsAt::new(&self.table.announced, addr);
@@ -100,17 +89,16 @@ impl<'r, 's, 'b> Reader<'r, 's, 'b> {
         number: usize,
         addr: u64,
     ) -> Result<Option<Location<'b>>>
-        requires readable { IsReadable self.now.dwarf.now }
-        requires fits { AllFit (reader_files self.now) (reader_table self.now) caches.old }
-        ensures value { Gives (λ o. option_map location_view o) result (line_in self.now.dwarf.now.texts (reader_files self.now) (reader_table self.now) addr number) }
-        ensures fits { AllFit (reader_files self.now) (reader_table self.now) caches.new }
-        ensures grows { UnitsGrowTo O.pair_places caches.old.units.items caches.new.units.items }
+        requires fillable { CanBeFilled self.now caches.old }
+        ensures value { Gives site_view result (as_texts_tell self.now line_in addr number) }
+        ensures fills { Fills O.pair_places self.now caches.old caches.new }
     {
         self.fill_lines(orders, caches, number)?;
         look::location_at(caches.units.as_slice(), &self.dwarf.texts, number, addr)
     }
 
     /// The place of an address in the sources, of the units that announce it.
+    #[tactic(auto, using(crate::proofs::CacheSteps::fills_same))]
     pub fn find_location<O: Orders, L: Ledger>(
         &self,
         orders: &mut O,
@@ -121,11 +109,9 @@ impl<'r, 's, 'b> Reader<'r, 's, 'b> {
         requires name { blank.name ≡ L.name }
         requires parts { blank.parts ≡ L.parts }
         requires some { 0 < blank.parts }
-        requires readable { IsReadable self.now.dwarf.now }
-        requires fits { AllFit (reader_files self.now) (reader_table self.now) caches.old }
-        ensures value { Gives (λ o. option_map location_view o) result (location_at self.now.dwarf.now.texts (reader_files self.now) (reader_table self.now) addr) }
-        ensures fits { AllFit (reader_files self.now) (reader_table self.now) caches.new }
-        ensures grows { UnitsGrowTo O.pair_places caches.old.units.items caches.new.units.items }
+        requires fillable { CanBeFilled self.now caches.old }
+        ensures value { Gives site_view result (as_texts_tell self.now location_at addr) }
+        ensures fills { Fills O.pair_places self.now caches.old caches.new }
     {
         let mut steps: Steps<L> = Steps::new(blank);
         let mut units = UnitsAt::new(&self.table.announced, addr);

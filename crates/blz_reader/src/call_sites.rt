@@ -1,15 +1,12 @@
 //! The inlined calls that cover an address, with their names and their places in the sources.
-ghost use Rattle.std.specs.Prelude.{◌≡◌, map, Option, Some, option_map};
+ghost use Rattle.std.specs.Prelude.{map, Some};
 ghost use Rattle.blz_model.specs.Part.{Gives, Exactly, all_good};
 ghost use Rattle.blz_info.specs.Marks.{or_invalid};
-ghost use Rattle.blz_line.specs.Lookups.{location_view};
-ghost use Rattle.blz_units.specs.BuiltUnits.{IsReadable};
-ghost use Rattle.blz_reader.specs.Growing.{UnitsGrowTo};
-ghost use Rattle.blz_units.specs.KeptParts.{AllFit};
-ghost use Rattle.blz_reader.specs.Readers.{reader_files, reader_table};
-ghost use Rattle.blz_reader.specs.SiteViews.{inlined_view};
-ghost use Rattle.blz_units.specs.UnitAnswers.{unit_lines, covering_calls};
-ghost use Rattle.blz_units.specs.UnitSites.{call_name, call_site, inlined_by, inlined_at};
+ghost use Rattle.blz_reader.specs.Filling.{CanBeFilled, Fills};
+ghost use Rattle.blz_reader.specs.Readers.{as_read, as_texts_tell};
+ghost use Rattle.blz_reader.specs.SiteViews.{inlined_read, inlined_view, site_read, site_view};
+ghost use Rattle.blz_units.specs.UnitAnswers.{covering_calls};
+ghost use Rattle.blz_units.specs.UnitSites.{call_name, inlined_at};
 
 use crate::reader::Reader;
 use crate::sites::{InlinedSite, InlinedSites};
@@ -45,11 +42,10 @@ impl<'r, 's, 'b> Reader<'r, 's, 'b> {
         function: usize,
         addr: u64,
     ) -> Result<Vec<InlinedFunction>>
-        requires readable { IsReadable self.now.dwarf.now }
-        requires fits { AllFit (reader_files self.now) (reader_table self.now) caches.old }
-        ensures value { Gives (λ v. v.items) result (or_invalid (covering_calls (reader_files self.now) (reader_table self.now) addr number function)) }
-        ensures fits { AllFit (reader_files self.now) (reader_table self.now) caches.new }
-        ensures grows { UnitsGrowTo O.pair_places caches.old.units.items caches.new.units.items }
+        requires fillable { CanBeFilled self.now caches.old }
+        ensures value { Gives (λ v. v.items) result
+            (or_invalid (as_read self.now covering_calls addr number function)) }
+        ensures fills { Fills O.pair_places self.now caches.old caches.new }
     {
         self.fill_calls(orders, caches, number, function)?;
         chain_at(self.alloc, caches.units.as_slice(), number, function, addr)
@@ -64,11 +60,9 @@ impl<'r, 's, 'b> Reader<'r, 's, 'b> {
         call: &InlinedFunction,
         file: u64,
     ) -> Result<Option<Location<'b>>>
-        requires readable { IsReadable self.now.dwarf.now }
-        requires fits { AllFit (reader_files self.now) (reader_table self.now) caches.old }
-        ensures value { Gives (λ o. option_map location_view o) result (call_site self.now.dwarf.now.texts (unit_lines (reader_files self.now) (reader_table self.now) number) call.now (Some file)) }
-        ensures fits { AllFit (reader_files self.now) (reader_table self.now) caches.new }
-        ensures grows { UnitsGrowTo O.pair_places caches.old.units.items caches.new.units.items }
+        requires fillable { CanBeFilled self.now caches.old }
+        ensures value { Gives site_view result (site_read self.now number call.now (Some file)) }
+        ensures fills { Fills O.pair_places self.now caches.old caches.new }
     {
         self.fill_lines(orders, caches, number)?;
         site_at(
@@ -81,7 +75,7 @@ impl<'r, 's, 'b> Reader<'r, 's, 'b> {
     }
 
     /// Where a call of a function of a unit stands in the sources.
-    #[tactic(auto, using(crate::proofs::CacheSteps::units_same))]
+    #[tactic(auto, using(crate::proofs::CacheSteps::fills_same))]
     fn site_of<O: Orders>(
         &self,
         orders: &mut O,
@@ -89,11 +83,10 @@ impl<'r, 's, 'b> Reader<'r, 's, 'b> {
         number: usize,
         call: &InlinedFunction,
     ) -> Result<Option<Location<'b>>>
-        requires readable { IsReadable self.now.dwarf.now }
-        requires fits { AllFit (reader_files self.now) (reader_table self.now) caches.old }
-        ensures value { Gives (λ o. option_map location_view o) result (call_site self.now.dwarf.now.texts (unit_lines (reader_files self.now) (reader_table self.now) number) call.now call.now.call_file) }
-        ensures fits { AllFit (reader_files self.now) (reader_table self.now) caches.new }
-        ensures grows { UnitsGrowTo O.pair_places caches.old.units.items caches.new.units.items }
+        requires fillable { CanBeFilled self.now caches.old }
+        ensures value { Gives site_view result
+            (site_read self.now number call.now call.now.call_file) }
+        ensures fills { Fills O.pair_places self.now caches.old caches.new }
     {
         match call.call_file {
             Some(file) => self.site_in(orders, caches, number, call, file),
@@ -102,7 +95,7 @@ impl<'r, 's, 'b> Reader<'r, 's, 'b> {
     }
 
     /// A call with its name and its place in the sources.
-    #[tactic(auto, unfolding(blz_units::specs::UnitSites::inlined_by))]
+    #[tactic(auto, using(crate::proofs::CacheSteps::fills_same), unfolding(blz_units::specs::UnitSites::inlined_by))]
     fn inlined<O: Orders>(
         &self,
         orders: &mut O,
@@ -110,11 +103,9 @@ impl<'r, 's, 'b> Reader<'r, 's, 'b> {
         number: usize,
         call: &InlinedFunction,
     ) -> Result<InlinedSite<'b>>
-        requires readable { IsReadable self.now.dwarf.now }
-        requires fits { AllFit (reader_files self.now) (reader_table self.now) caches.old }
-        ensures value { Gives inlined_view result (inlined_by self.now.dwarf.now.texts (unit_lines (reader_files self.now) (reader_table self.now) number) call.now) }
-        ensures fits { AllFit (reader_files self.now) (reader_table self.now) caches.new }
-        ensures grows { UnitsGrowTo O.pair_places caches.old.units.items caches.new.units.items }
+        requires fillable { CanBeFilled self.now caches.old }
+        ensures value { Gives inlined_view result (inlined_read self.now number call.now) }
+        ensures fills { Fills O.pair_places self.now caches.old caches.new }
     {
         let name = match call_name(&self.dwarf.texts, call.name) {
             Ok(name) => name,
@@ -127,6 +118,7 @@ impl<'r, 's, 'b> Reader<'r, 's, 'b> {
     }
 
     /// Some calls with their names and their places in the sources.
+    #[tactic(auto, using(crate::proofs::CacheSteps::fills_same))]
     fn inlined_each<O: Orders>(
         &self,
         orders: &mut O,
@@ -134,11 +126,10 @@ impl<'r, 's, 'b> Reader<'r, 's, 'b> {
         number: usize,
         calls: &[InlinedFunction],
     ) -> Result<InlinedSites<'b>>
-        requires readable { IsReadable self.now.dwarf.now }
-        requires fits { AllFit (reader_files self.now) (reader_table self.now) caches.old }
-        ensures value { Gives (λ s. s) result (all_good (map (inlined_by self.now.dwarf.now.texts (unit_lines (reader_files self.now) (reader_table self.now) number)) calls.now)) }
-        ensures fits { AllFit (reader_files self.now) (reader_table self.now) caches.new }
-        ensures grows { UnitsGrowTo O.pair_places caches.old.units.items caches.new.units.items }
+        requires fillable { CanBeFilled self.now caches.old }
+        ensures value { Gives (λ s. s) result
+            (all_good (map (inlined_read self.now number) calls.now)) }
+        ensures fills { Fills O.pair_places self.now caches.old caches.new }
     {
         let mut sites = Vec::new(self.alloc);
         for call in calls {
@@ -151,7 +142,7 @@ impl<'r, 's, 'b> Reader<'r, 's, 'b> {
     }
 
     /// The calls of a function that cover an address, with their names and their places in the sources.
-    #[tactic(auto, unfolding(blz_units::specs::UnitSites::inlined_at))]
+    #[tactic(auto, using(crate::proofs::CacheSteps::fills_same), unfolding(blz_units::specs::UnitSites::inlined_at))]
     pub fn find_inlined<O: Orders>(
         &self,
         orders: &mut O,
@@ -160,11 +151,10 @@ impl<'r, 's, 'b> Reader<'r, 's, 'b> {
         function: usize,
         addr: u64,
     ) -> Result<InlinedSites<'b>>
-        requires readable { IsReadable self.now.dwarf.now }
-        requires fits { AllFit (reader_files self.now) (reader_table self.now) caches.old }
-        ensures value { Gives (λ s. s) result (inlined_at self.now.dwarf.now.texts (reader_files self.now) (reader_table self.now) addr number function) }
-        ensures fits { AllFit (reader_files self.now) (reader_table self.now) caches.new }
-        ensures grows { UnitsGrowTo O.pair_places caches.old.units.items caches.new.units.items }
+        requires fillable { CanBeFilled self.now caches.old }
+        ensures value { Gives (λ s. s) result
+            (as_texts_tell self.now inlined_at addr number function) }
+        ensures fills { Fills O.pair_places self.now caches.old caches.new }
     {
         let calls = self.chain_in(orders, caches, number, function, addr)?;
         self.inlined_each(orders, caches, number, calls.as_slice())

@@ -1,14 +1,7 @@
 //! Calls of a function, read where they are not kept.
-ghost use Rattle.std.specs.Prelude.{◌≡◌, ◌<◌, true, IfOk};
-ghost use Rattle.blz_model.specs.Part.{Gives};
-ghost use Rattle.blz_info.specs.Marks.{or_invalid};
-ghost use Rattle.blz_line.specs.UnitLines.{OrderedLines};
-ghost use Rattle.blz_units.specs.BuiltUnits.{IsReadable};
-ghost use Rattle.blz_reader.specs.Growing.{UnitsGrowTo};
-ghost use Rattle.blz_units.specs.KeptAnswers.{calls_listed, calls_told, is_value};
-ghost use Rattle.blz_units.specs.KeptParts.{calls_at, AllFit};
-ghost use Rattle.blz_reader.specs.Readers.{reader_files, reader_table};
-ghost use Rattle.blz_units.specs.UnitAnswers.{function_calls};
+ghost use Rattle.std.specs.Prelude.{IfOk};
+ghost use Rattle.blz_reader.specs.Filling.{CanBeFilled, Fills, HasInlined};
+ghost use Rattle.blz_reader.specs.Listing.{ListsCalls};
 
 use crate::reader::Reader;
 use blz_bytes::Orders;
@@ -25,12 +18,10 @@ impl<'r, 's, 'b> Reader<'r, 's, 'b> {
         number: usize,
         function: usize,
     ) -> Result<()>
-        requires readable { IsReadable self.now.dwarf.now }
-        requires fits { AllFit (reader_files self.now) (reader_table self.now) caches.old }
-        ensures value { Gives (λ _. calls_told (calls_at caches.new.units.items number function)) result (or_invalid (calls_listed (function_calls (reader_files self.now) (reader_table self.now) number function))) }
-        ensures there { IfOk result (λ _. is_value (calls_at caches.new.units.items number function) ≡ true) }
-        ensures fits { AllFit (reader_files self.now) (reader_table self.now) caches.new }
-        ensures grows { UnitsGrowTo O.pair_places caches.old.units.items caches.new.units.items }
+        requires fillable { CanBeFilled self.now caches.old }
+        ensures value { ListsCalls self.now caches.new number function result }
+        ensures there { IfOk result (λ _. HasInlined caches.new number function) }
+        ensures fills { Fills O.pair_places self.now caches.old caches.new }
     {
         self.fill_calls(orders, caches, number, function)?;
         match look::calls_of(caches.units.as_slice(), number, function) {

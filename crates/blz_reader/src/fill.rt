@@ -1,16 +1,15 @@
 //! The parts of units, kept when they are first asked for.
-ghost use Rattle.std.specs.Prelude.{◌≡◌, ◌<◌, true, false, IfOk};
+ghost use Rattle.std.specs.Prelude.{◌≡◌, true, false, IfOk};
 ghost use Rattle.std.specs.List.{slice_get};
-ghost use Rattle.blz_model.specs.Kept.{Kept, is_kept};
 ghost use Rattle.blz_model.specs.Part.{Gives};
-ghost use Rattle.blz_model.specs.declared.cache.Cache.TheVariants.{Empty};
 ghost use Rattle.blz_info.specs.Marks.{or_invalid};
 ghost use Rattle.blz_functions.specs.AskedCalls.{asked_calls};
 ghost use Rattle.blz_units.specs.BuiltUnits.{IsReadable};
-ghost use Rattle.blz_reader.specs.Growing.{Told, Made, AreOrdered, LinesOrdered, CallsOrdered, UnitsGrowTo};
-ghost use Rattle.blz_units.specs.KeptParts.{unit_root, lists_view, lines_view, calls_view, lacks_root, lacks_functions, lacks_lines, lacks_calls, BuiltFit, PartsFit, AllFit};
-ghost use Rattle.blz_reader.specs.Readers.{reader_files, reader_table};
-ghost use Rattle.blz_units.specs.UnitAnswers.{unit_functions, unit_lines, function_calls};
+ghost use Rattle.blz_reader.specs.Filling.{AreCallsOf, AreFunctionsOf, AreLinesOf, CanBeFilled, Fills, HasCallsOf, HasPart, IsRootOf};
+ghost use Rattle.blz_reader.specs.Growing.{Told};
+ghost use Rattle.blz_units.specs.KeptParts.{lacks_root, lacks_functions, lacks_lines, lacks_calls, BuiltFit, PartsFit};
+ghost use Rattle.blz_reader.specs.Readers.{as_read, reader_files, reader_table};
+ghost use Rattle.blz_units.specs.UnitAnswers.{function_calls};
 
 use crate::puts::{put_calls, put_functions, put_lines, put_root};
 use crate::reader::Reader;
@@ -36,8 +35,7 @@ impl<'r, 's, 'b> Reader<'r, 's, 'b> {
     ) -> Result<Cache<UnitRoot>, AllocError>
         requires readable { IsReadable self.now.dwarf.now }
         requires fits { BuiltFit (reader_files self.now) (reader_table self.now) built.old }
-        ensures kept { IfOk result (λ c. Kept (λ _. Unit {0}) (λ r. r) c (or_invalid (unit_root (reader_files self.now) (reader_table self.now) number))) }
-        ensures full { IfOk result (λ c. is_kept c ≡ true) }
+        ensures read { IfOk result (IsRootOf self.now number) }
         ensures fits { BuiltFit (reader_files self.now) (reader_table self.now) built.new }
     {
         match self.read_root(built, number) {
@@ -48,13 +46,11 @@ impl<'r, 's, 'b> Reader<'r, 's, 'b> {
     }
 
     /// Reads the root of a unit itself where it is not kept.
-    #[tactic(auto, using(crate::proofs::CacheSteps::units_same, crate::proofs::CacheSteps::units_again))]
+    #[tactic(auto, using(crate::proofs::CacheSteps::fills_same))]
     pub fn fill_root(&self, caches: &mut Caches, number: usize) -> Result<(), AllocError>
-        requires readable { IsReadable self.now.dwarf.now }
-        requires fits { AllFit (reader_files self.now) (reader_table self.now) caches.old }
-        ensures filled { IfOk result (λ _. lacks_root (slice_get caches.new.units.items number) ≡ false) }
-        ensures fits { AllFit (reader_files self.now) (reader_table self.now) caches.new }
-        ensures grows { (told : Told) → UnitsGrowTo told caches.old.units.items caches.new.units.items }
+        requires fillable { CanBeFilled self.now caches.old }
+        ensures filled { IfOk result (λ _. HasPart lacks_root caches.new number) }
+        ensures fills { (told : Told) → Fills told self.now caches.old caches.new }
     {
         if !lacks_root(caches.units.as_slice(), number) {
             return Ok(());
@@ -63,14 +59,12 @@ impl<'r, 's, 'b> Reader<'r, 's, 'b> {
     }
 
     /// Puts the root of a unit itself, which lacks it.
-    #[tactic(auto, using(crate::proofs::CacheSteps::units_same))]
+    #[tactic(auto, using(crate::proofs::CacheSteps::fills_same))]
     fn put_root_of(&self, caches: &mut Caches, number: usize) -> Result<(), AllocError>
-        requires readable { IsReadable self.now.dwarf.now }
-        requires fits { AllFit (reader_files self.now) (reader_table self.now) caches.old }
+        requires fillable { CanBeFilled self.now caches.old }
         requires lacks { lacks_root (slice_get caches.old.units.items number) ≡ true }
-        ensures filled { IfOk result (λ _. lacks_root (slice_get caches.new.units.items number) ≡ false) }
-        ensures fits { AllFit (reader_files self.now) (reader_table self.now) caches.new }
-        ensures grows { (told : Told) → UnitsGrowTo told caches.old.units.items caches.new.units.items }
+        ensures filled { IfOk result (λ _. HasPart lacks_root caches.new number) }
+        ensures fills { (told : Told) → Fills told self.now caches.old caches.new }
     {
         let root = self.root_part(&mut caches.built, number)?;
         put_root(&mut caches.units, number, root);
@@ -86,9 +80,7 @@ impl<'r, 's, 'b> Reader<'r, 's, 'b> {
     ) -> Result<Cache<Functions>, AllocError>
         requires readable { IsReadable self.now.dwarf.now }
         requires fits { BuiltFit (reader_files self.now) (reader_table self.now) built.old }
-        ensures kept { IfOk result (λ c. Kept (λ _. Unit {0}) lists_view c (or_invalid (unit_functions (reader_files self.now) (reader_table self.now) number))) }
-        ensures full { IfOk result (λ c. is_kept c ≡ true) }
-        ensures ordered { IfOk result (λ c. Made (AreOrdered O.pair_places) Empty c) }
+        ensures read { IfOk result (AreFunctionsOf O.pair_places self.now number) }
         ensures fits { BuiltFit (reader_files self.now) (reader_table self.now) built.new }
     {
         match self.read_functions(built, number) {
@@ -102,18 +94,16 @@ impl<'r, 's, 'b> Reader<'r, 's, 'b> {
     }
 
     /// Reads the functions of a unit where they are not kept.
-    #[tactic(auto, using(crate::proofs::CacheSteps::units_same, crate::proofs::CacheSteps::units_again))]
+    #[tactic(auto, using(crate::proofs::CacheSteps::fills_same))]
     pub fn fill_functions<O: Orders>(
         &self,
         orders: &mut O,
         caches: &mut Caches,
         number: usize,
     ) -> Result<(), AllocError>
-        requires readable { IsReadable self.now.dwarf.now }
-        requires fits { AllFit (reader_files self.now) (reader_table self.now) caches.old }
-        ensures filled { IfOk result (λ _. lacks_functions (slice_get caches.new.units.items number) ≡ false) }
-        ensures fits { AllFit (reader_files self.now) (reader_table self.now) caches.new }
-        ensures grows { UnitsGrowTo O.pair_places caches.old.units.items caches.new.units.items }
+        requires fillable { CanBeFilled self.now caches.old }
+        ensures filled { IfOk result (λ _. HasPart lacks_functions caches.new number) }
+        ensures fills { Fills O.pair_places self.now caches.old caches.new }
     {
         if !lacks_functions(caches.units.as_slice(), number) {
             return Ok(());
@@ -122,19 +112,17 @@ impl<'r, 's, 'b> Reader<'r, 's, 'b> {
     }
 
     /// Puts the functions of a unit that lacks them.
-    #[tactic(auto, using(crate::proofs::CacheSteps::units_same))]
+    #[tactic(auto, using(crate::proofs::CacheSteps::fills_same))]
     fn put_functions_of<O: Orders>(
         &self,
         orders: &mut O,
         caches: &mut Caches,
         number: usize,
     ) -> Result<(), AllocError>
-        requires readable { IsReadable self.now.dwarf.now }
-        requires fits { AllFit (reader_files self.now) (reader_table self.now) caches.old }
+        requires fillable { CanBeFilled self.now caches.old }
         requires lacks { lacks_functions (slice_get caches.old.units.items number) ≡ true }
-        ensures filled { IfOk result (λ _. lacks_functions (slice_get caches.new.units.items number) ≡ false) }
-        ensures fits { AllFit (reader_files self.now) (reader_table self.now) caches.new }
-        ensures grows { UnitsGrowTo O.pair_places caches.old.units.items caches.new.units.items }
+        ensures filled { IfOk result (λ _. HasPart lacks_functions caches.new number) }
+        ensures fills { Fills O.pair_places self.now caches.old caches.new }
     {
         let functions = self.functions_part(orders, &mut caches.built, number)?;
         put_functions(&mut caches.units, number, functions);
@@ -150,9 +138,7 @@ impl<'r, 's, 'b> Reader<'r, 's, 'b> {
     ) -> Result<Cache<Option<Lines>>, AllocError>
         requires fits { PartsFit (reader_files self.now) (reader_table self.now) units.now }
         requires filled { lacks_root (slice_get units.now number) ≡ false }
-        ensures kept { IfOk result (λ c. Kept (λ _. Unit {0}) lines_view c (or_invalid (unit_lines (reader_files self.now) (reader_table self.now) number))) }
-        ensures full { IfOk result (λ c. is_kept c ≡ true) }
-        ensures ordered { IfOk result (λ c. Made (LinesOrdered O.pair_places) Empty c) }
+        ensures { IfOk result (AreLinesOf O.pair_places self.now number) }
     {
         let root = match root_of(units, number) {
             Ok(root) => root,
@@ -166,43 +152,40 @@ impl<'r, 's, 'b> Reader<'r, 's, 'b> {
     }
 
     /// Reads the lines of a unit where they are not kept.
-    #[tactic(auto, using(crate::proofs::CacheSteps::units_same, crate::proofs::CacheSteps::units_again))]
+    #[tactic(auto, using(crate::proofs::CacheSteps::fills_same))]
     pub fn fill_lines<O: Orders>(
         &self,
         orders: &mut O,
         caches: &mut Caches,
         number: usize,
     ) -> Result<(), AllocError>
-        requires readable { IsReadable self.now.dwarf.now }
-        requires fits { AllFit (reader_files self.now) (reader_table self.now) caches.old }
-        ensures filled { IfOk result (λ _. lacks_lines (slice_get caches.new.units.items number) ≡ false) }
-        ensures fits { AllFit (reader_files self.now) (reader_table self.now) caches.new }
-        ensures grows { UnitsGrowTo O.pair_places caches.old.units.items caches.new.units.items }
+        requires fillable { CanBeFilled self.now caches.old }
+        ensures filled { IfOk result (λ _. HasPart lacks_lines caches.new number) }
+        ensures fills { Fills O.pair_places self.now caches.old caches.new }
     {
         self.fill_root(caches, number)?;
         if !lacks_lines(caches.units.as_slice(), number) {
             return Ok(());
         }
-        self.put_lines_of(orders, &mut caches.units, number)
+        self.put_lines_of(orders, caches, number)
     }
 
     /// Puts the lines of a unit that lacks them, whose root is kept.
-    #[tactic(auto, using(crate::proofs::CacheSteps::units_same))]
+    #[tactic(auto, using(crate::proofs::CacheSteps::fills_same))]
     fn put_lines_of<O: Orders>(
         &self,
         orders: &mut O,
-        units: &mut Vec<UnitCaches>,
+        caches: &mut Caches,
         number: usize,
     ) -> Result<(), AllocError>
-        requires fits { PartsFit (reader_files self.now) (reader_table self.now) units.old.items }
-        requires root { lacks_root (slice_get units.old.items number) ≡ false }
-        requires lacks { lacks_lines (slice_get units.old.items number) ≡ true }
-        ensures filled { IfOk result (λ _. lacks_lines (slice_get units.new.items number) ≡ false) }
-        ensures fits { PartsFit (reader_files self.now) (reader_table self.now) units.new.items }
-        ensures grows { UnitsGrowTo O.pair_places units.old.items units.new.items }
+        requires fillable { CanBeFilled self.now caches.old }
+        requires root { HasPart lacks_root caches.old number }
+        requires lacks { lacks_lines (slice_get caches.old.units.items number) ≡ true }
+        ensures filled { IfOk result (λ _. HasPart lacks_lines caches.new number) }
+        ensures fills { Fills O.pair_places self.now caches.old caches.new }
     {
-        let lines = self.lines_part(orders, units.as_slice(), number)?;
-        put_lines(units, number, lines);
+        let lines = self.lines_part(orders, caches.units.as_slice(), number)?;
+        put_lines(&mut caches.units, number, lines);
         Ok(())
     }
 
@@ -218,7 +201,8 @@ impl<'r, 's, 'b> Reader<'r, 's, 'b> {
         requires built { BuiltFit (reader_files self.now) (reader_table self.now) built.old }
         requires fits { PartsFit (reader_files self.now) (reader_table self.now) units.now }
         requires filled { lacks_functions (slice_get units.now number) ≡ false }
-        ensures value { Gives asked_calls result (or_invalid (function_calls (reader_files self.now) (reader_table self.now) number function)) }
+        ensures value { Gives asked_calls result
+            (or_invalid (as_read self.now function_calls number function)) }
         ensures built { BuiltFit (reader_files self.now) (reader_table self.now) built.new }
     {
         let place = match function_place(units, number, function) {
@@ -241,9 +225,7 @@ impl<'r, 's, 'b> Reader<'r, 's, 'b> {
         requires built { BuiltFit (reader_files self.now) (reader_table self.now) built.old }
         requires fits { PartsFit (reader_files self.now) (reader_table self.now) units.now }
         requires filled { lacks_functions (slice_get units.now number) ≡ false }
-        ensures kept { IfOk result (λ c. Kept (λ _. Unit {0}) calls_view c (or_invalid (function_calls (reader_files self.now) (reader_table self.now) number function))) }
-        ensures full { IfOk result (λ c. is_kept c ≡ true) }
-        ensures ordered { IfOk result (λ c. Made (CallsOrdered O.pair_places) Empty c) }
+        ensures read { IfOk result (AreCallsOf O.pair_places self.now number function) }
         ensures built { BuiltFit (reader_files self.now) (reader_table self.now) built.new }
     {
         match self.calls_by_number(built, units, number, function) {
@@ -257,7 +239,7 @@ impl<'r, 's, 'b> Reader<'r, 's, 'b> {
     }
 
     /// Puts the calls of a function of a unit that lacks them, whose functions are kept.
-    #[tactic(auto, using(crate::proofs::CacheSteps::units_same))]
+    #[tactic(auto, using(crate::proofs::CacheSteps::fills_same))]
     fn put_calls_of<O: Orders>(
         &self,
         orders: &mut O,
@@ -265,13 +247,11 @@ impl<'r, 's, 'b> Reader<'r, 's, 'b> {
         number: usize,
         function: usize,
     ) -> Result<(), AllocError>
-        requires readable { IsReadable self.now.dwarf.now }
-        requires fits { AllFit (reader_files self.now) (reader_table self.now) caches.old }
-        requires functions { lacks_functions (slice_get caches.old.units.items number) ≡ false }
+        requires fillable { CanBeFilled self.now caches.old }
+        requires functions { HasPart lacks_functions caches.old number }
         requires lacks { lacks_calls (slice_get caches.old.units.items number) function ≡ true }
-        ensures filled { IfOk result (λ _. lacks_calls (slice_get caches.new.units.items number) function ≡ false) }
-        ensures fits { AllFit (reader_files self.now) (reader_table self.now) caches.new }
-        ensures grows { UnitsGrowTo O.pair_places caches.old.units.items caches.new.units.items }
+        ensures filled { IfOk result (λ _. HasCallsOf caches.new number function) }
+        ensures fills { Fills O.pair_places self.now caches.old caches.new }
     {
         let calls = self.calls_part(
             orders,
@@ -284,7 +264,7 @@ impl<'r, 's, 'b> Reader<'r, 's, 'b> {
     }
 
     /// Reads the calls of a function of a unit where they are not kept.
-    #[tactic(auto, using(crate::proofs::CacheSteps::units_same, crate::proofs::CacheSteps::units_again))]
+    #[tactic(auto, using(crate::proofs::CacheSteps::fills_same))]
     pub fn fill_calls<O: Orders>(
         &self,
         orders: &mut O,
@@ -292,11 +272,9 @@ impl<'r, 's, 'b> Reader<'r, 's, 'b> {
         number: usize,
         function: usize,
     ) -> Result<(), AllocError>
-        requires readable { IsReadable self.now.dwarf.now }
-        requires fits { AllFit (reader_files self.now) (reader_table self.now) caches.old }
-        ensures filled { IfOk result (λ _. lacks_calls (slice_get caches.new.units.items number) function ≡ false) }
-        ensures fits { AllFit (reader_files self.now) (reader_table self.now) caches.new }
-        ensures grows { UnitsGrowTo O.pair_places caches.old.units.items caches.new.units.items }
+        requires fillable { CanBeFilled self.now caches.old }
+        ensures filled { IfOk result (λ _. HasCallsOf caches.new number function) }
+        ensures fills { Fills O.pair_places self.now caches.old caches.new }
     {
         self.fill_functions(orders, caches, number)?;
         if !lacks_calls(caches.units.as_slice(), number, function) {

@@ -1,15 +1,13 @@
 //! The functions of all units: those of a name, and all of them.
-ghost use Rattle.std.specs.Prelude.{◌≡◌, ◌++◌, [], true, false, IfOk, OnOk};
+ghost use Rattle.std.specs.Prelude.{◌≡◌, ◌++◌, [], false, IfOk, OnOk};
 ghost use Rattle.blz_model.specs.Part.{Gives};
 ghost use Rattle.blz_info.specs.Marks.{or_invalid};
-ghost use Rattle.blz_units.specs.BuiltUnits.{IsReadable};
-ghost use Rattle.blz_reader.specs.Growing.{UnitsGrowTo};
-ghost use Rattle.blz_units.specs.KeptParts.{functions_at, AllFit};
-ghost use Rattle.blz_reader.specs.Readers.{reader_files, reader_table};
+ghost use Rattle.blz_reader.specs.Filling.{CanBeFilled, Fills, HasFunctions};
+ghost use Rattle.blz_reader.specs.Listing.{ListsFunctions};
+ghost use Rattle.blz_reader.specs.Readers.{as_read, as_texts_tell};
 ghost use Rattle.blz_reader.specs.ShownFunctions.{ShowsUnits, all_shown};
 ghost use Rattle.blz_units.specs.UnitAnswers.{unit_functions, functions_named, all_functions, with_called};
-ghost use Rattle.blz_reader.specs.UnitNames.{called_in, listed, list_in, AllThere, ShowsIn};
-ghost use Rattle.blz_units.specs.KeptAnswers.{is_value};
+ghost use Rattle.blz_reader.specs.UnitNames.{named_in, AllThere, ShowsIn};
 
 use crate::names::called_in;
 use crate::reader::Reader;
@@ -47,30 +45,29 @@ impl<'r, 's, 'b> Reader<'r, 's, 'b> {
         number: usize,
         name: &str,
     ) -> Result<Option<usize>>
-        requires readable { IsReadable self.now.dwarf.now }
-        requires fits { AllFit (reader_files self.now) (reader_table self.now) caches.old }
-        ensures value { Gives (λ n. n) result (or_invalid (called_in self.now.dwarf.now.texts name.now (unit_functions (reader_files self.now) (reader_table self.now) number))) }
-        ensures there { IfOk result (λ _. is_value (functions_at caches.new.units.items number) ≡ true) }
-        ensures fits { AllFit (reader_files self.now) (reader_table self.now) caches.new }
-        ensures grows { UnitsGrowTo O.pair_places caches.old.units.items caches.new.units.items }
+        requires fillable { CanBeFilled self.now caches.old }
+        ensures value { Gives (λ n. n) result
+            (or_invalid (as_texts_tell self.now named_in name.now number)) }
+        ensures there { IfOk result (λ _. HasFunctions caches.new number) }
+        ensures fills { Fills O.pair_places self.now caches.old caches.new }
     {
         self.fill_functions(orders, caches, number)?;
         called_in(caches.units.as_slice(), &self.dwarf.texts, number, name)
     }
 
     /// Of each unit, in order, the first function that has a name.
+    #[tactic(auto, using(crate::proofs::CacheSteps::fills_same))]
     pub fn find_name<O: Orders>(
         &self,
         orders: &mut O,
         caches: &mut Caches,
         name: &str,
     ) -> Result<Vec<(usize, usize)>>
-        requires readable { IsReadable self.now.dwarf.now }
-        requires fits { AllFit (reader_files self.now) (reader_table self.now) caches.old }
-        ensures value { Gives (λ v. v.items) result (or_invalid (functions_named self.now.dwarf.now.texts (reader_files self.now) (reader_table self.now) name.now)) }
+        requires fillable { CanBeFilled self.now caches.old }
+        ensures value { Gives (λ v. v.items) result
+            (or_invalid (as_texts_tell self.now functions_named name.now)) }
         ensures there { IfOk result (λ v. AllThere caches.new.units.items v.items) }
-        ensures fits { AllFit (reader_files self.now) (reader_table self.now) caches.new }
-        ensures grows { UnitsGrowTo O.pair_places caches.old.units.items caches.new.units.items }
+        ensures fills { Fills O.pair_places self.now caches.old caches.new }
     {
         let mut found = Vec::new(self.alloc);
         for number in 0..self.table.kept.len() {
@@ -90,12 +87,10 @@ impl<'r, 's, 'b> Reader<'r, 's, 'b> {
         caches: &mut Caches,
         number: usize,
     ) -> Result<()>
-        requires readable { IsReadable self.now.dwarf.now }
-        requires fits { AllFit (reader_files self.now) (reader_table self.now) caches.old }
-        ensures value { Gives (λ _. list_in (functions_at caches.new.units.items number)) result (or_invalid (listed (unit_functions (reader_files self.now) (reader_table self.now) number))) }
-        ensures there { IfOk result (λ _. is_value (functions_at caches.new.units.items number) ≡ true) }
-        ensures fits { AllFit (reader_files self.now) (reader_table self.now) caches.new }
-        ensures grows { UnitsGrowTo O.pair_places caches.old.units.items caches.new.units.items }
+        requires fillable { CanBeFilled self.now caches.old }
+        ensures value { ListsFunctions self.now caches.new number result }
+        ensures there { IfOk result (λ _. HasFunctions caches.new number) }
+        ensures fills { Fills O.pair_places self.now caches.old caches.new }
     {
         self.fill_functions(orders, caches, number)?;
         match functions_of(caches.units.as_slice(), number) {
@@ -112,12 +107,11 @@ impl<'r, 's, 'b> Reader<'r, 's, 'b> {
         number: usize,
         visit: &mut W,
     ) -> Result<Flow>
-        requires readable { IsReadable self.now.dwarf.now }
-        requires fits { AllFit (reader_files self.now) (reader_table self.now) caches.old }
+        requires fillable { CanBeFilled self.now caches.old }
         requires goes_on { W.stopped visit.old ≡ false }
-        ensures shows { ShowsIn (unit_functions (reader_files self.now) (reader_table self.now) number) number (W.shown visit.old) (W.shown visit.new) (W.stopped visit.new) result }
-        ensures fits { AllFit (reader_files self.now) (reader_table self.now) caches.new }
-        ensures grows { UnitsGrowTo O.pair_places caches.old.units.items caches.new.units.items }
+        ensures shows { ShowsIn (as_read self.now unit_functions number) number
+            (W.shown visit.old) (W.shown visit.new) (W.stopped visit.new) result }
+        ensures fills { Fills O.pair_places self.now caches.old caches.new }
     {
         self.fill_functions(orders, caches, number)?;
         match functions_of(caches.units.as_slice(), number) {
@@ -127,18 +121,18 @@ impl<'r, 's, 'b> Reader<'r, 's, 'b> {
     }
 
     /// Shows every function of each unit, until the visitor breaks.
+    #[tactic(auto, using(crate::proofs::CacheSteps::fills_same))]
     pub fn for_each_function<O: Orders, W: VisitFunction>(
         &self,
         orders: &mut O,
         caches: &mut Caches,
         visit: &mut W,
     ) -> Result<()>
-        requires readable { IsReadable self.now.dwarf.now }
-        requires fits { AllFit (reader_files self.now) (reader_table self.now) caches.old }
+        requires fillable { CanBeFilled self.now caches.old }
         requires goes_on { W.stopped visit.old ≡ false }
-        ensures shows { ShowsUnits (all_functions (reader_files self.now) (reader_table self.now)) (all_shown (reader_files self.now) (reader_table self.now)) (W.shown visit.old) (W.shown visit.new) (W.stopped visit.new) result }
-        ensures fits { AllFit (reader_files self.now) (reader_table self.now) caches.new }
-        ensures grows { UnitsGrowTo O.pair_places caches.old.units.items caches.new.units.items }
+        ensures shows { ShowsUnits (as_read self.now all_functions) (as_read self.now all_shown)
+            (W.shown visit.old) (W.shown visit.new) (W.stopped visit.new) result }
+        ensures fills { Fills O.pair_places self.now caches.old caches.new }
     {
         for number in 0..self.table.kept.len() {
             match self.show_unit(orders, caches, number, visit) {

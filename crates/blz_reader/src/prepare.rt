@@ -1,10 +1,8 @@
 //! All parts of all units, read ahead of the questions.
-ghost use Rattle.std.specs.Prelude.{◌≡◌, ℕ, ◌<◌, false, IfOk};
+ghost use Rattle.std.specs.Prelude.{◌≡◌, IfOk};
 ghost use Rattle.std.specs.List.{slice_get};
-ghost use Rattle.blz_units.specs.BuiltUnits.{IsReadable};
-ghost use Rattle.blz_reader.specs.Growing.{UnitsGrowTo};
-ghost use Rattle.blz_units.specs.KeptParts.{functions_at, functions_count, lacks_functions, lacks_calls, AllFit, AreFull, AllFull};
-ghost use Rattle.blz_reader.specs.Readers.{reader_files, reader_table};
+ghost use Rattle.blz_reader.specs.Filling.{CanBeFilled, Fills, HasFirstCalls};
+ghost use Rattle.blz_units.specs.KeptParts.{functions_at, functions_count, AreFull, AllFull};
 
 use crate::reader::Reader;
 use blz_bytes::Orders;
@@ -34,11 +32,9 @@ impl<'r, 's, 'b> Reader<'r, 's, 'b> {
         number: usize,
         count: usize,
     ) -> Result<(), AllocError>
-        requires readable { IsReadable self.now.dwarf.now }
-        requires fits { AllFit (reader_files self.now) (reader_table self.now) caches.old }
-        ensures filled { IfOk result (λ _. (n : ℕ) → n < count → lacks_calls (slice_get caches.new.units.items number) n ≡ false) }
-        ensures fits { AllFit (reader_files self.now) (reader_table self.now) caches.new }
-        ensures grows { UnitsGrowTo O.pair_places caches.old.units.items caches.new.units.items }
+        requires fillable { CanBeFilled self.now caches.old }
+        ensures filled { IfOk result (λ _. HasFirstCalls count caches.new number) }
+        ensures fills { Fills O.pair_places self.now caches.old caches.new }
     {
         for function in 0..count {
             self.fill_calls(orders, caches, number, function)?;
@@ -47,17 +43,16 @@ impl<'r, 's, 'b> Reader<'r, 's, 'b> {
     }
 
     /// Reads all parts of a unit that are not kept.
+    #[tactic(auto, using(crate::proofs::CacheSteps::fills_same))]
     fn fill_parts<O: Orders>(
         &self,
         orders: &mut O,
         caches: &mut Caches,
         number: usize,
     ) -> Result<(), AllocError>
-        requires readable { IsReadable self.now.dwarf.now }
-        requires fits { AllFit (reader_files self.now) (reader_table self.now) caches.old }
+        requires fillable { CanBeFilled self.now caches.old }
         ensures filled { IfOk result (λ _. AreFull (slice_get caches.new.units.items number)) }
-        ensures fits { AllFit (reader_files self.now) (reader_table self.now) caches.new }
-        ensures grows { UnitsGrowTo O.pair_places caches.old.units.items caches.new.units.items }
+        ensures fills { Fills O.pair_places self.now caches.old caches.new }
     {
         self.fill_root(caches, number)?;
         self.fill_lines(orders, caches, number)?;
@@ -69,11 +64,9 @@ impl<'r, 's, 'b> Reader<'r, 's, 'b> {
 
     /// Reads all parts of all units that are not kept.
     pub fn fill_all<O: Orders>(&self, orders: &mut O, caches: &mut Caches) -> Result<(), AllocError>
-        requires readable { IsReadable self.now.dwarf.now }
-        requires fits { AllFit (reader_files self.now) (reader_table self.now) caches.old }
+        requires fillable { CanBeFilled self.now caches.old }
         ensures filled { IfOk result (λ _. AllFull caches.new.units.items) }
-        ensures fits { AllFit (reader_files self.now) (reader_table self.now) caches.new }
-        ensures grows { UnitsGrowTo O.pair_places caches.old.units.items caches.new.units.items }
+        ensures fills { Fills O.pair_places self.now caches.old caches.new }
     {
         for number in 0..self.table.kept.len() {
             self.fill_parts(orders, caches, number)?;

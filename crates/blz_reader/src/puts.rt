@@ -1,9 +1,8 @@
 //! What is read of units is put where it is kept.
-ghost use Rattle.std.specs.Prelude.{◌≡◌, ℕ, ◌<◌, length, Some, IfOk, MatchResult};
-ghost use Rattle.std.specs.List.{slice_get, slice_set};
-ghost use Rattle.blz_units.specs.declared.caches.UnitCaches.{UnitCaches};
-ghost use Rattle.blz_units.specs.KeptParts.{or_empty, call_cache};
-ghost use Rattle.blz_reader.specs.Putting.{HasCalls, PutsCalls};
+ghost use Rattle.std.specs.Prelude.{◌≡◌, ℕ, ◌<◌, length, IfOk};
+ghost use Rattle.std.specs.List.{slice_get};
+ghost use Rattle.blz_units.specs.KeptParts.{or_empty};
+ghost use Rattle.blz_reader.specs.Putting.{with_functions, with_lines, with_root, Puts, PutsOrKeeps, TakesCalls};
 
 use blz_entry::UnitRoot;
 use blz_functions::{Functions, InlinedFunctions};
@@ -14,7 +13,7 @@ use std::alloc::AllocError;
 
 /// Keeps the root of a unit.
 pub fn put_root(units: &mut Vec<UnitCaches>, number: usize, root: Cache<UnitRoot>)
-    ensures { (c : UnitCaches) → slice_get units.old.items number ≡ Some c → units.new.items ≡ slice_set units.old.items number (record c { root = root }) }
+    ensures { Puts (with_root root) units.old.items units.new.items number }
 {
     if number < units.len() {
         let unit = &mut units[number];
@@ -24,7 +23,7 @@ pub fn put_root(units: &mut Vec<UnitCaches>, number: usize, root: Cache<UnitRoot
 
 /// Keeps the functions of a unit.
 pub fn put_functions(units: &mut Vec<UnitCaches>, number: usize, functions: Cache<Functions>)
-    ensures { (c : UnitCaches) → slice_get units.old.items number ≡ Some c → units.new.items ≡ slice_set units.old.items number (record c { functions = functions }) }
+    ensures { Puts (with_functions functions) units.old.items units.new.items number }
 {
     if number < units.len() {
         let unit = &mut units[number];
@@ -34,7 +33,7 @@ pub fn put_functions(units: &mut Vec<UnitCaches>, number: usize, functions: Cach
 
 /// Keeps the lines of a unit.
 pub fn put_lines(units: &mut Vec<UnitCaches>, number: usize, lines: Cache<Option<Lines>>)
-    ensures { (c : UnitCaches) → slice_get units.old.items number ≡ Some c → units.new.items ≡ slice_set units.old.items number (record c { lines = lines }) }
+    ensures { Puts (with_lines lines) units.old.items units.new.items number }
 {
     if number < units.len() {
         let unit = &mut units[number];
@@ -59,7 +58,7 @@ fn put_in(
     function: usize,
     calls: Cache<InlinedFunctions>,
 ) -> Result<(), AllocError>
-    ensures { MatchResult result (λ _. HasCalls unit.old unit.new function calls) (λ _. HasCalls unit.old unit.new function (call_cache unit.old function)) }
+    ensures { TakesCalls result unit.old unit.new function calls }
 {
     lengthen(&mut unit.calls, function)?;
     unit.calls[function] = calls;
@@ -73,7 +72,7 @@ pub fn put_calls(
     function: usize,
     calls: Cache<InlinedFunctions>,
 ) -> Result<(), AllocError>
-    ensures { (c : UnitCaches) → slice_get units.old.items number ≡ Some c → MatchResult result (λ _. PutsCalls c units.old.items units.new.items number function calls) (λ _. PutsCalls c units.old.items units.new.items number function (call_cache c function)) }
+    ensures { PutsOrKeeps result units.old.items units.new.items number function calls }
 {
     if number >= units.len() {
         return Ok(());

@@ -1,8 +1,9 @@
+use Rattle.std.proofs.Common.{refl}
 use Rattle.blz_index.proofs.UnitsAgain.{leaves_more}
 use Rattle.blz_index.proofs.units.Units.find_name.Goals as goal
 
 pub returns-clause-leaves : goal.returns-clause-leaves
-returns-clause-leaves g c = leaves_more _ _ _ _ c.requires.asked c.find_name.ensures.fits c.find_name.ensures.grows
+returns-clause-leaves g c = leaves_more _ _ _ _ _ c.requires.asked c.find_name.ensures.fills refl refl
 
 pub returns-clause-there : goal.returns-clause-there
 returns-clause-there g c = c.find_name.ensures.there

@@ -1,5 +1,6 @@
+use Rattle.std.proofs.Common.{refl}
 use Rattle.blz_index.proofs.UnitsAgain.{leaves_more}
 use Rattle.blz_index.proofs.units.Units.for_each_function.Goals as goal
 
 pub returns-clause-leaves : goal.returns-clause-leaves
-returns-clause-leaves g c = leaves_more _ _ _ _ c.requires.asked c.for_each_function.ensures.fits c.for_each_function.ensures.grows
+returns-clause-leaves g c = leaves_more _ _ _ _ _ c.requires.asked c.for_each_function.ensures.fills refl refl

@@ -3,7 +3,7 @@ use Rattle.blz_info.proofs.Marked.{good_some, marks_on}
 use Rattle.blz_info.specs.Marks.{or_invalid}
 use Rattle.blz_reader.specs.Readers.{reader_files, reader_table}
 use Rattle.blz_units.specs.UnitAnswers.{function_at}
-use Rattle.blz_reader.proofs.CacheSteps.{units_same, units_again}
+use Rattle.blz_reader.proofs.CacheSteps.{fills_same, fills_again}
 use Rattle.blz_reader.proofs.UnitSteps.{function_over, function_on, function_fails}
 use Rattle.blz_reader.proofs.reader.Reader.find_function.Goals as goal
 
@@ -26,8 +26,7 @@ returns-in-Err-clause-value g c =
 pub loop-number-init : goal.loop-number-init
 unfolding function_at
 loop-number-init g c = record {
-  fits = c.requires.fits;
-  grows = units_same g.O.Orders.pair_places c.args.caches.now.units.items;
+  fills = fills_same _ _ _ c.requires.fillable;
   rest = rw c.new-units.ensures refl;
 }
 
@@ -36,13 +35,12 @@ loop-number-preserved g c =
     let f = reader_files c.args.self.now in
     let t = reader_table c.args.self.now in
     record {
-      fits = c.in-Ok-None.ensures.fits;
-      grows = units_again g.O.Orders.pair_places c.args.caches.now.units.items c.loop-number.caches.units.items c.function_in.new.caches.units.items c.loop-number.invariant.grows (c.in-Ok-None.ensures.grows);
+      fills = fills_again _ _ _ _ _ c.loop-number.invariant.fills c.in-Ok-None.ensures.fills;
       rest = rw c.in-Some.ensures.left (sym (function_on f t c.args.addr c.in-Some.number c.loop-number.units.left None (sym c.in-Some.ensures.unit) (good_some {A = Option ℕ} _ None (rw c.in-Ok-None.field-0-is at c.in-Ok-None.ensures.value))) ∙ c.loop-number.invariant.rest);
     }
 
-pub returns-in-Ok-Some-clause-grows : goal.returns-in-Ok-Some-clause-grows
-returns-in-Ok-Some-clause-grows g c = units_again g.O.Orders.pair_places c.args.caches.now.units.items c.loop-number.caches.units.items c.function_in.new.caches.units.items c.loop-number.invariant.grows (c.in-Ok-Some.ensures.grows)
+pub returns-in-Ok-Some-clause-fills : goal.returns-in-Ok-Some-clause-fills
+returns-in-Ok-Some-clause-fills g c = fills_again _ _ _ _ _ c.loop-number.invariant.fills c.in-Ok-Some.ensures.fills
 
-pub returns-in-Err-clause-grows : goal.returns-in-Err-clause-grows
-returns-in-Err-clause-grows g c = units_again g.O.Orders.pair_places c.args.caches.now.units.items c.loop-number.caches.units.items c.function_in.new.caches.units.items c.loop-number.invariant.grows (c.in-Err.ensures.grows)
+pub returns-in-Err-clause-fills : goal.returns-in-Err-clause-fills
+returns-in-Err-clause-fills g c = fills_again _ _ _ _ _ c.loop-number.invariant.fills c.in-Err.ensures.fills

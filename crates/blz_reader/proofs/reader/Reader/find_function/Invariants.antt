@@ -1,15 +1,13 @@
 use Rattle.std.proofs.Common.{◌≡◌, length}
-use Rattle.blz_reader.specs.Growing.{UnitsGrowTo}
-use Rattle.blz_units.specs.KeptParts.{AllFit}
-use Rattle.blz_reader.specs.Readers.{reader_files, reader_table}
+use Rattle.blz_reader.specs.Filling.{Fills}
+use Rattle.blz_reader.specs.Readers.{as_read}
 use Rattle.blz_units.specs.UnitAnswers.{first_function, function_at}
 use Rattle.blz_reader.proofs.reader.Reader.find_function.Given as goal
 
 abbrev pub invariant-loop-number : goal.invariant-loop-number
 invariant-loop-number g l = record {
-  fits : AllFit (reader_files l.self) (reader_table l.self) l.caches;
-  grows : UnitsGrowTo g.O.Orders.pair_places l.fn.caches.units.items l.caches.units.items;
-  rest : first_function (reader_files l.self) (reader_table l.self) l.addr l.units.left ≡ function_at (reader_files l.self) (reader_table l.self) l.addr;
+  fills : Fills g.O.Orders.pair_places l.self l.fn.caches l.caches;
+  rest : as_read l.self first_function l.addr l.units.left ≡ as_read l.self function_at l.addr;
 }
 
 abbrev pub decreases-loop-number : goal.decreases-loop-number

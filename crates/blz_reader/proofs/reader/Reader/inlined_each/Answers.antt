@@ -1,40 +1,31 @@
 use Rattle.std.proofs.Common.{map}
 use Rattle.std.proofs.lemmas.List.{map-append}
 use Rattle.blz_model.proofs.PartLemmas.{all_on, all_break, all_end}
-use Rattle.blz_reader.specs.Readers.{reader_files, reader_table}
-use Rattle.blz_reader.specs.SiteViews.{inlined_view}
-use Rattle.blz_units.specs.UnitAnswers.{unit_lines}
-use Rattle.blz_units.specs.UnitSites.{inlined_by}
-use Rattle.blz_reader.proofs.CacheSteps.{units_again}
+use Rattle.blz_reader.specs.SiteViews.{inlined_read, inlined_view}
+use Rattle.blz_reader.proofs.CacheSteps.{fills_again}
 use Rattle.blz_reader.proofs.SiteSteps.{get_or_again}
 use Rattle.blz_reader.proofs.reader.Reader.inlined_each.Goals as goal
 
 pub returns-in-Err-clause-value : goal.returns-in-Err-clause-value
 returns-in-Err-clause-value g c =
-    let by = inlined_by c.args.self.now.dwarf.now.texts (unit_lines (reader_files c.args.self.now) (reader_table c.args.self.now) c.args.number) in
+    let by = inlined_read c.args.self.now c.args.number in
     λ ne. all_break by c.args.calls.now c.loop-call.call-index (map inlined_view c.loop-call.sites.items) _ _ c.loop-call-test.true (get_or_again c.args.calls.now c.loop-call.call-index _ c.loop-call-test.true) (c.in-Err.ensures.value ne) c.loop-call.invariant.rest
 
 pub returns-clause-value : goal.returns-clause-value
 returns-clause-value g c =
-    let by = inlined_by c.args.self.now.dwarf.now.texts (unit_lines (reader_files c.args.self.now) (reader_table c.args.self.now) c.args.number) in
+    let by = inlined_read c.args.self.now c.args.number in
     rw c.from_vec.ensures (all_end by c.args.calls.now c.loop-call.call-index (map inlined_view c.loop-call.sites.items) c.loop-call-test.false c.loop-call.invariant.rest)
-
-pub returns-in_err-push-in-Ok-clause-grows : goal.returns-in_err-push-in-Ok-clause-grows
-returns-in_err-push-in-Ok-clause-grows g c =
-    let told = g.O.Orders.pair_places in
-    units_again told c.args.caches.now.units.items c.loop-call.caches.units.items c.inlined.new.caches.units.items c.loop-call.invariant.grows (c.inlined.ensures.grows)
-
-pub returns-in-Err-clause-grows : goal.returns-in-Err-clause-grows
-returns-in-Err-clause-grows g c =
-    let told = g.O.Orders.pair_places in
-    units_again told c.args.caches.now.units.items c.loop-call.caches.units.items c.inlined.new.caches.units.items c.loop-call.invariant.grows (c.inlined.ensures.grows)
 
 pub loop-call-preserved : goal.loop-call-preserved
 loop-call-preserved g c =
-    let told = g.O.Orders.pair_places in
-    let by = inlined_by c.args.self.now.dwarf.now.texts (unit_lines (reader_files c.args.self.now) (reader_table c.args.self.now) c.args.number) in
+    let by = inlined_read c.args.self.now c.args.number in
     record {
-      fits = c.inlined.ensures.fits;
-      grows = units_again told c.args.caches.now.units.items c.loop-call.caches.units.items c.inlined.new.caches.units.items c.loop-call.invariant.grows (c.inlined.ensures.grows);
+      fills = fills_again _ _ _ _ _ c.loop-call.invariant.fills c.inlined.ensures.fills;
       rest = rw (c.in_ok-push-in-Ok.ensures.items, map-append inlined_view c.loop-call.sites.items _) (all_on by c.args.calls.now c.loop-call.call-index (map inlined_view c.loop-call.sites.items) _ _ c.loop-call-test.true (get_or_again c.args.calls.now c.loop-call.call-index _ c.loop-call-test.true) c.in-Ok.ensures.value c.loop-call.invariant.rest);
     }
+
+pub returns-in_err-push-in-Ok-clause-fills : goal.returns-in_err-push-in-Ok-clause-fills
+returns-in_err-push-in-Ok-clause-fills g c = fills_again _ _ _ _ _ c.loop-call.invariant.fills c.inlined.ensures.fills
+
+pub returns-in-Err-clause-fills : goal.returns-in-Err-clause-fills
+returns-in-Err-clause-fills g c = fills_again _ _ _ _ _ c.loop-call.invariant.fills c.inlined.ensures.fills

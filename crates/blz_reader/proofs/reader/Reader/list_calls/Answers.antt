@@ -4,11 +4,11 @@ use Rattle.blz_reader.proofs.reader.Reader.list_calls.Goals as goal
 
 pub returns-in-Ok-clause-value : goal.returns-in-Ok-clause-value
 returns-in-Ok-clause-value g c =
-    calls_are_told (reader_files c.args.self.now) (reader_table c.args.self.now) c.fill_calls.new.caches.units.items c.args.number c.args.function c.fill_calls.ensures.fits.units c.in_ok-fill_calls.ensures.filled _ (rw c.as_slice.ensures.value at c.in-Ok.ensures)
+    calls_are_told (reader_files c.args.self.now) (reader_table c.args.self.now) c.fill_calls.new.caches.units.items c.args.number c.args.function c.fill_calls.ensures.fills.fillable.fits.units c.in_ok-fill_calls.ensures.filled _ (rw c.as_slice.ensures.value at c.in-Ok.ensures)
 
 pub returns-in-Ok-clause-there : goal.returns-in-Ok-clause-there
 returns-in-Ok-clause-there g c = good_value _ _ (rw c.as_slice.ensures.value at c.in-Ok.ensures)
 
 pub returns-in-Err-clause-value : goal.returns-in-Err-clause-value
 returns-in-Err-clause-value g c =
-    calls_are_marked (reader_files c.args.self.now) (reader_table c.args.self.now) c.fill_calls.new.caches.units.items c.args.number c.args.function c.fill_calls.ensures.fits.units c.in_ok-fill_calls.ensures.filled c.in-Err.fault (rw c.as_slice.ensures.value at c.in-Err.ensures)
+    calls_are_marked (reader_files c.args.self.now) (reader_table c.args.self.now) c.fill_calls.new.caches.units.items c.args.number c.args.function c.fill_calls.ensures.fills.fillable.fits.units c.in_ok-fill_calls.ensures.filled c.in-Err.fault (rw c.as_slice.ensures.value at c.in-Err.ensures)

@@ -1,20 +1,11 @@
 use Rattle.std.proofs.Common.{refl}
 use Rattle.blz_units.specs.KeptParts.{lacks_lines}
-use Rattle.blz_reader.specs.Readers.{reader_files, reader_table}
-use Rattle.blz_reader.proofs.CacheSteps.{filled, lacking, lines_put, put_lacks}
+use Rattle.blz_reader.specs.Putting.{with_lines}
+use Rattle.blz_reader.proofs.CacheSteps.{filled, put_fills, put_there, lines_put}
 use Rattle.blz_reader.proofs.reader.Reader.put_lines_of.Goals as goal
 
 pub returns-clause-filled : goal.returns-clause-filled
-returns-clause-filled g c =
-    let l = lacking c.args.units.now.items c.args.number lacks_lines refl c.requires.lacks in
-    put_lacks lacks_lines c.args.units.now.items _ c.args.number l.unit _ l.is (c.put_lines.ensures l.unit l.is) (filled c.in_ok-lines.lines c.in_ok-lines.ensures.full)
+returns-clause-filled g c = put_there lacks_lines (with_lines c.in_ok-lines.lines) c.args.caches.now.units.items _ c.args.number refl c.requires.lacks c.put_lines.ensures (λ _. filled c.in_ok-lines.lines c.in_ok-lines.ensures.full)
 
-pub returns-clause-fits : goal.returns-clause-fits
-returns-clause-fits g c =
-    let l = lacking c.args.units.now.items c.args.number lacks_lines refl c.requires.lacks in
-    (lines_put (reader_files c.args.self.now) (reader_table c.args.self.now) g.O.Orders.pair_places c.args.units.now.items _ c.args.number l.unit c.in_ok-lines.lines l.is l.lacks (c.put_lines.ensures l.unit l.is) c.in_ok-lines.ensures.kept c.in_ok-lines.ensures.ordered c.requires.fits).fits
-
-pub returns-clause-grows : goal.returns-clause-grows
-returns-clause-grows g c =
-    let l = lacking c.args.units.now.items c.args.number lacks_lines refl c.requires.lacks in
-    (lines_put (reader_files c.args.self.now) (reader_table c.args.self.now) g.O.Orders.pair_places c.args.units.now.items _ c.args.number l.unit c.in_ok-lines.lines l.is l.lacks (c.put_lines.ensures l.unit l.is) c.in_ok-lines.ensures.kept c.in_ok-lines.ensures.ordered c.requires.fits).grows
+pub returns-clause-fills : goal.returns-clause-fills
+returns-clause-fills g c = put_fills g.O.Orders.pair_places c.args.self.now c.args.caches.now _ c.requires.fillable c.requires.fillable.fits.built (lines_put c.args.self.now g.O.Orders.pair_places c.args.caches.now.units.items _ c.args.number c.in_ok-lines.lines c.requires.fillable.fits.units c.requires.lacks c.put_lines.ensures c.in_ok-lines.ensures)

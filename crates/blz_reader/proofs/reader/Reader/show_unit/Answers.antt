@@ -15,5 +15,5 @@ returns-in-Err-clause-shows g c =
     record {
       goes_on = c.requires.goes_on;
       same = refl;
-      mark = told_gives (λ (x : FunctionRanges). x) lists_view (functions_at units c.args.number) (or_invalid (unit_functions f t c.args.number)) (Err c.in-Err.fault) ((c.fill_functions.ensures.fits.units.each c.args.number).functions) (no_functions f t units c.args.number c.fill_functions.ensures.fits.units c.in_ok-fill_functions.ensures.filled) (rw c.as_slice.ensures.value at c.in-Err.ensures);
+      mark = told_gives (λ (x : FunctionRanges). x) lists_view (functions_at units c.args.number) (or_invalid (unit_functions f t c.args.number)) (Err c.in-Err.fault) ((c.fill_functions.ensures.fills.fillable.fits.units.each c.args.number).functions) (no_functions f t units c.args.number c.fill_functions.ensures.fills.fillable.fits.units c.in_ok-fill_functions.ensures.filled) (rw c.as_slice.ensures.value at c.in-Err.ensures);
     }
