@@ -1,7 +1,7 @@
 -- The causes of what opening refuses.
 use Rattle.std.proofs.Common.{◌≡◌, ◌⊎◌, Bool, false, List, [], ◌∷◌, Option, Some, None, Result, Ok, Err, String, string_bytes, map, refl, sym, ap, ◌∙◌, inl, inr, subst}
 use Rattle.std.specs.Prelude.{codes}
-use Rattle.std.specs.Result.{IfErr}
+use Rattle.std.specs.Result.{IfErr, IfOk}
 use Rattle.blz_error.specs.Fault.{Fault}
 use Rattle.blz_error.specs.Texts.{Bytes}
 use Rattle.blz_error.specs.declared.kind.ErrorKind.{ErrorKind}
@@ -12,7 +12,7 @@ use Rattle.blz_links.specs.Contents.{Contents}
 use Rattle.blz_bundle.specs.FileAnswers.{StepAnswers, told_steps}
 use Rattle.blz_bundle.specs.Images.{ImageSet}
 use Rattle.blz_bundle.specs.Opened.{Opened, Found, Refused, agreeing, part_of}
-use Rattle.blz_bundle.specs.Opening.{IsOpeningKind, Lacks, Opens, OpensTo, default_dirs, opened_by}
+use Rattle.blz_bundle.specs.Opening.{IsOpened, IsOpeningKind, Lacks, Opens, OpensTo, default_dirs, opened_by}
 use Rattle.blz_bundle.specs.Outcomes.{Concludes, HasKindCause, IsFault, IsFaultKind, IsRefusal, Tells}
 use Rattle.blz_bundle.proofs.OpeningKinds.{IsMark, opened_lacks, opened_marks}
 use Rattle.blz_bundle.proofs.Findings.{refusal_tells}
@@ -95,7 +95,7 @@ opens_part : (contents : Option Contents) (path : Bytes) (dirs : List Bytes) (fo
 opens_part None path dirs found is = (is.0, ap part_of is.1)
 opens_part (Some c) path dirs found is = ap part_of is
 
-pub opening_cause : (contents : Option Contents) (path : Bytes) (dirs : List Bytes) (failed : Type 0) (r : Result ImageSet Fault) → Concludes (λ b. b) r failed (OpensTo contents path dirs)
+opening_cause : (contents : Option Contents) (path : Bytes) (dirs : List Bytes) (failed : Type 0) (r : Result ImageSet Fault) → Concludes (λ b. b) r failed (OpensTo contents path dirs)
     → IfErr r (λ e. (e.kind ≡ kind.OutOfMemory) ⊎ HasKindCause e.kind failed (Opens contents path dirs (Broken e.kind)))
 opening_cause contents path dirs failed (Ok b) is = tt
 opening_cause contents path dirs failed (Err e) (inl memory) = inl memory
@@ -103,7 +103,7 @@ opening_cause contents path dirs failed (Err e) (inr (inl fault)) = inr (fault_c
 opening_cause contents path dirs failed (Err e) (inr (inr tells)) =
     inr (mark_cause e.kind _ _ (opens_marks contents path dirs e.kind tells.values tells.is_found) (opens_part contents path dirs (Refused e.kind tells.values) tells.is_found))
 
-pub opening_kinds : (contents : Option Contents) (path : Bytes) (dirs : List Bytes) (failed : Type 0) (r : Result ImageSet Fault) → Concludes (λ b. b) r failed (OpensTo contents path dirs) → IfErr r (λ e. IsOpeningKind e.kind)
+opening_kinds : (contents : Option Contents) (path : Bytes) (dirs : List Bytes) (failed : Type 0) (r : Result ImageSet Fault) → Concludes (λ b. b) r failed (OpensTo contents path dirs) → IfErr r (λ e. IsOpeningKind e.kind)
 opening_kinds contents path dirs failed (Ok b) is = tt
 opening_kinds contents path dirs failed (Err e) (inl memory) = let P : ErrorKind → Type 0 = λ k. IsOpeningKind k in subst P (sym memory) tt
 opening_kinds contents path dirs failed (Err e) (inr (inl fault)) = opening_fault e.kind fault.kind
@@ -113,12 +113,32 @@ lacks : (contents : Option Contents) (path : Bytes) (dirs : List Bytes) (v : Opt
 lacks None path dirs v is = tt
 lacks (Some c) path dirs v is = opened_lacks c path dirs v is
 
-pub opening_lacks : (contents : Option Contents) (path : Bytes) (dirs : List Bytes) (failed : Type 0) (r : Result ImageSet Fault) → Concludes (λ b. b) r failed (OpensTo contents path dirs)
+opening_lacks : (contents : Option Contents) (path : Bytes) (dirs : List Bytes) (failed : Type 0) (r : Result ImageSet Fault) → Concludes (λ b. b) r failed (OpensTo contents path dirs)
     → IfErr r (λ e. e.kind ≡ kind.NotFound → Lacks contents path)
 opening_lacks contents path dirs failed (Ok b) is = tt
 opening_lacks contents path dirs failed (Err e) (inl memory) = λ not_found. absurd cc
 opening_lacks contents path dirs failed (Err e) (inr (inl fault)) = λ not_found. let P : ErrorKind → Type 0 = λ k. IsFaultKind k in absurd (subst P not_found fault.kind)
 opening_lacks contents path dirs failed (Err e) (inr (inr tells)) = λ not_found. let P : ErrorKind → Type 0 = λ k. OpensTo contents path dirs (Refused k tells.values) in lacks contents path dirs tells.values (subst P not_found tells.is_found)
+
+opening_good : (contents : Option Contents) (path : Bytes) (dirs : List Bytes) (failed : Type 0) (r : Result ImageSet Fault) → Concludes (λ b. b) r failed (OpensTo contents path dirs)
+    → IfOk r (λ b. Opens contents path dirs (Good b))
+opening_good contents path dirs failed (Ok b) is = opens_part contents path dirs (Found b) is
+opening_good contents path dirs failed (Err e) is = tt
+
+opening_refusal : (contents : Option Contents) (path : Bytes) (dirs : List Bytes) (failed : Type 0) (r : Result ImageSet Fault) → Concludes (λ b. b) r failed (OpensTo contents path dirs)
+    → IfErr r (IsRefusal (OpensTo contents path dirs) failed)
+opening_refusal contents path dirs failed (Ok b) is = tt
+opening_refusal contents path dirs failed (Err e) is = is
+
+pub opening_concludes : (contents : Option Contents) (path : Bytes) (dirs : List Bytes) (failed : Type 0) (r : Result ImageSet Fault) → Concludes (λ b. b) r failed (OpensTo contents path dirs)
+    → IsOpened contents path dirs failed r
+opening_concludes contents path dirs failed r is = record {
+  good = opening_good contents path dirs failed r is;
+  mark = opening_cause contents path dirs failed r is;
+  mismatch = opening_refusal contents path dirs failed r is;
+  kinds = opening_kinds contents path dirs failed r is;
+  missing = opening_lacks contents path dirs failed r is;
+}
 
 -- ---- the directories
 

@@ -1,10 +1,11 @@
 -- Opening a path: the image, and the companions to which its links lead.
-use Rattle.std.specs.Prelude.{◌≡◌, [], ◌∷◌, List, Option, Some, None, ⊤, codes}
+use Rattle.std.specs.Prelude.{◌≡◌, ◌⊎◌, [], ◌∷◌, List, Option, Some, None, Result, IfErr, IfOk, ⊤, codes}
 use Rattle.std.specs.FinMap as map
+use Rattle.blz_error.specs.Fault.{Fault}
 use Rattle.blz_error.specs.Texts.{Bytes}
 use Rattle.blz_error.specs.declared.kind.ErrorKind.{ErrorKind}
 use Rattle.blz_error.specs.declared.kind.ErrorKind.TheVariants as kind
-use Rattle.blz_model.specs.Part.{Part}
+use Rattle.blz_model.specs.Part.{Part, Broken, Good}
 use Rattle.blz_links.specs.Contents.{Contents}
 use Rattle.blz_bundle.specs.Alternative.{alternative}
 use Rattle.blz_bundle.specs.FileAnswers.{StepAnswers, told_steps, StepsFind}
@@ -13,6 +14,7 @@ use Rattle.blz_bundle.specs.Images.{ImageSet}
 use Rattle.blz_bundle.specs.Linked.{linked}
 use Rattle.blz_bundle.specs.Opened.{Opened, Found, ◌>>=◌, part_of}
 use Rattle.blz_bundle.specs.OpenFiles.{FileAt, images_in, debug_of}
+use Rattle.blz_bundle.specs.Outcomes.{HasKindCause, IsRefusal}
 use Rattle.blz_bundle.specs.Packages.{package_of}
 use Rattle.blz_bundle.specs.Supplementary.{supplementary}
 
@@ -68,3 +70,13 @@ IsOpeningKind k = ⊥
 abbrev pub Lacks : Option Contents → Bytes → Type 0
 Lacks None path = ⊤
 Lacks (Some contents) path = map.get contents path ≡ None
+
+-- What opening a path gives: the bundle that is spelled there; or a refusal with its cause, with the values of the check
+-- that failed, of a kind of opening, and NotFound only where nothing has the path. `failed` says that a failure of the
+-- files was counted.
+pub record IsOpened (contents : Option Contents) (path : Bytes) (dirs : List Bytes) (failed : Type 0) (r : Result ImageSet Fault) : Type 0 where
+  pub good : IfOk r (λ b. Opens contents path dirs (Good b))
+  pub mark : IfErr r (λ e. (e.kind ≡ kind.OutOfMemory) ⊎ HasKindCause e.kind failed (Opens contents path dirs (Broken e.kind)))
+  pub mismatch : IfErr r (IsRefusal (OpensTo contents path dirs) failed)
+  pub kinds : IfErr r (λ e. IsOpeningKind e.kind)
+  pub missing : IfErr r (λ e. e.kind ≡ kind.NotFound → Lacks contents path)

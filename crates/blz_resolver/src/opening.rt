@@ -1,30 +1,21 @@
 //! Opening a path.
-ghost use Rattle.std.specs.Prelude.{◌≡◌, ◌⊎◌, ◌≤◌, IfOk, IfErr, map, string_bytes};
-ghost use Rattle.blz_bundle.specs.Opening.{IsOpeningKind, Lacks, Opens, OpensTo, default_dirs};
-ghost use Rattle.blz_bundle.specs.Outcomes.{HasKindCause, IsRefusal};
+ghost use Rattle.std.specs.Prelude.{map, string_bytes};
+ghost use Rattle.blz_bundle.specs.Opening.{IsOpened, default_dirs};
+ghost use Rattle.blz_bundle.specs.Outcomes.{FilesStay};
 ghost use Rattle.blz_links.specs.Counts.{Rose};
-ghost use Rattle.blz_model.specs.Part.{Good, Broken};
 
 use crate::ElfResolver;
 use blz_bundle::OwnedBundle;
-use blz_error::{ErrorKind, Result};
+use blz_error::Result;
 use blz_links::Files;
 use std::alloc::Global;
 
 impl<'b> ElfResolver<'b> {
     /// Opens a path with the debug files of `/usr/lib/debug` and `/lib/debug/`, as `open_with_debug_dirs` does.
     pub fn open<F: Files>(alloc: Global, files: &mut F, path: &str) -> Result<OwnedBundle>
-        ensures good { IfOk result (λ b. Opens (F.contents files.old) path.now default_dirs (Good b)) }
-        ensures mark { IfErr result (λ e. (e.kind ≡ ErrorKind.OutOfMemory) ⊎ HasKindCause e.kind
-            (Rose (F.faults files.old) (F.faults files.new))
-            (Opens (F.contents files.old) path.now default_dirs (Broken e.kind))) }
-        ensures mismatch { IfErr result (IsRefusal (OpensTo (F.contents files.old) path.now default_dirs)
-            (Rose (F.faults files.old) (F.faults files.new))) }
-        ensures kinds { IfErr result (λ e. IsOpeningKind e.kind) }
-        ensures missing { IfErr result (λ e. e.kind ≡ ErrorKind.NotFound → Lacks (F.contents files.old) path.now) }
-        ensures contents { F.contents files.new ≡ F.contents files.old }
-        ensures stamps { F.stamps files.new ≡ F.stamps files.old }
-        ensures count { F.faults files.old ≤ F.faults files.new }
+        ensures opened { IsOpened (F.contents files.old) path.now default_dirs
+            (Rose (F.faults files.old) (F.faults files.new)) result }
+        ensures stay { FilesStay F.contents F.stamps F.faults files.old files.new }
     {
         OwnedBundle::open(alloc, files, path)
     }
@@ -40,18 +31,9 @@ impl<'b> ElfResolver<'b> {
         path: &str,
         debug_dirs: &[String],
     ) -> Result<OwnedBundle>
-        ensures good { IfOk result (λ b. Opens (F.contents files.old) path.now (map string_bytes debug_dirs.now) (Good b)) }
-        ensures mark { IfErr result (λ e. (e.kind ≡ ErrorKind.OutOfMemory) ⊎ HasKindCause e.kind
-            (Rose (F.faults files.old) (F.faults files.new))
-            (Opens (F.contents files.old) path.now (map string_bytes debug_dirs.now) (Broken e.kind))) }
-        ensures mismatch { IfErr result (IsRefusal
-            (OpensTo (F.contents files.old) path.now (map string_bytes debug_dirs.now))
-            (Rose (F.faults files.old) (F.faults files.new))) }
-        ensures kinds { IfErr result (λ e. IsOpeningKind e.kind) }
-        ensures missing { IfErr result (λ e. e.kind ≡ ErrorKind.NotFound → Lacks (F.contents files.old) path.now) }
-        ensures contents { F.contents files.new ≡ F.contents files.old }
-        ensures stamps { F.stamps files.new ≡ F.stamps files.old }
-        ensures count { F.faults files.old ≤ F.faults files.new }
+        ensures opened { IsOpened (F.contents files.old) path.now (map string_bytes debug_dirs.now)
+            (Rose (F.faults files.old) (F.faults files.new)) result }
+        ensures stay { FilesStay F.contents F.stamps F.faults files.old files.new }
     {
         OwnedBundle::open_with_debug_dirs(alloc, files, path, debug_dirs)
     }

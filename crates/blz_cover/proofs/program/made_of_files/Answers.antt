@@ -17,7 +17,7 @@ returns-in-Err-clause-made g c =
     let hits = c.args.hits.now in
     let failed = Rose (g.F.Files.faults c.args.files.now) (g.F.Files.faults c.open.new.files) in
     let kind = c.in-Err.error.kind in
-    let cause = opening_cause contents image hits kind failed c.in-Err.ensures.mark in
+    let cause = opening_cause contents image hits kind failed c.in-Err.ensures.opened.mark in
     let same = c.refusal.ensures in
     let kind_is = c.kind.ensures in
     rw (same, kind_is) (IsMade-refusal (Unit {0}) kind (FindsCover contents (image, hits)) failed cause)

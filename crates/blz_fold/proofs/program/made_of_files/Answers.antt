@@ -16,4 +16,4 @@ returns-in-Err-clause-made g c =
     let k = c.in-Err.error.kind in
     let F = Rose (g.F.Files.faults c.args.files.now) (g.F.Files.faults c.open.new.files) in
     refused_by Global c.refusal.result k (FindsFolded contents question) F (c.refusal.ensures ∙ ap refusal_of c.kind.ensures)
-    (cause_of k F (Opens contents question.image default_dirs (Broken k)) F (FindsFolded contents question (Mark k)) (λ f. f) (opening_found contents question k) c.in-Err.ensures.mark)
+    (cause_of k F (Opens contents question.image default_dirs (Broken k)) F (FindsFolded contents question (Mark k)) (λ f. f) (opening_found contents question k) c.in-Err.ensures.opened.mark)

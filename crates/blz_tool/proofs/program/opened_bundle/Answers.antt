@@ -15,4 +15,4 @@ returns-in-Some-clause-mark g c =
     ∙ sym (ap (λ given. unwrap_or (option_map (λ dirs. map string_bytes dirs.items) given) default_dirs) c.in-Some.is) in
     subst (λ dirs. IfErr c.open_with_debug_dirs.result (λ e. (e.kind ≡ kind.OutOfMemory) ⊎ HasKindCause e.kind
     (Rose (g.F.Files.faults c.args.files.now) (g.F.Files.faults c.open_with_debug_dirs.new.files))
-    (Opens (g.F.Files.contents c.args.files.now) c.args.question.now.path.now dirs (Broken e.kind)))) same c.open_with_debug_dirs.ensures.mark
+    (Opens (g.F.Files.contents c.args.files.now) c.args.question.now.path.now dirs (Broken e.kind)))) same c.open_with_debug_dirs.ensures.opened.mark
