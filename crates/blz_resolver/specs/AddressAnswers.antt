@@ -5,6 +5,7 @@ use Rattle.std.specs.Str.{is_utf8}
 use Rattle.blz_error.specs.declared.kind.ErrorKind.TheVariants.{InvalidDwarf}
 use Rattle.blz_model.specs.Part.{Part, Good, ◌>>=◌, check}
 use Rattle.blz_model.specs.Answers.{Site, Resolved, Answer, Known, Unknown}
+use Rattle.blz_model.specs.declared.src_lang.SrcLang.{SrcLang}
 use Rattle.blz_elf.specs.Asked.{asks_code_info, asks_inlined_fns}
 use Rattle.blz_symbols.specs.SymbolRule.{image_symbol}
 use Rattle.blz_elf.specs.declared.opts.FindSymOpts.{FindSymOpts}
@@ -43,21 +44,25 @@ abbrev pub size_of : Option Span → Option ℕ
 size_of None = None
 size_of (Some s) = if nat_le s.begin s.end then Some (s.end - s.begin) else None
 
+-- a function of a module with its name and its language, without its places
+abbrev pub symbol_of : Option (List ℕ) → List ℕ → Function → SrcLang → Resolved
+symbol_of module_name name function lang = record {
+  name = name;
+  module_name = module_name;
+  addr = begin_of function.bounds;
+  size = size_of function.bounds;
+  lang = lang;
+  site = None;
+  inlined = [];
+}
+
 -- A function as it is answered, without its places. A name has to be UTF-8; the language is that of the unit itself.
 unfoldable pub function_symbol : Texts → Book → ℕ × ℕ → Part Resolved
 function_symbol t b at = do
   function ← function_numbered b at
   name ← call_name t function.name
   lang ← or_invalid (unit_language b.files b.table at.0)
-  Good (record {
-    name = name;
-    module_name = b.images.main.module_name;
-    addr = begin_of function.bounds;
-    size = size_of function.bounds;
-    lang = lang;
-    site = None;
-    inlined = [];
-  })
+  Good (symbol_of b.images.main.module_name name function lang)
 
 -- ---- its places
 

@@ -1,10 +1,11 @@
 //! A function of a unit, as it is answered.
 ghost use Rattle.std.specs.Prelude.{◌≡◌, ◌<◌, true, length, IfOk};
+ghost use Rattle.std.specs.Option.{option_map};
 ghost use Rattle.blz_model.specs.Part.{Gives, Exactly};
 ghost use Rattle.blz_elf.specs.AnswerView.{resolved_view};
 ghost use Rattle.blz_units.specs.UnitSites.{call_name};
 ghost use Rattle.blz_index.specs.UnitsWarm.{units_table, functions_kept, lines_kept};
-ghost use Rattle.blz_resolver.specs.AddressAnswers.{utf8_text, function_numbered, begin_of, size_of, function_symbol};
+ghost use Rattle.blz_resolver.specs.AddressAnswers.{utf8_text, function_numbered, begin_of, size_of, symbol_of, function_symbol};
 ghost use Rattle.blz_resolver.specs.Reading.{book_of, Reads, Keeps};
 
 use crate::book_reader::BookReader;
@@ -14,6 +15,7 @@ use blz_elf::{InlinedFns, ResolvedSym};
 use blz_entry::{Span, StrPlace, Texts};
 use blz_error::Result;
 use blz_index::{Function, Units};
+use blz_model::SrcLang;
 use std::alloc::{AllocError, Global};
 
 /// Where a function begins, 0 where its bounds are not known.
@@ -56,6 +58,28 @@ pub(crate) fn name_text<'b>(texts: &Texts<'b>, place: Option<StrPlace>) -> Resul
         return Ok("");
     };
     utf8_text(texts.get(place))
+}
+
+/// A function of a module with its name and its language, without its places.
+pub(crate) fn symbol_of<'b>(
+    alloc: Global,
+    module_name: Option<&'b str>,
+    name: &'b str,
+    function: &Function,
+    lang: SrcLang,
+) -> ResolvedSym<'b>
+    ensures { resolved_view result ≡
+        symbol_of (option_map (λ m. m.now) module_name.entry) name.now function.now lang }
+{
+    ResolvedSym {
+        name,
+        module: module_name,
+        addr: begin_of(function.bounds),
+        size: size_of(function.bounds),
+        lang,
+        code_info: None,
+        inlined: InlinedFns::empty(alloc),
+    }
 }
 
 impl<'b> BookReader<'_, 'b> {
@@ -104,14 +128,7 @@ impl<'b> BookReader<'_, 'b> {
         let function = self.function_numbered(units, at)?;
         let name = name_text(&self.dwarf.texts, function.name)?;
         let lang = units.language(alloc, &self.dwarf, at.0)?;
-        Ok(ResolvedSym {
-            name,
-            module: self.bundle.module,
-            addr: begin_of(function.bounds),
-            size: size_of(function.bounds),
-            lang,
-            code_info: None,
-            inlined: InlinedFns::empty(alloc),
-        })
+        let module_name = self.bundle.module;
+        Ok(symbol_of(alloc, module_name, name, &function, lang))
     }
 }

@@ -15,9 +15,9 @@ ghost use Rattle.blz_resolver.specs.Sources.{IsOfDebugFile};
 use crate::answering::placed;
 use crate::book_reader::BookReader;
 use crate::call_places::CallPlaces;
-use crate::function::{begin_of, name_text, size_of};
+use crate::function::{name_text, symbol_of};
 use blz_bytes::Steps;
-use blz_elf::{Answer, ElfParser, FindSymOpts, InlinedFns, ResolvedSym};
+use blz_elf::{Answer, ElfParser, FindSymOpts, ResolvedSym};
 use blz_error::Result;
 use blz_index::Units;
 use blz_line::Location;
@@ -40,15 +40,8 @@ impl<'b> BookReader<'_, 'b> {
         let function = self.function_numbered(units, at)?;
         let name = name_text(&self.dwarf.texts, function.name)?;
         let lang = units.language_prepared(at.0)?;
-        Ok(ResolvedSym {
-            name,
-            module: self.bundle.module,
-            addr: begin_of(function.bounds),
-            size: size_of(function.bounds),
-            lang,
-            code_info: None,
-            inlined: InlinedFns::empty(alloc),
-        })
+        let module_name = self.bundle.module;
+        Ok(symbol_of(alloc, module_name, name, &function, lang))
     }
 
     #[tactic(auto, unfolding(crate::specs::AddressAnswers::direct_site))]
