@@ -1,4 +1,6 @@
 //! What is counted.
+ghost use Rattle.std.specs.Prelude.{◌≡◌};
+ghost use Rattle.blz_cover.specs.Changes.{added, taken};
 
 /// Which way a count goes.
 #[derive(Clone, Copy, Debug, PartialEq, Eq)]
@@ -18,4 +20,28 @@ pub struct Change {
     pub count: u64,
     /// Whether they were added or taken away.
     pub way: Way,
+}
+
+impl Change {
+    /// A count that was added.
+    pub fn added(addr: u64, count: u64) -> Change
+        ensures { result ≡ added addr count }
+    {
+        Change {
+            addr,
+            count,
+            way: Way::Added,
+        }
+    }
+
+    /// A count that was taken away again.
+    pub fn taken(addr: u64, count: u64) -> Change
+        ensures { result ≡ taken addr count }
+    {
+        Change {
+            addr,
+            count,
+            way: Way::Taken,
+        }
+    }
 }

@@ -8,7 +8,7 @@ ghost use Rattle.blz_cover.specs.Covers.{AnswersFault, AppliesChange, IsMark, ch
 ghost use Rattle.blz_cover.specs.Kept.{has_change};
 ghost use Rattle.blz_cover.specs.LineViews.{line_view, source_view};
 
-use crate::change::{Change, Way};
+use crate::change::Change;
 use crate::change_list::ChangeList;
 use crate::cover_line::CoverLine;
 use crate::fault::CoverFault;
@@ -141,12 +141,7 @@ impl<'r, 'b> Cover<'r, 'b> {
         let home = tally.home;
         add_at(&mut self.lines, &mut self.rest, home, count);
         self.total += count;
-        let change = Change {
-            addr,
-            count,
-            way: Way::Added,
-        };
-        self.changes = self.changes.with(&change);
+        self.changes = self.changes.with(&Change::added(addr, count));
         true
     }
 
@@ -169,12 +164,7 @@ impl<'r, 'b> Cover<'r, 'b> {
         let _ = self.tallies.insert(addr, Tally { count, home });
         add_at(&mut self.lines, &mut self.rest, home, count);
         self.total += count;
-        let change = Change {
-            addr,
-            count,
-            way: Way::Added,
-        };
-        self.changes = self.changes.with(&change);
+        self.changes = self.changes.with(&Change::added(addr, count));
         Ok(())
     }
 
@@ -248,12 +238,7 @@ impl<'r, 'b> Cover<'r, 'b> {
         let home = tally.home;
         take_at(&mut self.lines, &mut self.rest, home, count);
         self.total -= count;
-        let change = Change {
-            addr,
-            count,
-            way: Way::Taken,
-        };
-        self.changes = self.changes.with(&change);
+        self.changes = self.changes.with(&Change::taken(addr, count));
         Ok(())
     }
 }

@@ -20,7 +20,7 @@ pub invariant_of-self-2 : goal.invariant_of-self-2
 invariant_of-self-2 c =
     let through = c.get_mut.follows.holds (record { count = c.in-Some.tally.now.count + c.args.count; home = c.in-Some.tally.now.home }) in
     let updated = through.3 (subst (λ o. IsSome o) c.in-Some.ensures.value refl) in
-    rw (c.with-self-inside.ensures, c.add_at.ensures.lines, c.add_at.ensures.rest) (record {
+    rw (c.with-self-inside.ensures, c.added.ensures, c.add_at.ensures.lines, c.add_at.ensures.rest) (record {
       has_debug = c.self.invariant.has_debug;
       is_prepared = c.self.invariant.is_prepared;
       stands = stands_added _ _ c.self.inside.changes.items c.args.addr c.args.count _ _ c.in-Some.tally.now c.self.inside.lines c.self.inside.rest c.self.inside.total c.self.invariant.stands (sym c.in-Some.ensures.value) updated.0;

@@ -33,7 +33,7 @@ invariant_of-self-2 c =
     let unknown : has_change c.args.addr c.self.inside.changes.items ≡ false = subst (λ cs. has_change c.args.addr cs ≡ false) (sym changes) c.requires.unknown in
     let answered : is_answered c.self.inside.resolver.now.images c.args.addr ≡ true = subst (λ i. is_answered i c.args.addr ≡ true) (sym images) c.requires.answered in
     let line = ap (λ i. source_line i c.args.addr) images ∙ c.requires.line in
-    rw (c.with-self-inside.ensures, c.add_at.ensures.lines, c.add_at.ensures.rest, c.in_ok-home.ensures.lines) (record {
+    rw (c.with-self-inside.ensures, c.added.ensures, c.add_at.ensures.lines, c.add_at.ensures.rest, c.in_ok-home.ensures.lines) (record {
       has_debug = c.self.invariant.has_debug;
       is_prepared = c.self.invariant.is_prepared;
       stands = rw c.in_ok-home.ensures.home (stands_new _ _ c.self.inside.changes.items c.args.addr c.args.count _ _ _ c.self.inside.lines c.self.inside.rest c.self.inside.total c.self.invariant.stands unknown line answered
