@@ -1,14 +1,13 @@
 //! The top call.
-ghost use Rattle.std.specs.Prelude.{◌≡◌, ◌⊎◌, ◌≤◌, true, Some, IfOk, IfErr, map, string_bytes};
+ghost use Rattle.std.specs.Prelude.{◌≡◌, ◌≤◌, true, IfOk, IfErr, map, string_bytes};
 ghost use Rattle.blz_model.specs.Part.{Gives};
-ghost use Rattle.blz_program.specs.Outcomes.{line_for};
 ghost use Rattle.blz_program.specs.Programs.{texts_of};
-ghost use Rattle.blz_program.specs.Runs.{HasOutcome, IsCaused, IsMade, TellsLine, status_for};
+ghost use Rattle.blz_program.specs.Runs.{IsAnswered, IsKnown, IsMade};
 ghost use Rattle.blz_resolver.specs.Books.{framed};
 ghost use Rattle.blz_resolver.specs.BundleViews.{bundle_view};
-ghost use Rattle.blz_resolver.specs.Contents.{Contents};
 ghost use Rattle.blz_resolver.specs.Counts.{Rose};
 ghost use Rattle.blz_resolver.specs.FormatKinds.{IsMemoryOrFormat};
+ghost use Rattle.blz_resolver.specs.Outcomes.{FilesStay};
 ghost use Rattle.blz_resolver.specs.Resolver.{has_debug};
 ghost use Rattle.blz_cover.specs.Counting.{Finds, FindsCover, FindsHits, FindsInBundle, cover_texts, found_for, paths_in};
 
@@ -44,18 +43,18 @@ pub fn run_cover<F: Files, O: Orders, S: Sink, E: Sink>(
     err: &mut E,
 ) -> u8
     // Each status has its outcome, with the cause, the bytes on `out` and the line on `err`.
-    ensures caused { HasOutcome result (λ o. IsCaused o (Finds (map string_bytes words.now) (F.contents files.old)) (S.taken out.old) (S.taken out.new)
-        (Rose (F.faults files.old) (F.faults files.new)) (Rose (S.faults out.old) (S.faults out.new))
-        × TellsLine (Rose (E.faults err.old) (E.faults err.new)) (E.taken err.old) (E.taken err.new) (line_for cover_texts o)) }
+    ensures caused { IsAnswered cover_texts result
+        (Finds (map string_bytes words.now) (F.contents files.old))
+        (Rose (F.faults files.old) (F.faults files.new))
+        S.taken S.faults out.old out.new E.taken E.faults err.old err.new }
 
     // Where the contents are told and nothing counted a fault, the status is that of what is found, or there was no memory.
-    ensures complete { (c : Contents) → F.contents files.old ≡ Some c → ¬ (Rose (F.faults files.old) (F.faults files.new))
-        → ¬ (Rose (S.faults out.old) (S.faults out.new))
-        → (result ≡ 4) ⊎ (result ≡ status_for (found_for c (paths_in (map string_bytes words.now)))) }
+    ensures complete { IsKnown (F.contents files.old)
+        (λ c. found_for c (paths_in (map string_bytes words.now)))
+        (Rose (F.faults files.old) (F.faults files.new))
+        (Rose (S.faults out.old) (S.faults out.new)) result }
 
-    ensures contents_stay { F.contents files.new ≡ F.contents files.old }
-    ensures stamps_stay { F.stamps files.new ≡ F.stamps files.old }
-    ensures files_count { F.faults files.old ≤ F.faults files.new }
+    ensures stay { FilesStay F.contents F.stamps F.faults files.old files.new }
     ensures out_count { S.faults out.old ≤ S.faults out.new }
     ensures err_count { E.faults err.old ≤ E.faults err.new }
 {
@@ -69,10 +68,9 @@ fn made_of_words<F: Files, O: Orders>(
     files: &mut F,
     orders: &mut O,
 ) -> Result<Vec<u8>, Outcome>
-    ensures made { IsMade (Finds (map string_bytes words.now) (F.contents files.old)) (Rose (F.faults files.old) (F.faults files.new)) result }
-    ensures contents_stay { F.contents files.new ≡ F.contents files.old }
-    ensures stamps_stay { F.stamps files.new ≡ F.stamps files.old }
-    ensures count { F.faults files.old ≤ F.faults files.new }
+    ensures made { IsMade (Finds (map string_bytes words.now) (F.contents files.old))
+        (Rose (F.faults files.old) (F.faults files.new)) result }
+    ensures stay { FilesStay F.contents F.stamps F.faults files.old files.new }
 {
     match words {
         [image, hits] => made_of_files(alloc, image.as_str(), hits.as_str(), files, orders),
@@ -87,10 +85,9 @@ fn made_of_files<F: Files, O: Orders>(
     files: &mut F,
     orders: &mut O,
 ) -> Result<Vec<u8>, Outcome>
-    ensures made { IsMade (FindsCover (F.contents files.old) (image.now, hits.now)) (Rose (F.faults files.old) (F.faults files.new)) result }
-    ensures contents_stay { F.contents files.new ≡ F.contents files.old }
-    ensures stamps_stay { F.stamps files.new ≡ F.stamps files.old }
-    ensures count { F.faults files.old ≤ F.faults files.new }
+    ensures made { IsMade (FindsCover (F.contents files.old) (image.now, hits.now))
+        (Rose (F.faults files.old) (F.faults files.new)) result }
+    ensures stay { FilesStay F.contents F.stamps F.faults files.old files.new }
 {
     match ElfResolver::open(alloc, files, image) {
         Ok(bundle) => made_of_bundle(alloc, &bundle, hits, files, orders),
@@ -105,10 +102,9 @@ fn made_of_bundle<F: Files, O: Orders>(
     files: &mut F,
     orders: &mut O,
 ) -> Result<Vec<u8>, Outcome>
-    ensures made { IsMade (FindsInBundle (F.contents files.old) bundle.now hits.now) (Rose (F.faults files.old) (F.faults files.new)) result }
-    ensures contents_stay { F.contents files.new ≡ F.contents files.old }
-    ensures stamps_stay { F.stamps files.new ≡ F.stamps files.old }
-    ensures count { F.faults files.old ≤ F.faults files.new }
+    ensures made { IsMade (FindsInBundle (F.contents files.old) bundle.now hits.now)
+        (Rose (F.faults files.old) (F.faults files.new)) result }
+    ensures stay { FilesStay F.contents F.stamps F.faults files.old files.new }
 {
     match prepared(alloc, orders, &bundle.bundle()) {
         Ok(resolver) => made_of_hits(alloc, &resolver, hits, files),
@@ -124,10 +120,9 @@ fn made_of_hits<F: Files>(
 ) -> Result<Vec<u8>, Outcome>
     requires has_debug { has_debug resolver.now ≡ true }
     requires is_prepared { resolver.now.prepared ≡ true }
-    ensures made { IsMade (FindsHits (F.contents files.old) resolver.now.images hits.now) (Rose (F.faults files.old) (F.faults files.new)) result }
-    ensures contents_stay { F.contents files.new ≡ F.contents files.old }
-    ensures stamps_stay { F.stamps files.new ≡ F.stamps files.old }
-    ensures count { F.faults files.old ≤ F.faults files.new }
+    ensures made { IsMade (FindsHits (F.contents files.old) resolver.now.images hits.now)
+        (Rose (F.faults files.old) (F.faults files.new)) result }
+    ensures stay { FilesStay F.contents F.stamps F.faults files.old files.new }
 {
     match read_file(alloc, files, hits) {
         Ok(text) => counted(alloc, resolver, &text),

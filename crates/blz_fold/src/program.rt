@@ -1,11 +1,10 @@
 //! The top call.
-ghost use Rattle.std.specs.Prelude.{◌≡◌, ◌⊎◌, ◌<◌, ◌≤◌, ◌^◌, Some, map, string_bytes};
-ghost use Rattle.blz_program.specs.Outcomes.{line_for};
+ghost use Rattle.std.specs.Prelude.{◌≡◌, ◌<◌, ◌≤◌, ◌^◌, map, string_bytes};
 ghost use Rattle.blz_program.specs.Programs.{texts_of};
-ghost use Rattle.blz_program.specs.Runs.{HasOutcome, IsCaused, IsMade, TellsLine, status_for};
+ghost use Rattle.blz_program.specs.Runs.{IsAnswered, IsKnown, IsMade};
 ghost use Rattle.blz_resolver.specs.BundleViews.{bundle_view};
-ghost use Rattle.blz_resolver.specs.Contents.{Contents};
 ghost use Rattle.blz_resolver.specs.Counts.{Rose};
+ghost use Rattle.blz_resolver.specs.Outcomes.{FilesStay};
 ghost use Rattle.blz_fold.specs.Questions.{asked_by, question_view};
 ghost use Rattle.blz_fold.specs.Runs.{Finds, FindsFolded, asked, fold_texts, found_folded, found_for, found_parsed};
 ghost use Rattle.blz_fold.specs.AddressStacks.{count_total};
@@ -45,18 +44,18 @@ pub fn run_fold<F: Files, O: Orders, S: Sink, E: Sink>(
     err: &mut E,
 ) -> u8
     // Each status has its outcome, with the cause, the bytes on `out` and the line on `err`.
-    ensures caused { HasOutcome result (λ o. IsCaused o (Finds (map string_bytes words.now) (F.contents files.old)) (S.taken out.old) (S.taken out.new)
-        (Rose (F.faults files.old) (F.faults files.new)) (Rose (S.faults out.old) (S.faults out.new))
-        × TellsLine (Rose (E.faults err.old) (E.faults err.new)) (E.taken err.old) (E.taken err.new) (line_for fold_texts o)) }
+    ensures caused { IsAnswered fold_texts result
+        (Finds (map string_bytes words.now) (F.contents files.old))
+        (Rose (F.faults files.old) (F.faults files.new))
+        S.taken S.faults out.old out.new E.taken E.faults err.old err.new }
 
     // Where the contents are told and nothing counted a fault, what is found decides, or there was no memory.
-    ensures complete { (c : Contents) → F.contents files.old ≡ Some c
-        → ¬ (Rose (F.faults files.old) (F.faults files.new)) → ¬ (Rose (S.faults out.old) (S.faults out.new))
-        → (result ≡ 4) ⊎ (result ≡ status_for (found_for c (asked (map string_bytes words.now)))) }
+    ensures complete { IsKnown (F.contents files.old)
+        (λ c. found_for c (asked (map string_bytes words.now)))
+        (Rose (F.faults files.old) (F.faults files.new))
+        (Rose (S.faults out.old) (S.faults out.new)) result }
 
-    ensures contents_stay { F.contents files.new ≡ F.contents files.old }
-    ensures stamps_stay { F.stamps files.new ≡ F.stamps files.old }
-    ensures files_count { F.faults files.old ≤ F.faults files.new }
+    ensures stay { FilesStay F.contents F.stamps F.faults files.old files.new }
     ensures out_count { S.faults out.old ≤ S.faults out.new }
     ensures err_count { E.faults err.old ≤ E.faults err.new }
 {
@@ -100,10 +99,9 @@ fn made_of_words<F: Files, O: Orders>(
     files: &mut F,
     orders: &mut O,
 ) -> Result<Vec<u8>, Outcome>
-    ensures made { IsMade (Finds (map string_bytes words.now) (F.contents files.old)) (Rose (F.faults files.old) (F.faults files.new)) result }
-    ensures contents_stay { F.contents files.new ≡ F.contents files.old }
-    ensures stamps_stay { F.stamps files.new ≡ F.stamps files.old }
-    ensures count { F.faults files.old ≤ F.faults files.new }
+    ensures made { IsMade (Finds (map string_bytes words.now) (F.contents files.old))
+        (Rose (F.faults files.old) (F.faults files.new)) result }
+    ensures stay { FilesStay F.contents F.stamps F.faults files.old files.new }
 {
     match Question::from_words(words) {
         Some(question) => made_of_files(alloc, &question, files, orders),
@@ -117,10 +115,9 @@ fn made_of_files<F: Files, O: Orders>(
     files: &mut F,
     orders: &mut O,
 ) -> Result<Vec<u8>, Outcome>
-    ensures made { IsMade (FindsFolded (F.contents files.old) (asked_by question.now)) (Rose (F.faults files.old) (F.faults files.new)) result }
-    ensures contents_stay { F.contents files.new ≡ F.contents files.old }
-    ensures stamps_stay { F.stamps files.new ≡ F.stamps files.old }
-    ensures count { F.faults files.old ≤ F.faults files.new }
+    ensures made { IsMade (FindsFolded (F.contents files.old) (asked_by question.now))
+        (Rose (F.faults files.old) (F.faults files.new)) result }
+    ensures stay { FilesStay F.contents F.stamps F.faults files.old files.new }
 {
     let bundle = match ElfResolver::open(alloc, files, question.image) {
         Ok(bundle) => bundle,

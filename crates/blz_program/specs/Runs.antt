@@ -1,11 +1,13 @@
 -- What a run does, and the cause of each status.
-use Rattle.std.specs.Prelude.{◌≡◌, ◌⊎◌, ◌<◌, ℕ, ⊤, ◌++◌, length, Option, Result, Ok, Err}
+use Rattle.std.specs.Prelude.{◌≡◌, ◌⊎◌, ◌<◌, ℕ, ⊤, ◌++◌, length, Option, Some, Result, Ok, Err}
 use Rattle.std.specs.Io.KnownBytes.{Appends, Keeps}
 use Rattle.std.specs.declared.vec.Vec.{Vec}
 use Rattle.blz_error.specs.Texts.{Bytes}
 use Rattle.blz_error.specs.declared.kind.ErrorKind.{ErrorKind}
+use Rattle.blz_resolver.specs.Contents.{Contents}
+use Rattle.blz_resolver.specs.Counts.{Rose}
 use Rattle.blz_resolver.specs.Outcomes.{HasKindCause}
-use Rattle.blz_program.specs.Outcomes.{status_of}
+use Rattle.blz_program.specs.Outcomes.{ProgramTexts, line_for, status_of}
 use Rattle.blz_program.specs.declared.outcome.LineFault.{LineFault}
 use Rattle.blz_program.specs.declared.outcome.Outcome.{Outcome}
 use Rattle.blz_program.specs.declared.outcome.Outcome.TheVariants.{Done, Refused, Usage, BadLine, WriteFailed, OutOfMemory}
@@ -109,3 +111,17 @@ EndsBy (Ok v) (Refused k) old new out_failed = ⊥
 EndsBy (Ok v) Usage old new out_failed = ⊥
 EndsBy (Ok v) (BadLine line fault) old new out_failed = ⊥
 EndsBy (Ok v) OutOfMemory old new out_failed = ⊥
+
+-- ---- what a program answers
+
+-- The status has its outcome, with its cause, with the bytes on the sink of answers, and with the line on the other sink.
+-- Of each sink: what it took, its count of failures, and its state before and after.
+abbrev pub IsAnswered : {S E : Type 0} → ProgramTexts → ℕ → (Found → Type 0) → Type 0 → (S → Option Bytes) → (S → ℕ) → S → S → (E → Option Bytes) → (E → ℕ) → E → E → Type 0
+IsAnswered texts status Finds files_failed taken faults out out_after told told_faults err err_after =
+    HasOutcome status (λ o. IsCaused o Finds (taken out) (taken out_after) files_failed (Rose (faults out) (faults out_after))
+    × TellsLine (Rose (told_faults err) (told_faults err_after)) (told err) (told err_after) (line_for texts o))
+
+-- Where the contents are told and no failure was counted, the status is that of what is found, or there was no memory.
+abbrev pub IsKnown : Option Contents → (Contents → Found) → Type 0 → Type 0 → ℕ → Type 0
+IsKnown contents found_for files_failed out_failed status = (c : Contents) → contents ≡ Some c → ¬ files_failed → ¬ out_failed
+    → (status ≡ 4) ⊎ (status ≡ status_for (found_for c))

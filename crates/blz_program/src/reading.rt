@@ -1,7 +1,7 @@
 //! Reading a file whole.
-ghost use Rattle.std.specs.Prelude.{◌≡◌, ◌⊎◌, ◌≤◌, Some, None, IfOk, IfErr};
+ghost use Rattle.std.specs.Prelude.{◌≡◌, ◌⊎◌, Some, IfOk, IfErr};
 ghost use Rattle.blz_resolver.specs.Counts.{Rose};
-ghost use Rattle.blz_resolver.specs.Outcomes.{HasKindCause};
+ghost use Rattle.blz_resolver.specs.Outcomes.{FilesStay, HasKindCause};
 ghost use Rattle.blz_program.specs.Reading.{FindsNothing, Holds};
 
 use blz_error::{ErrorKind, Result};
@@ -13,9 +13,7 @@ pub fn read_file<F: Files>(alloc: Global, files: &mut F, path: &str) -> Result<V
     ensures good { IfOk result (λ v. Holds (F.contents files.old) path.now (Some v.items)) }
     ensures mark { IfErr result (λ e. (e.kind ≡ ErrorKind.OutOfMemory) ⊎ HasKindCause e.kind
         (Rose (F.faults files.old) (F.faults files.new)) (FindsNothing (F.contents files.old) path.now e.kind)) }
-    ensures contents { F.contents files.new ≡ F.contents files.old }
-    ensures stamps { F.stamps files.new ≡ F.stamps files.old }
-    ensures count { F.faults files.old ≤ F.faults files.new }
+    ensures stay { FilesStay F.contents F.stamps F.faults files.old files.new }
 {
     let bytes = files.read(alloc, path)?;
     Ok(bytes)

@@ -1,13 +1,11 @@
 //! The top call.
-ghost use Rattle.std.specs.Prelude.{◌≡◌, ◌⊎◌, ◌<◌, ◌≤◌, Option, Some, None, IfOk, IfErr, length, map, string_bytes};
+ghost use Rattle.std.specs.Prelude.{◌≡◌, ◌⊎◌, ◌<◌, ◌≤◌, None, IfOk, IfErr, length, map, string_bytes};
 ghost use Rattle.blz_model.specs.Part.{Gives, Good, Broken};
-ghost use Rattle.blz_program.specs.Outcomes.{line_for};
 ghost use Rattle.blz_program.specs.Programs.{texts_of};
-ghost use Rattle.blz_program.specs.Runs.{HasOutcome, IsCaused, IsMade, TellsLine, status_for};
-ghost use Rattle.blz_resolver.specs.Contents.{Contents};
+ghost use Rattle.blz_program.specs.Runs.{IsAnswered, IsKnown, IsMade};
 ghost use Rattle.blz_resolver.specs.Counts.{Rose};
 ghost use Rattle.blz_resolver.specs.FormatKinds.{IsMemoryOrFormat};
-ghost use Rattle.blz_resolver.specs.Outcomes.{HasKindCause};
+ghost use Rattle.blz_resolver.specs.Outcomes.{FilesStay, HasKindCause};
 ghost use Rattle.blz_rows.specs.QuestionViews.{question_view};
 ghost use Rattle.blz_rows.specs.Runs as rows;
 ghost use Rattle.blz_rows.specs.Runs.{FilesFail, Finds, Prints, found_for, rows_texts, text_for};
@@ -48,21 +46,22 @@ pub fn run_rows<F: Files, O: Orders, S: Sink, E: Sink>(
     err: &mut E,
 ) -> u8
     // Each status has its outcome, with the cause, the bytes on `out` and the line on `err`.
-    ensures caused { HasOutcome result (λ o. IsCaused o (Finds (asked (map string_bytes words.now)) (F.contents files.old)) (S.taken out.old) (S.taken out.new)
-        (FilesFail (asked (map string_bytes words.now)) (Rose (F.faults files.old) (F.faults files.new))) (Rose (S.faults out.old) (S.faults out.new))
-        × TellsLine (Rose (E.faults err.old) (E.faults err.new)) (E.taken err.old) (E.taken err.new) (line_for rows_texts o)) }
+    ensures caused { IsAnswered rows_texts result
+        (Finds (asked (map string_bytes words.now)) (F.contents files.old))
+        (FilesFail (asked (map string_bytes words.now))
+        (Rose (F.faults files.old) (F.faults files.new)))
+        S.taken S.faults out.old out.new E.taken E.faults err.old err.new }
 
     // Where the contents are told and nothing counted a fault, a text gives 0 and a mark 1, or there was no memory.
-    ensures complete { (c : Contents) → F.contents files.old ≡ Some c → ¬ (Rose (F.faults files.old) (F.faults files.new))
-        → ¬ (Rose (S.faults out.old) (S.faults out.new))
-        → (result ≡ 4) ⊎ (result ≡ status_for (found_for c (asked (map string_bytes words.now)))) }
+    ensures complete { IsKnown (F.contents files.old)
+        (λ c. found_for c (asked (map string_bytes words.now)))
+        (Rose (F.faults files.old) (F.faults files.new))
+        (Rose (S.faults out.old) (S.faults out.new)) result }
 
     // Words that are not of their form give 2.
     ensures malformed { asked (map string_bytes words.now) ≡ None → result ≡ 2 }
 
-    ensures contents_stay { F.contents files.new ≡ F.contents files.old }
-    ensures stamps_stay { F.stamps files.new ≡ F.stamps files.old }
-    ensures files_count { F.faults files.old ≤ F.faults files.new }
+    ensures stay { FilesStay F.contents F.stamps F.faults files.old files.new }
     ensures out_count { S.faults out.old ≤ S.faults out.new }
     ensures err_count { E.faults err.old ≤ E.faults err.new }
 {
@@ -77,11 +76,10 @@ fn made_of_words<F: Files, O: Orders>(
     orders: &mut O,
 ) -> Result<Vec<u8>, Outcome>
     ensures made { IsMade (Finds (asked (map string_bytes words.now)) (F.contents files.old))
-        (FilesFail (asked (map string_bytes words.now)) (Rose (F.faults files.old) (F.faults files.new))) result }
+        (FilesFail (asked (map string_bytes words.now))
+        (Rose (F.faults files.old) (F.faults files.new))) result }
     ensures malformed { asked (map string_bytes words.now) ≡ None → result ≡ Err Outcome.Usage }
-    ensures contents_stay { F.contents files.new ≡ F.contents files.old }
-    ensures stamps_stay { F.stamps files.new ≡ F.stamps files.old }
-    ensures count { F.faults files.old ≤ F.faults files.new }
+    ensures stay { FilesStay F.contents F.stamps F.faults files.old files.new }
 {
     match Question::from_words(words) {
         Some(question) => made_of_question(alloc, files, orders, &question),
@@ -99,9 +97,7 @@ fn made_of_question<F: Files, O: Orders>(
     requires numbered { 1 ≤ question.now.line }
     ensures made { IsMade (rows.Gives (F.contents files.old) (question_view question.now))
         (Rose (F.faults files.old) (F.faults files.new)) result }
-    ensures contents_stay { F.contents files.new ≡ F.contents files.old }
-    ensures stamps_stay { F.stamps files.new ≡ F.stamps files.old }
-    ensures count { F.faults files.old ≤ F.faults files.new }
+    ensures stay { FilesStay F.contents F.stamps F.faults files.old files.new }
 {
     match printed(alloc, files, orders, question) {
         Ok(text) => Ok(text),
@@ -118,13 +114,12 @@ fn printed<F: Files, O: Orders>(
 ) -> blz_error::Result<Vec<u8>>
     requires named { 0 < length question.now.file.now }
     requires numbered { 1 ≤ question.now.line }
-    ensures good { IfOk result (λ v. Prints (F.contents files.old) (question_view question.now) (Good v.items)) }
+    ensures good { IfOk result (λ v.
+        Prints (F.contents files.old) (question_view question.now) (Good v.items)) }
     ensures mark { IfErr result (λ e. (e.kind ≡ ErrorKind.OutOfMemory) ⊎ HasKindCause e.kind
         (Rose (F.faults files.old) (F.faults files.new))
         (Prints (F.contents files.old) (question_view question.now) (Broken e.kind))) }
-    ensures contents_stay { F.contents files.new ≡ F.contents files.old }
-    ensures stamps_stay { F.stamps files.new ≡ F.stamps files.old }
-    ensures count { F.faults files.old ≤ F.faults files.new }
+    ensures stay { FilesStay F.contents F.stamps F.faults files.old files.new }
 {
     let bundle = ElfResolver::open(alloc, files, question.path)?;
     answer_text(alloc, orders, &bundle, question)

@@ -1,14 +1,12 @@
 //! The top call.
-ghost use Rattle.std.specs.Prelude.{◌≡◌, ◌⊎◌, ◌≤◌, ℕ, true, Some, IfOk, IfErr, map, string_bytes};
+ghost use Rattle.std.specs.Prelude.{◌≡◌, ◌⊎◌, ◌≤◌, ℕ, true, IfOk, IfErr, map, string_bytes};
 ghost use Rattle.blz_model.specs.Part.{Gives, Good, Broken};
-ghost use Rattle.blz_program.specs.Outcomes.{line_for};
 ghost use Rattle.blz_program.specs.Programs.{texts_of};
-ghost use Rattle.blz_program.specs.Runs.{HasOutcome, IsCaused, IsMade, IsText, TellsLine, status_for};
-ghost use Rattle.blz_resolver.specs.Contents.{Contents};
+ghost use Rattle.blz_program.specs.Runs.{IsAnswered, IsKnown, IsMade, IsText, status_for};
 ghost use Rattle.blz_resolver.specs.Counts.{Rose};
 ghost use Rattle.blz_resolver.specs.FormatKinds.{IsMemoryOrFormat};
 ghost use Rattle.blz_resolver.specs.Opening.{Opens};
-ghost use Rattle.blz_resolver.specs.Outcomes.{HasKindCause};
+ghost use Rattle.blz_resolver.specs.Outcomes.{FilesStay, HasKindCause};
 ghost use Rattle.blz_tool.specs.CommandLine.{Demo, Malformed, asked, is_taken, named};
 ghost use Rattle.blz_tool.specs.Requests.{question_view, request_view};
 ghost use Rattle.blz_tool.specs.Runs.{FailsNamed, FilesFail, Finds, FindsNamed, FindsPart, Prints, dirs_of, found_for, found_in, text_for, tool_texts};
@@ -49,27 +47,30 @@ pub fn run<F: Files, O: Orders, S: Sink, E: Sink>(
     err: &mut E,
 ) -> u8
     // Each status has its outcome, with the cause, the bytes on `out` and the line on `err`.
-    ensures caused { HasOutcome result (λ o. IsCaused o (Finds (map string_bytes words.now) (F.contents files.old)) (S.taken out.old) (S.taken out.new)
-        (FilesFail (map string_bytes words.now) (Rose (F.faults files.old) (F.faults files.new))) (Rose (S.faults out.old) (S.faults out.new))
-        × TellsLine (Rose (E.faults err.old) (E.faults err.new)) (E.taken err.old) (E.taken err.new) (line_for tool_texts o)) }
+    ensures caused { IsAnswered tool_texts result
+        (Finds (map string_bytes words.now) (F.contents files.old))
+        (FilesFail (map string_bytes words.now)
+        (Rose (F.faults files.old) (F.faults files.new)))
+        S.taken S.faults out.old out.new E.taken E.faults err.old err.new }
 
     // Where the simple command takes the words, the contents are told and nothing counted a fault, a text gives 0 and a
     // mark 1, or there was no memory.
-    ensures complete { (c : Contents) → F.contents files.old ≡ Some c → is_taken (map string_bytes words.now) ≡ true
-        → ¬ (Rose (F.faults files.old) (F.faults files.new)) → ¬ (Rose (S.faults out.old) (S.faults out.new))
-        → (result ≡ 4) ⊎ (result ≡ status_for (found_for c (asked (map string_bytes words.now)))) }
+    ensures complete { is_taken (map string_bytes words.now) ≡ true → IsKnown (F.contents files.old)
+        (λ c. found_for c (asked (map string_bytes words.now)))
+        (Rose (F.faults files.old) (F.faults files.new))
+        (Rose (S.faults out.old) (S.faults out.new)) result }
 
     // The demo reads no files: its text gives 0 where `out` counted no fault, and a mark gives 1, or there was no memory.
-    ensures demo { (n : ℕ) → asked (map string_bytes words.now) ≡ Demo n → is_taken (map string_bytes words.now) ≡ true
+    ensures demo { (n : ℕ) → asked (map string_bytes words.now) ≡ Demo n
+        → is_taken (map string_bytes words.now) ≡ true
         → (Rose (S.faults out.old) (S.faults out.new) → ¬ (IsText (found_in (summary n))))
         → (result ≡ 4) ⊎ (result ≡ status_for (found_in (summary n))) }
 
     // Words that are not of their form give 2, or there was no memory.
-    ensures malformed { asked (map string_bytes words.now) ≡ Malformed → (result ≡ 4) ⊎ (result ≡ 2) }
+    ensures malformed { asked (map string_bytes words.now) ≡ Malformed
+        → (result ≡ 4) ⊎ (result ≡ 2) }
 
-    ensures contents_stay { F.contents files.new ≡ F.contents files.old }
-    ensures stamps_stay { F.stamps files.new ≡ F.stamps files.old }
-    ensures files_count { F.faults files.old ≤ F.faults files.new }
+    ensures stay { FilesStay F.contents F.stamps F.faults files.old files.new }
     ensures out_count { S.faults out.old ≤ S.faults out.new }
     ensures err_count { E.faults err.old ≤ E.faults err.new }
 {
@@ -96,10 +97,9 @@ fn made_of_words<F: Files, O: Orders>(
     orders: &mut O,
 ) -> Result<Vec<u8>, Outcome>
     ensures made { IsMade (Finds (map string_bytes words.now) (F.contents files.old))
-        (FilesFail (map string_bytes words.now) (Rose (F.faults files.old) (F.faults files.new))) result }
-    ensures contents_stay { F.contents files.new ≡ F.contents files.old }
-    ensures stamps_stay { F.stamps files.new ≡ F.stamps files.old }
-    ensures count { F.faults files.old ≤ F.faults files.new }
+        (FilesFail (map string_bytes words.now)
+        (Rose (F.faults files.old) (F.faults files.new))) result }
+    ensures stay { FilesStay F.contents F.stamps F.faults files.old files.new }
 {
     match named_words(alloc, words) {
         Ok(given) => made_of_named(alloc, &given, files, orders),
@@ -114,10 +114,9 @@ fn made_of_named<F: Files, O: Orders>(
     orders: &mut O,
 ) -> Result<Vec<u8>, Outcome>
     ensures made { IsMade (FindsNamed (map (λ w. w.now) given.now) (F.contents files.old))
-        (FailsNamed (map (λ w. w.now) given.now) (Rose (F.faults files.old) (F.faults files.new))) result }
-    ensures contents_stay { F.contents files.new ≡ F.contents files.old }
-    ensures stamps_stay { F.stamps files.new ≡ F.stamps files.old }
-    ensures count { F.faults files.old ≤ F.faults files.new }
+        (FailsNamed (map (λ w. w.now) given.now)
+        (Rose (F.faults files.old) (F.faults files.new))) result }
+    ensures stay { FilesStay F.contents F.stamps F.faults files.old files.new }
 {
     match request_in(alloc, given) {
         Ok(Some(Request::Resolve(question))) => made_of_question(alloc, files, orders, &question),
@@ -146,9 +145,7 @@ fn made_of_question<F: Files, O: Orders>(
 ) -> Result<Vec<u8>, Outcome>
     ensures made { IsMade (FindsPart (Prints (F.contents files.old) (question_view question.now)))
         (Rose (F.faults files.old) (F.faults files.new)) result }
-    ensures contents_stay { F.contents files.new ≡ F.contents files.old }
-    ensures stamps_stay { F.stamps files.new ≡ F.stamps files.old }
-    ensures count { F.faults files.old ≤ F.faults files.new }
+    ensures stay { FilesStay F.contents F.stamps F.faults files.old files.new }
 {
     match printed(alloc, files, orders, question) {
         Ok(text) => Ok(text),
@@ -163,13 +160,12 @@ fn printed<F: Files, O: Orders>(
     orders: &mut O,
     question: &Question<'_>,
 ) -> blz_error::Result<Vec<u8>>
-    ensures good { IfOk result (λ v. Prints (F.contents files.old) (question_view question.now) (Good v.items)) }
+    ensures good { IfOk result (λ v.
+        Prints (F.contents files.old) (question_view question.now) (Good v.items)) }
     ensures mark { IfErr result (λ e. (e.kind ≡ ErrorKind.OutOfMemory) ⊎ HasKindCause e.kind
         (Rose (F.faults files.old) (F.faults files.new))
         (Prints (F.contents files.old) (question_view question.now) (Broken e.kind))) }
-    ensures contents_stay { F.contents files.new ≡ F.contents files.old }
-    ensures stamps_stay { F.stamps files.new ≡ F.stamps files.old }
-    ensures count { F.faults files.old ≤ F.faults files.new }
+    ensures stay { FilesStay F.contents F.stamps F.faults files.old files.new }
 {
     let bundle = opened_bundle(alloc, files, question)?;
     answers_text(alloc, orders, &bundle, question)
@@ -181,13 +177,13 @@ fn opened_bundle<F: Files>(
     files: &mut F,
     question: &Question<'_>,
 ) -> blz_error::Result<OwnedBundle>
-    ensures good { IfOk result (λ b. Opens (F.contents files.old) question.now.path.now (dirs_of (question_view question.now)) (Good b)) }
+    ensures good { IfOk result (λ b. Opens (F.contents files.old) question.now.path.now
+        (dirs_of (question_view question.now)) (Good b)) }
     ensures mark { IfErr result (λ e. (e.kind ≡ ErrorKind.OutOfMemory) ⊎ HasKindCause e.kind
         (Rose (F.faults files.old) (F.faults files.new))
-        (Opens (F.contents files.old) question.now.path.now (dirs_of (question_view question.now)) (Broken e.kind))) }
-    ensures contents_stay { F.contents files.new ≡ F.contents files.old }
-    ensures stamps_stay { F.stamps files.new ≡ F.stamps files.old }
-    ensures count { F.faults files.old ≤ F.faults files.new }
+        (Opens (F.contents files.old) question.now.path.now
+        (dirs_of (question_view question.now)) (Broken e.kind))) }
+    ensures stay { FilesStay F.contents F.stamps F.faults files.old files.new }
 {
     match &question.dirs {
         Some(dirs) => ElfResolver::open_with_debug_dirs(alloc, files, question.path, dirs),

@@ -20,7 +20,7 @@ returns-clause-caused g c =
     _ tool_texts c.blz_tool.ensures c.made_of_words-made.ensures.made c.finish.ensures.ended
 
 pub returns-clause-complete : goal.returns-clause-complete
-returns-clause-complete g c contents is taken no_files no_out =
+returns-clause-complete g c taken contents is no_files no_out =
     HasOutcome-known c.finish.result (Finds (map string_bytes c.args.words.now) (g.F.Files.contents c.args.files.now)) (found_for contents (asked (map string_bytes c.args.words.now)))
     (g.S.Sink.taken c.args.out.now) (g.S.Sink.taken c.finish.new.out)
     (FilesFail (map string_bytes c.args.words.now) (Rose (g.F.Files.faults c.args.files.now) (g.F.Files.faults c.made_of_words-made.new.files)))
