@@ -4,6 +4,24 @@ ghost use Rattle.blz_records.specs.Classes.{by_class, Widens};
 
 use crate::Pod;
 
+// A field that both classes have; `widened` where it has 32 bits in the one and 64 in the other.
+macro_rules! of_either {
+    ($record:expr, $field:ident) => {
+        match $record {
+            ElfN::B32(r) => r.$field,
+            ElfN::B64(r) => r.$field,
+        }
+    };
+    ($record:expr, $field:ident, widened) => {
+        match $record {
+            ElfN::B32(r) => u64::from(r.$field),
+            ElfN::B64(r) => r.$field,
+        }
+    };
+}
+
+pub(crate) use of_either;
+
 /// A record of class 64 that has one of class 32.
 pub trait Has32BitTy {
     /// The record of class 32.

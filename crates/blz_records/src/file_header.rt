@@ -2,6 +2,7 @@
 ghost use Rattle.std.specs.Prelude.{◌≡◌, ◌≤◌, length, slice_range};
 ghost use Rattle.blz_records.specs.Classes.{by_class};
 
+use crate::class::of_either;
 use crate::numbers::{u16_in, u32_in, u64_in};
 use crate::{ByteOrder, ElfN, Has32BitTy, Pod};
 
@@ -126,59 +127,41 @@ impl ElfN<Elf64_Ehdr> {
     pub fn type_(&self) -> u16
         ensures { result ≡ by_class (λ r. r.e_type) (λ r. r.e_type) self.now }
     {
-        match self {
-            ElfN::B32(r) => r.e_type,
-            ElfN::B64(r) => r.e_type,
-        }
+        of_either!(self, e_type)
     }
 
     /// Where the program headers begin.
     pub fn phoff(&self) -> u64
         ensures { result ≡ by_class (λ r. r.e_phoff) (λ r. r.e_phoff) self.now }
     {
-        match self {
-            ElfN::B32(r) => u64::from(r.e_phoff),
-            ElfN::B64(r) => r.e_phoff,
-        }
+        of_either!(self, e_phoff, widened)
     }
 
     /// Where the section headers begin.
     pub fn shoff(&self) -> u64
         ensures { result ≡ by_class (λ r. r.e_shoff) (λ r. r.e_shoff) self.now }
     {
-        match self {
-            ElfN::B32(r) => u64::from(r.e_shoff),
-            ElfN::B64(r) => r.e_shoff,
-        }
+        of_either!(self, e_shoff, widened)
     }
 
     /// The number of program headers, as the header says.
     pub fn phnum(&self) -> u16
         ensures { result ≡ by_class (λ r. r.e_phnum) (λ r. r.e_phnum) self.now }
     {
-        match self {
-            ElfN::B32(r) => r.e_phnum,
-            ElfN::B64(r) => r.e_phnum,
-        }
+        of_either!(self, e_phnum)
     }
 
     /// The number of section headers, as the header says.
     pub fn shnum(&self) -> u16
         ensures { result ≡ by_class (λ r. r.e_shnum) (λ r. r.e_shnum) self.now }
     {
-        match self {
-            ElfN::B32(r) => r.e_shnum,
-            ElfN::B64(r) => r.e_shnum,
-        }
+        of_either!(self, e_shnum)
     }
 
     /// The section of the section names, as the header says.
     pub fn shstrndx(&self) -> u16
         ensures { result ≡ by_class (λ r. r.e_shstrndx) (λ r. r.e_shstrndx) self.now }
     {
-        match self {
-            ElfN::B32(r) => r.e_shstrndx,
-            ElfN::B64(r) => r.e_shstrndx,
-        }
+        of_either!(self, e_shstrndx)
     }
 }

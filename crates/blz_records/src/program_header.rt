@@ -2,6 +2,7 @@
 ghost use Rattle.std.specs.Prelude.{◌≡◌, ◌≤◌, length};
 ghost use Rattle.blz_records.specs.Classes.{by_class};
 
+use crate::class::of_either;
 use crate::numbers::{u32_in, u64_in};
 use crate::{ByteOrder, ElfN, Has32BitTy, Pod};
 
@@ -111,29 +112,20 @@ impl ElfN<Elf64_Phdr> {
     pub fn type_(&self) -> u32
         ensures { result ≡ by_class (λ r. r.p_type) (λ r. r.p_type) self.now }
     {
-        match self {
-            ElfN::B32(r) => r.p_type,
-            ElfN::B64(r) => r.p_type,
-        }
+        of_either!(self, p_type)
     }
 
     /// Where the bytes begin in the file.
     pub fn offset(&self) -> u64
         ensures { result ≡ by_class (λ r. r.p_offset) (λ r. r.p_offset) self.now }
     {
-        match self {
-            ElfN::B32(r) => u64::from(r.p_offset),
-            ElfN::B64(r) => r.p_offset,
-        }
+        of_either!(self, p_offset, widened)
     }
 
     /// The number of bytes in the file.
     pub fn file_size(&self) -> u64
         ensures { result ≡ by_class (λ r. r.p_filesz) (λ r. r.p_filesz) self.now }
     {
-        match self {
-            ElfN::B32(r) => u64::from(r.p_filesz),
-            ElfN::B64(r) => r.p_filesz,
-        }
+        of_either!(self, p_filesz, widened)
     }
 }

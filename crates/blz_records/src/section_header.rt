@@ -2,6 +2,7 @@
 ghost use Rattle.std.specs.Prelude.{◌≡◌, ◌≤◌, length};
 ghost use Rattle.blz_records.specs.Classes.{by_class};
 
+use crate::class::of_either;
 use crate::numbers::{u32_in, u64_in};
 use crate::{ByteOrder, ElfN, Has32BitTy, Pod};
 
@@ -121,89 +122,62 @@ impl ElfN<Elf64_Shdr> {
     pub fn name(&self) -> u32
         ensures { result ≡ by_class (λ r. r.sh_name) (λ r. r.sh_name) self.now }
     {
-        match self {
-            ElfN::B32(r) => r.sh_name,
-            ElfN::B64(r) => r.sh_name,
-        }
+        of_either!(self, sh_name)
     }
 
     /// The kind of the section.
     pub fn type_(&self) -> u32
         ensures { result ≡ by_class (λ r. r.sh_type) (λ r. r.sh_type) self.now }
     {
-        match self {
-            ElfN::B32(r) => r.sh_type,
-            ElfN::B64(r) => r.sh_type,
-        }
+        of_either!(self, sh_type)
     }
 
     /// The attributes of the section.
     pub fn flags(&self) -> u64
         ensures { result ≡ by_class (λ r. r.sh_flags) (λ r. r.sh_flags) self.now }
     {
-        match self {
-            ElfN::B32(r) => u64::from(r.sh_flags),
-            ElfN::B64(r) => r.sh_flags,
-        }
+        of_either!(self, sh_flags, widened)
     }
 
     /// The address of the first byte.
     pub fn addr(&self) -> u64
         ensures { result ≡ by_class (λ r. r.sh_addr) (λ r. r.sh_addr) self.now }
     {
-        match self {
-            ElfN::B32(r) => u64::from(r.sh_addr),
-            ElfN::B64(r) => r.sh_addr,
-        }
+        of_either!(self, sh_addr, widened)
     }
 
     /// Where the bytes begin in the file.
     pub fn offset(&self) -> u64
         ensures { result ≡ by_class (λ r. r.sh_offset) (λ r. r.sh_offset) self.now }
     {
-        match self {
-            ElfN::B32(r) => u64::from(r.sh_offset),
-            ElfN::B64(r) => r.sh_offset,
-        }
+        of_either!(self, sh_offset, widened)
     }
 
     /// The number of bytes.
     pub fn size(&self) -> u64
         ensures { result ≡ by_class (λ r. r.sh_size) (λ r. r.sh_size) self.now }
     {
-        match self {
-            ElfN::B32(r) => u64::from(r.sh_size),
-            ElfN::B64(r) => r.sh_size,
-        }
+        of_either!(self, sh_size, widened)
     }
 
     /// The section that this one goes with.
     pub fn link(&self) -> u32
         ensures { result ≡ by_class (λ r. r.sh_link) (λ r. r.sh_link) self.now }
     {
-        match self {
-            ElfN::B32(r) => r.sh_link,
-            ElfN::B64(r) => r.sh_link,
-        }
+        of_either!(self, sh_link)
     }
 
     /// A further number, by the kind of the section.
     pub fn info(&self) -> u32
         ensures { result ≡ by_class (λ r. r.sh_info) (λ r. r.sh_info) self.now }
     {
-        match self {
-            ElfN::B32(r) => r.sh_info,
-            ElfN::B64(r) => r.sh_info,
-        }
+        of_either!(self, sh_info)
     }
 
     /// The size of an entry, as the header says.
     pub fn entsize(&self) -> u64
         ensures { result ≡ by_class (λ r. r.sh_entsize) (λ r. r.sh_entsize) self.now }
     {
-        match self {
-            ElfN::B32(r) => u64::from(r.sh_entsize),
-            ElfN::B64(r) => r.sh_entsize,
-        }
+        of_either!(self, sh_entsize, widened)
     }
 }

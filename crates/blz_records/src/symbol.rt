@@ -3,6 +3,7 @@ ghost use Rattle.std.specs.Prelude.{◌≡◌, ◌≤◌, length};
 ghost use Rattle.blz_records.specs.Classes.{by_class};
 ghost use Rattle.blz_records.specs.SymbolTypes.{code_of, matches};
 
+use crate::class::of_either;
 use crate::numbers::{u16_in, u32_in, u64_in};
 use crate::{ByteOrder, ElfN, Has32BitTy, Pod, SymType};
 
@@ -134,40 +135,28 @@ impl ElfN<Elf64_Sym> {
     pub fn name(&self) -> u32
         ensures { result ≡ by_class (λ r. r.st_name) (λ r. r.st_name) self.now }
     {
-        match self {
-            ElfN::B32(r) => r.st_name,
-            ElfN::B64(r) => r.st_name,
-        }
+        of_either!(self, st_name)
     }
 
     /// The value.
     pub fn value(&self) -> u64
         ensures { result ≡ by_class (λ r. r.st_value) (λ r. r.st_value) self.now }
     {
-        match self {
-            ElfN::B32(r) => u64::from(r.st_value),
-            ElfN::B64(r) => r.st_value,
-        }
+        of_either!(self, st_value, widened)
     }
 
     /// The number of bytes that the symbol covers.
     pub fn size(&self) -> u64
         ensures { result ≡ by_class (λ r. r.st_size) (λ r. r.st_size) self.now }
     {
-        match self {
-            ElfN::B32(r) => u64::from(r.st_size),
-            ElfN::B64(r) => r.st_size,
-        }
+        of_either!(self, st_size, widened)
     }
 
     /// The section that the symbol stands in.
     pub fn shndx(&self) -> u16
         ensures { result ≡ by_class (λ r. r.st_shndx) (λ r. r.st_shndx) self.now }
     {
-        match self {
-            ElfN::B32(r) => r.st_shndx,
-            ElfN::B64(r) => r.st_shndx,
-        }
+        of_either!(self, st_shndx)
     }
 
     /// The type of the symbol.
