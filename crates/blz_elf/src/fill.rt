@@ -2,20 +2,18 @@
 ghost use Rattle.std.specs.Prelude.{◌≡◌, true, IfOk, OnErr, OnOk};
 ghost use Rattle.std.specs.Option.{option_map};
 ghost use Rattle.blz_model.specs.Part.{Exactly};
-ghost use Rattle.blz_model.specs.Kept.{Kept, is_kept};
+ghost use Rattle.blz_model.specs.Kept.{is_kept};
 ghost use Rattle.blz_image.specs.Headers.{header_of};
 ghost use Rattle.blz_image.specs.Formats.{section_size};
 ghost use Rattle.blz_image.specs.Images.{elf_of, image_sections};
 ghost use Rattle.blz_image.specs.Places.{RowsFit, sections_in};
-ghost use Rattle.blz_image.specs.RelocationTables.{image_relocations};
 ghost use Rattle.blz_image.specs.Views.{header_view};
 ghost use Rattle.blz_image.specs.declared.symbols.TableKind.TheVariants.{Symtab, Dynsym};
-ghost use Rattle.blz_image.specs.SymbolTables.{table_of, image_table};
 ghost use Rattle.blz_symbols.specs.SymbolRule.{symbol_for, table_answer, dynamic_answer, reason_for};
 ghost use Rattle.blz_elf.specs.AnswerView.{answer_view};
 ghost use Rattle.blz_image.specs.Frames.{FrameFits, frame_view};
-ghost use Rattle.blz_symbols.specs.Tables.{TableFits, table_view};
-ghost use Rattle.blz_elf.specs.Warm.{Fits, is_sorted};
+ghost use Rattle.blz_symbols.specs.Tables.{TableKept};
+ghost use Rattle.blz_elf.specs.Warm.{Fits, KeepsRelocations, KeepsTable, is_sorted};
 
 use crate::answer::Answer;
 use crate::lookup::answer_in;
@@ -43,8 +41,8 @@ pub fn sort_table<O: Orders>(
     kind: TableKind,
     table: &mut Cache<Table>,
 ) -> std::result::Result<(), AllocError>
-    requires { Kept (TableFits image.now) (table_view image.now) table.old (image_table kind image.now) }
-    ensures kept { Kept (TableFits image.now) (table_view image.now) table.new (image_table kind image.now) }
+    requires { KeepsTable kind image.now table.old }
+    ensures kept { KeepsTable kind image.now table.new }
     ensures filled { is_kept table.new ≡ is_kept table.old }
     ensures before { is_sorted table.old ≡ true → is_sorted table.new ≡ true }
     ensures sorted { IfOk result (λ _. is_kept table.old ≡ true → is_sorted table.new ≡ true) }
@@ -65,8 +63,8 @@ pub fn sort_from_second<O: Orders>(
     kind: TableKind,
     table: &mut Cache<Table>,
 ) -> std::result::Result<(), AllocError>
-    requires { Kept (TableFits image.now) (table_view image.now) table.old (image_table kind image.now) }
-    ensures kept { Kept (TableFits image.now) (table_view image.now) table.new (image_table kind image.now) }
+    requires { KeepsTable kind image.now table.old }
+    ensures kept { KeepsTable kind image.now table.new }
     ensures filled { is_kept table.new ≡ is_kept table.old }
     ensures before { is_sorted table.old ≡ true → is_sorted table.new ≡ true }
     ensures refused { OnErr result (table.new ≡ table.old) }
@@ -85,8 +83,8 @@ pub fn sort_kept<O: Orders>(
     kind: TableKind,
     table: &mut Cache<Table>,
 ) -> std::result::Result<(), AllocError>
-    requires { Kept (TableFits image.now.image) (table_view image.now.image) table.old (table_of kind image.now) }
-    ensures kept { Kept (TableFits image.now.image) (table_view image.now.image) table.new (table_of kind image.now) }
+    requires { TableKept kind image.now table.old }
+    ensures kept { TableKept kind image.now table.new }
     ensures filled { is_kept table.new ≡ is_kept table.old }
     ensures before { is_sorted table.old ≡ true → is_sorted table.new ≡ true }
     ensures sorted { IfOk result (λ _. is_kept table.old ≡ true → is_sorted table.new ≡ true) }
@@ -108,7 +106,7 @@ pub fn look<'b>(
     table: &Cache<Table>,
     addr: u64,
 ) -> Result<Option<Answer<'b>>>
-    requires kept { Kept (TableFits image.now.image) (table_view image.now.image) table.now (table_of kind image.now) }
+    requires kept { TableKept kind image.now table.now }
     requires full { is_kept table.now ≡ true }
     ensures { Exactly (option_map answer_view) result (table_answer (option_map (λ m. m.now) module_name.entry) image.now kind addr) }
 {
@@ -127,7 +125,7 @@ pub fn look<'b>(
 /// Why there is no symbol, by a table of `.symtab` that is kept.
 #[tactic(auto, unfolding(blz_symbols::specs::SymbolRule::reason_for))]
 fn reason(image: &Image<'_>, symtab: &Cache<Table>) -> Result<Reason>
-    requires kept { Kept (TableFits image.now.image) (table_view image.now.image) symtab.now (table_of Symtab image.now) }
+    requires kept { TableKept Symtab image.now symtab.now }
     requires full { is_kept symtab.now ≡ true }
     ensures { Exactly (λ r. r) result (reason_for image.now) }
 {
@@ -149,8 +147,8 @@ pub fn look_dynamic<'b>(
     dynsym: &Cache<Table>,
     addr: u64,
 ) -> Result<Answer<'b>>
-    requires symtab { Kept (TableFits image.now.image) (table_view image.now.image) symtab.now (table_of Symtab image.now) }
-    requires dynsym { Kept (TableFits image.now.image) (table_view image.now.image) dynsym.now (table_of Dynsym image.now) }
+    requires symtab { TableKept Symtab image.now symtab.now }
+    requires dynsym { TableKept Dynsym image.now dynsym.now }
     requires full { is_kept symtab.now ≡ true }
     requires dynsym_full { is_kept dynsym.now ≡ true }
     ensures { Exactly answer_view result (dynamic_answer (option_map (λ m. m.now) module_name.entry) image.now addr) }
@@ -171,8 +169,8 @@ pub fn look_both<'b>(
     dynsym: &Cache<Table>,
     addr: u64,
 ) -> Result<Answer<'b>>
-    requires symtab { Kept (TableFits image.now.image) (table_view image.now.image) symtab.now (table_of Symtab image.now) }
-    requires dynsym { Kept (TableFits image.now.image) (table_view image.now.image) dynsym.now (table_of Dynsym image.now) }
+    requires symtab { TableKept Symtab image.now symtab.now }
+    requires dynsym { TableKept Dynsym image.now dynsym.now }
     requires full { is_kept symtab.now ≡ true }
     requires dynsym_full { is_kept dynsym.now ≡ true }
     ensures { Exactly answer_view result (symbol_for (option_map (λ m. m.now) module_name.entry) image.now addr) }
@@ -185,8 +183,8 @@ pub fn look_both<'b>(
 
 /// Reads a table where nothing is kept.
 pub fn fill_table(table: &mut Cache<Table>, image: &Image<'_>, kind: TableKind)
-    requires { Kept (TableFits image.now.image) (table_view image.now.image) table.old (table_of kind image.now) }
-    ensures kept { Kept (TableFits image.now.image) (table_view image.now.image) table.new (table_of kind image.now) }
+    requires { TableKept kind image.now table.old }
+    ensures kept { TableKept kind image.now table.new }
     ensures full { is_kept table.new ≡ true }
     ensures sorted { is_sorted table.old ≡ true → is_sorted table.new ≡ true }
 {
@@ -235,11 +233,11 @@ pub fn fill_relocations(
     header: Result<Header>,
     rows: Result<Rows>,
 ) -> std::result::Result<(), AllocError>
-    requires kept { Kept (λ _. Unit {0}) (λ m. m) kept.old (image_relocations image.now) }
+    requires kept { KeepsRelocations image.now kept.old }
     requires header { Exactly header_view header (header_of image.now) }
     requires rows { Exactly (sections_in image.now) rows (image_sections image.now) }
     requires fits { IfOk rows (RowsFit section_size image.now) }
-    ensures kept { Kept (λ _. Unit {0}) (λ m. m) kept.new (image_relocations image.now) }
+    ensures kept { KeepsRelocations image.now kept.new }
     ensures full { OnOk result (is_kept kept.new ≡ true) }
     ensures before { OnErr result (is_kept kept.new ≡ is_kept kept.old) }
 {
@@ -260,7 +258,7 @@ fn relocations_part(
     requires header { Exactly header_view header (header_of image.now) }
     requires rows { Exactly (sections_in image.now) rows (image_sections image.now) }
     requires fits { IfOk rows (RowsFit section_size image.now) }
-    ensures kept { IfOk result (λ c. Kept (λ _. Unit {0}) (λ m. m) c (image_relocations image.now)) }
+    ensures kept { IfOk result (KeepsRelocations image.now) }
     ensures full { IfOk result (λ c. is_kept c ≡ true) }
 {
     let header = match header {

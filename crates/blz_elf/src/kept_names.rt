@@ -1,16 +1,13 @@
 //! The names of both tables of symbols, filled and looked at.
-ghost use Rattle.std.specs.Prelude.{◌≡◌, true, List, map, IfOk, OnErr};
-ghost use Rattle.blz_model.specs.Part.{Exactly, Gives, Part};
-ghost use Rattle.blz_model.specs.Kept.{Kept, is_kept};
+ghost use Rattle.std.specs.Prelude.{◌≡◌, true, map, IfOk, OnErr};
+ghost use Rattle.blz_model.specs.Part.{Exactly, Gives};
+ghost use Rattle.blz_model.specs.Kept.{is_kept};
 ghost use Rattle.blz_image.specs.declared.symbols.TableKind.TheVariants.{Symtab, Dynsym};
-ghost use Rattle.blz_image.specs.Frames.{FrameFits, frame_view};
-ghost use Rattle.blz_image.specs.Images.{elf_of};
-ghost use Rattle.blz_image.specs.SymbolTables.{image_table};
 ghost use Rattle.blz_symbols.specs.NameOrders.{NamesFit, NamesKept, names_view};
-ghost use Rattle.blz_symbols.specs.NameRule.{Named, image_symbol_names, listed_names, names_read, symbol_names};
+ghost use Rattle.blz_symbols.specs.NameRule.{listed_names, names_read, symbol_names};
 ghost use Rattle.blz_symbols.specs.NameSteps.{named_view, passes};
-ghost use Rattle.blz_symbols.specs.Tables.{TableFits, TableKept, table_view};
-ghost use Rattle.blz_elf.specs.Warm.{is_sorted};
+ghost use Rattle.blz_symbols.specs.Tables.{TableKept};
+ghost use Rattle.blz_elf.specs.Warm.{KeepsFrame, KeepsNames, KeepsTable, is_sorted};
 
 use crate::fill::{fill_table, sort_kept};
 use blz_bytes::Orders;
@@ -159,18 +156,18 @@ pub fn fill_names<O: Orders>(
     symtab_names: &mut Cache<KeptNames>,
     dynsym_names: &mut Cache<KeptNames>,
 ) -> std::result::Result<(), AllocError>
-    requires frame { Kept (FrameFits image.now) (frame_view image.now) frame.now (elf_of image.now) }
+    requires frame { KeepsFrame image.now frame.now }
     requires frame_full { is_kept frame.now ≡ true }
-    requires symtab { Kept (TableFits image.now) (table_view image.now) symtab.old (image_table Symtab image.now) }
-    requires dynsym { Kept (TableFits image.now) (table_view image.now) dynsym.old (image_table Dynsym image.now) }
-    requires symtab_names { Kept (NamesFit image.now) (names_view image.now) symtab_names.old (image_symbol_names Symtab image.now) }
-    requires dynsym_names { Kept (NamesFit image.now) (names_view image.now) dynsym_names.old (image_symbol_names Dynsym image.now) }
-    ensures symtab { Kept (TableFits image.now) (table_view image.now) symtab.new (image_table Symtab image.now) }
+    requires symtab { KeepsTable Symtab image.now symtab.old }
+    requires dynsym { KeepsTable Dynsym image.now dynsym.old }
+    requires symtab_names { KeepsNames Symtab image.now symtab_names.old }
+    requires dynsym_names { KeepsNames Dynsym image.now dynsym_names.old }
+    ensures symtab { KeepsTable Symtab image.now symtab.new }
     ensures symtab_sorted { is_sorted symtab.old ≡ true → is_sorted symtab.new ≡ true }
-    ensures dynsym { Kept (TableFits image.now) (table_view image.now) dynsym.new (image_table Dynsym image.now) }
+    ensures dynsym { KeepsTable Dynsym image.now dynsym.new }
     ensures dynsym_sorted { is_sorted dynsym.old ≡ true → is_sorted dynsym.new ≡ true }
-    ensures symtab_names { Kept (NamesFit image.now) (names_view image.now) symtab_names.new (image_symbol_names Symtab image.now) }
-    ensures dynsym_names { Kept (NamesFit image.now) (names_view image.now) dynsym_names.new (image_symbol_names Dynsym image.now) }
+    ensures symtab_names { KeepsNames Symtab image.now symtab_names.new }
+    ensures dynsym_names { KeepsNames Dynsym image.now dynsym_names.new }
     ensures symtab_before { is_kept symtab_names.old ≡ true → is_kept symtab_names.new ≡ true }
     ensures dynsym_before { is_kept dynsym_names.old ≡ true → is_kept dynsym_names.new ≡ true }
     ensures symtab_full { IfOk result (λ _. is_kept symtab_names.new ≡ true) }

@@ -1,5 +1,4 @@
 //! The answer of the symbol rule.
-ghost use Rattle.std.specs.Prelude.{◌≡◌};
 ghost use Rattle.std.specs.Option.{option_map};
 ghost use Rattle.blz_model.specs.Part.{Exactly};
 ghost use Rattle.blz_symbols.specs.Tables.{TableFits, table_view};
