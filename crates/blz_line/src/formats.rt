@@ -3,7 +3,7 @@ ghost use Rattle.std.specs.Prelude.{◌≡◌, ◌<◌, []};
 ghost use Rattle.blz_error.specs.declared.kind.ErrorKind.TheVariants.{InvalidDwarf};
 ghost use Rattle.blz_model.specs.Part.{Gives, or_mark};
 ghost use Rattle.blz_info.specs.Contents.{section_view};
-ghost use Rattle.blz_line.specs.Formats.{format_at, formats_in, formats_at, with_content, values_in, entry_at, entries_in, path_count, formatted_at, formatted_paths};
+ghost use Rattle.blz_line.specs.Formats.{format_at, formats_in, formats_at, with_content, entry_at, entries_in, path_count, formatted_at, formatted_paths};
 
 use crate::broken::broken;
 use crate::paths::{FileEntry, Paths};

@@ -1,5 +1,5 @@
 //! The line table of a unit, and the line of an address in it.
-ghost use Rattle.std.specs.Prelude.{◌≡◌, ◌≤◌, length, map, slice_get, Option, Some, None, IfOk, IfSome, true};
+ghost use Rattle.std.specs.Prelude.{◌≡◌, map, slice_get, IfOk, IfSome};
 ghost use Rattle.std.specs.Option.{option_map};
 ghost use Rattle.blz_error.specs.declared.kind.ErrorKind.TheVariants.{InvalidDwarf};
 ghost use Rattle.blz_model.specs.Part.{Gives, Exactly, or_mark};
@@ -11,7 +11,7 @@ ghost use Rattle.blz_line.specs.Headers.{rules_of};
 ghost use Rattle.blz_line.specs.Lookups.{spans_of, row_in, site_of, line_at, location_view};
 ghost use Rattle.blz_line.specs.TableView.{table_view};
 ghost use Rattle.blz_line.specs.RowOrder.{AreRising};
-ghost use Rattle.blz_line.specs.UnitLines.{LineTable, OrderedLines, program_of, table_of, table_at, lines_of};
+ghost use Rattle.blz_line.specs.UnitLines.{OrderedLines, table_of, table_at, lines_of};
 
 use crate::broken::broken;
 use crate::files::{Files, file_text};

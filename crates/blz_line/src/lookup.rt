@@ -1,5 +1,5 @@
 //! What sequences cover, and the row of an address.
-ghost use Rattle.std.specs.Prelude.{◌≡◌, IfOk, Option};
+ghost use Rattle.std.specs.Prelude.{◌≡◌, IfOk};
 ghost use Rattle.blz_line.specs.Lookups.{span_of, spans_of, row_at};
 ghost use Rattle.blz_line.specs.RowOrder.{IsRising};
 

@@ -1,8 +1,8 @@
 //! The tables of directories and files.
-ghost use Rattle.std.specs.Prelude.{◌≡◌, ◌≤◌, ◌<◌, [], length, IfSome, IfOk};
+ghost use Rattle.std.specs.Prelude.{◌≡◌, ◌≤◌, ◌<◌, length, IfSome};
 ghost use Rattle.blz_error.specs.declared.kind.ErrorKind.TheVariants.{InvalidDwarf};
 ghost use Rattle.blz_model.specs.Part.{Gives, or_mark};
-ghost use Rattle.blz_line.specs.PathTables.{text_place, file_numbers, file_at, entry_behind, listed_in, listed_at, listed_paths};
+ghost use Rattle.blz_line.specs.PathTables.{text_place, file_numbers, file_at, entry_behind, listed_at, listed_paths};
 
 use crate::broken::broken;
 use crate::table::Table;

@@ -1,5 +1,5 @@
 //! The machine that runs a line number program.
-ghost use Rattle.std.specs.Prelude.{◌≡◌, ◌≤◌, ◌<◌, ◌+◌, length, IfOk, IfErr, Some, MatchResult};
+ghost use Rattle.std.specs.Prelude.{◌≡◌, ◌≤◌, ◌<◌, ◌+◌, length, IfOk, Some, MatchResult};
 ghost use Rattle.blz_error.specs.declared.kind.ErrorKind.TheVariants.{InvalidDwarf};
 ghost use Rattle.blz_model.specs.Part.{Fails, or_mark};
 ghost use Rattle.blz_info.specs.Contents.{section_view};

@@ -1,5 +1,5 @@
 //! The registers of the machine.
-ghost use Rattle.std.specs.Prelude.{◌≡◌, ◌<◌, ◌-◌, ◌/◌, ◌%◌, pos, ◌+ℤ◌, Some};
+ghost use Rattle.std.specs.Prelude.{◌≡◌, ◌<◌, ◌/◌, ◌%◌};
 ghost use Rattle.blz_line.specs.Registers.{first_registers, greatest, advanced, moved_on, set_address, line_plus, special, moved_by};
 
 use crate::opcode::Op;

@@ -1,22 +1,17 @@
 -- No row of a sequence has the address of the row before it: such a row replaces the other.
-use Rattle.std.proofs.Common.{◌≡◌, ◌≢◌, ◌⊎◌, ℕ, zero, suc, ◌+◌, ◌-◌, ◌<◌, ◌≤◌, Bool, true, false, cond, eqb, ltb, ◌||◌, List, [], ◌∷◌, ◌++◌, length, take, get_or, Option, Some, refl, sym, ap, subst, ◌∙◌, arith, inl, inr}
+use Rattle.std.proofs.Common.{◌≡◌, ◌≢◌, ◌⊎◌, ℕ, suc, ◌+◌, ◌-◌, ◌<◌, ◌≤◌, Bool, true, false, cond, eqb, List, [], ◌∷◌, ◌++◌, length, take, get_or, Option, Some, refl, sym, ap, ◌∙◌, arith, inl, inr}
 use Rattle.std.specs.List.{All}
 use Rattle.std.proofs.lemmas.Bool.{cases_lt}
 use Rattle.std.proofs.lemmas.Bool.Decides.{Decides-eqb}
 use Rattle.std.proofs.lemmas.List.{get_or-append-add, get_or-take, length-append, length-take}
-use Rattle.std.proofs.lemmas.List.Elements.{All-append}
 use Rattle.std.proofs.lemmas.Option.{slice_get-get_or}
 use Rattle.std.proofs.Math.ListN.{get_or-append}
 use Rattle.blz_info.specs.Contents.{Contents}
 use Rattle.blz_line.specs.declared.row.LineRow.{LineRow}
 use Rattle.blz_line.specs.declared.rules.Rules.{Rules}
-use Rattle.blz_line.specs.declared.opcode.Op.{Op}
-use Rattle.blz_line.specs.declared.opcode.Op.TheVariants.{Special, Copy, AdvancePc, AdvanceLine, SetFile, SetColumn, Nothing, ConstAddPc, FixedAdvancePc, EndSequence, SetAddress, DefineFile}
-use Rattle.blz_line.specs.Registers.{moved_by}
 use Rattle.blz_line.specs.Sequences.{Sequence}
-use Rattle.blz_line.specs.Program.{State, row_of, is_at, last_is_at, with_row, makes_row, closed_by, ended, noted, step, run_in, run_from}
-use Rattle.blz_line.specs.Opcodes.{op_at}
-use Rattle.blz_line.proofs.RisingRows.{bound}
+use Rattle.blz_line.specs.Program.{State, is_at, last_is_at, with_row, run_from}
+use Rattle.blz_line.proofs.RunRows.{run_from-keeps}
 
 -- ---- the rows
 
@@ -88,83 +83,10 @@ row_added : (rows : List LineRow) (row : LineRow) → AreApart rows → AreApart
 unfolding with_row
 row_added rows row h = by_test (last_is_at rows row.address) (take (length rows - 1) rows) rows row (replaced rows row h) (kept rows row h)
 
--- ---- the machine
+-- ---- the sequences
 
 abbrev pub AllApart : List Sequence → Type 0
 AllApart sequences = All (λ (s : Sequence). AreApart s.rows) sequences
 
-record IsApart (s : State) : Type 0 where
-  pub rows : AreApart s.rows
-  pub sequences : AllApart s.sequences
-
-either : (b : Bool) (s t : State) → IsApart s → IsApart t → IsApart (cond b s t)
-either true s t h k = h
-either false s t h k = k
-
-made : (s : State) → IsApart s → IsApart (makes_row s)
-made s h = either s.registers.skipping s _ h (record { rows = row_added s.rows (row_of s.registers) h.rows; sequences = h.sequences })
-
-no_sequences : AllApart []
-no_sequences = λ k d lt. absurd (omega arith)
-
-one_sequence : (q : Sequence) → AreApart q.rows → AllApart (q ∷ [])
-one_sequence q h zero d lt = h
-one_sequence q h (suc k) d lt = absurd (omega arith)
-
-either_all : (b : Bool) (xs ys : List Sequence) → AllApart xs → AllApart ys → AllApart (cond b xs ys)
-either_all true xs ys h k = h
-either_all false xs ys h k = k
-
-closed : (s : State) → IsApart s → AllApart (closed_by s)
-closed s h = either_all (s.registers.skipping || eqb (length s.rows) 0) [] _ no_sequences (one_sequence _ h.rows)
-
-ended_apart : (s : State) → IsApart s → IsApart (ended s)
-unfolding ended
-ended_apart s h = record {
-  rows = no_rows;
-  sequences = All-append (λ (q : Sequence). AreApart q.rows) s.sequences (closed_by s) h.sequences (closed s h);
-}
-
-noted_apart : (op : Op) (s : State) → IsApart s → IsApart (noted op s)
-noted_apart (Special code) s h = made s h
-noted_apart Copy s h = made s h
-noted_apart EndSequence s h = ended_apart s h
-noted_apart (DefineFile file) s h = record { rows = h.rows; sequences = h.sequences }
-noted_apart (AdvancePc count) s h = h
-noted_apart (AdvanceLine by) s h = h
-noted_apart (SetFile file) s h = h
-noted_apart (SetColumn column) s h = h
-noted_apart Nothing s h = h
-noted_apart ConstAddPc s h = h
-noted_apart (FixedAdvancePc by) s h = h
-noted_apart (SetAddress a) s h = h
-
-same_state : (s t : State) → Some s ≡ Some t → IsApart s → IsApart t
-same_state s t e h = let same : s ≡ t = cc in subst IsApart same h
-
-step_apart : (r : Rules) (s t : State) (op : Op) → step r s op ≡ Some t → IsApart s → IsApart t
-unfolding step
-step_apart r s t op e h =
-    let b = bound (moved_by r s.registers op) _ t e in
-    same_state _ t b.2 (noted_apart op _ (record { rows = h.rows; sequences = h.sequences }))
-
-either_state : (b : Bool) (x y : Option State) (t : State) → (x ≡ Some t → IsApart t) → (y ≡ Some t → IsApart t) → cond b x y ≡ Some t → IsApart t
-either_state true x y t h k e = h e
-either_state false x y t h k e = k e
-
-run_apart : (r : Rules) (counts : List ℕ) (c : Contents) (n : ℕ) (s t : State) (place : ℕ) → run_in r counts c n s place ≡ Some t → IsApart s → IsApart t
-unfolding run_in
-run_apart r counts c zero s t place e h = absurd cc
-run_apart r counts c (suc n) s t place e h =
-    either_state (ltb place (length c.bytes)) _ (Some s) t
-    (λ more.
-    let read = bound (op_at r counts c place) _ t more in
-    let stepped = bound (step r s read.0.0) _ t read.2 in
-    run_apart r counts c n stepped.0 t read.0.1 stepped.2 (step_apart r s stepped.0 read.0.0 stepped.1 h))
-    (λ done. same_state s t done h) e
-
 pub run_from-apart : (r : Rules) (counts : List ℕ) (c : Contents) (s t : State) (place : ℕ) → run_from r counts c s place ≡ Some t → s.rows ≡ [] → s.sequences ≡ [] → AllApart t.sequences
-unfolding run_from
-run_from-apart r counts c s t place e none nothing =
-    let start : IsApart s = record { rows = rw none no_rows; sequences = rw nothing no_sequences } in
-    (run_apart r counts c (length c.bytes + 1) s t place e start).sequences
+run_from-apart = run_from-keeps (λ a. AreApart) AreApart (λ a. no_rows) (λ a b rows le h. h) (λ a rows row h is. row_added rows row h) (λ a rows h. h)

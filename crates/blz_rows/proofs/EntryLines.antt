@@ -15,7 +15,7 @@ use Rattle.blz_line.specs.Sequences.{Sequence}
 use Rattle.blz_line.specs.UnitLines.{LineTable}
 use Rattle.blz_line.specs.declared.files.FilePlaces.{FilePlaces}
 use Rattle.blz_line.specs.declared.row.LineRow.{LineRow}
-use Rattle.blz_line.proofs.RisingRows.{bound}
+use Rattle.blz_line.proofs.MovedUp.{bound}
 use Rattle.blz_units.specs.BuiltUnits.{Files}
 use Rattle.blz_units.specs.UnitAnswers.{main_unit, unit_lines}
 use Rattle.blz_units.specs.UnitSites.{first_line, line_in, line_of, location_at, site_or}

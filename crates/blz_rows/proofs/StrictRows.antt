@@ -18,7 +18,8 @@ use Rattle.blz_line.specs.UnitLines.{LineTable, counts_of, maybe_table, program_
 use Rattle.blz_line.specs.declared.files.FilePlaces.{FilePlaces}
 use Rattle.blz_line.specs.declared.header.LineHeader.{LineHeader}
 use Rattle.blz_line.specs.declared.row.LineRow.{LineRow}
-use Rattle.blz_line.proofs.RisingRows.{bound, run_rising}
+use Rattle.blz_line.proofs.MovedUp.{bound}
+use Rattle.blz_line.proofs.RisingRows.{run_rising}
 use Rattle.blz_rows.proofs.ApartRows.{AllApart, AreApart, run_from-apart}
 
 -- ---- one sequence
