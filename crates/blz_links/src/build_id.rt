@@ -2,86 +2,85 @@
 ghost use Rattle.std.specs.Prelude.{◌≡◌, map};
 ghost use Rattle.std.specs.Option.{option_map};
 ghost use Rattle.blz_model.specs.Part.{Exactly};
-ghost use Rattle.blz_links.specs.BuildIds.{build_id_of, extent_build_id, first_build_id, image_build_id, section_notes, segment_notes, segments_build_id};
+ghost use Rattle.blz_links.specs.BuildIds.{build_id_of, extent_build_id, first_build_id, image_build_id, segments_build_id};
 
 use crate::notes::noted_build_id;
 use crate::refusal::invalid;
 use blz_bytes::{ByteOrder, piece_at};
 use blz_constants::elf::{PT_NOTE, SHT_NOTE};
-use blz_elf::{ElfN_Phdr, ElfN_Phdrs, ElfN_Shdr, ElfN_Shdrs, ElfParser};
+use blz_elf::{ElfNSlice, ElfParser};
 use blz_error::Result;
+use blz_records::{Elf64_Phdr, Elf64_Shdr, ElfN, Has32BitTy, Pod};
 
-// the build id in the notes that some bytes of an image hold
+// Headers of which some say where notes lie in the image.
+trait HasNotes: Pod + Has32BitTy {
+    ghost use Rattle.blz_records.specs.declared.class.ElfN.{ElfN};
+    ghost use Rattle.blz_links.specs.BuildIds.{Extent};
+    ghost use Rattle.std.specs.Prelude.{Option};
+
+    ghost notes: { ElfN Self Self.Ty32Bit → Option Extent };
+
+    // the place of the notes and their size
+    fn notes(header: &ElfN<Self>) -> Option<(u64, u64)>
+        ensures { result ≡ notes header.now };
+}
+
+impl HasNotes for Elf64_Shdr {
+    ghost use Rattle.blz_links.specs.BuildIds.{section_notes};
+
+    ghost notes = { section_notes };
+
+    fn notes(section: &ElfN<Elf64_Shdr>) -> Option<(u64, u64)> {
+        if section.type_() == SHT_NOTE {
+            Some((section.offset(), section.size()))
+        } else {
+            None
+        }
+    }
+}
+
+impl HasNotes for Elf64_Phdr {
+    ghost use Rattle.blz_links.specs.BuildIds.{segment_notes};
+
+    ghost notes = { segment_notes };
+
+    fn notes(segment: &ElfN<Elf64_Phdr>) -> Option<(u64, u64)> {
+        if segment.type_() == PT_NOTE {
+            Some((segment.offset(), segment.file_size()))
+        } else {
+            None
+        }
+    }
+}
+
+// the build id in the notes at a place of an image, where there are some
 fn build_id_at<'b>(
     image: &'b [u8],
     order: ByteOrder,
-    offset: u64,
-    size: u64,
+    notes: Option<(u64, u64)>,
 ) -> Result<Option<&'b [u8]>>
-    ensures { Exactly (option_map (λ id. id.now)) result (extent_build_id order image.now (Some (offset, size))) }
+    ensures { Exactly (option_map (λ id. id.now)) result (extent_build_id order image.now notes) }
 {
+    let Some((offset, size)) = notes else {
+        return Ok(None);
+    };
     let Some((notes, _)) = piece_at(image, offset as usize, size as usize) else {
         return Err(invalid("notes lie past the image"));
     };
     Ok(noted_build_id(notes, order))
 }
 
-// the build id in a section of notes
-fn in_section<'b>(
+// the first build id in the notes of some records
+fn first_build_id<'b, T: HasNotes>(
     image: &'b [u8],
     order: ByteOrder,
-    section: &ElfN_Shdr,
+    records: &ElfNSlice<'b, T>,
 ) -> Result<Option<&'b [u8]>>
-    ensures { Exactly (option_map (λ id. id.now)) result (extent_build_id order image.now (section_notes section.now)) }
+    ensures { Exactly (option_map (λ id. id.now)) result
+        (first_build_id order image.now (map T.notes records.now)) }
 {
-    if section.type_() != SHT_NOTE {
-        return Ok(None);
-    }
-    build_id_at(image, order, section.offset(), section.size())
-}
-
-// the build id in a segment of notes
-fn in_segment<'b>(
-    image: &'b [u8],
-    order: ByteOrder,
-    segment: &ElfN_Phdr,
-) -> Result<Option<&'b [u8]>>
-    ensures { Exactly (option_map (λ id. id.now)) result (extent_build_id order image.now (segment_notes segment.now)) }
-{
-    if segment.type_() != PT_NOTE {
-        return Ok(None);
-    }
-    build_id_at(image, order, segment.offset(), segment.file_size())
-}
-
-// the first build id in the sections
-fn in_sections<'b>(
-    image: &'b [u8],
-    order: ByteOrder,
-    sections: &ElfN_Shdrs<'b>,
-) -> Result<Option<&'b [u8]>>
-    ensures { Exactly (option_map (λ id. id.now)) result (first_build_id order image.now (map section_notes sections.now)) }
-{
-    for section in sections.iter(0) {
-        match in_section(image, order, &section) {
-            Ok(None) => (),
-            Ok(Some(id)) => return Ok(Some(id)),
-            Err(e) => return Err(e),
-        }
-    }
-    Ok(None)
-}
-
-// the first build id in the segments
-fn in_segments<'b>(
-    image: &'b [u8],
-    order: ByteOrder,
-    segments: &ElfN_Phdrs<'b>,
-) -> Result<Option<&'b [u8]>>
-    ensures { Exactly (option_map (λ id. id.now)) result (first_build_id order image.now (map segment_notes segments.now)) }
-{
-    for segment in segments.iter(0) {
-        match in_segment(image, order, &segment) {
+    for record in records.iter(0) {
+        match build_id_at(image, order, T::notes(&record)) {
             Ok(None) => (),
             Ok(Some(id)) => return Ok(Some(id)),
             Err(e) => return Err(e),
@@ -97,7 +96,7 @@ fn segments_build_id<'b>(parser: &mut ElfParser<'b>, order: ByteOrder) -> Result
     ensures same { parser.new ≡ parser.old }
 {
     let segments = parser.program_headers()?;
-    in_segments(parser.image(), order, &segments)
+    first_build_id(parser.image(), order, &segments)
 }
 
 #[tactic(auto, unfolding(crate::specs::BuildIds::image_build_id))]
@@ -107,7 +106,7 @@ fn image_build_id<'b>(parser: &mut ElfParser<'b>) -> Result<Option<&'b [u8]>>
 {
     let order = parser.order()?;
     let sections = parser.section_headers()?;
-    let id = in_sections(parser.image(), order, &sections)?;
+    let id = first_build_id(parser.image(), order, &sections)?;
     if id.is_some() {
         return Ok(id);
     }
