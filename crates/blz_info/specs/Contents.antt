@@ -1,5 +1,5 @@
 -- Fields of a section: numbers in its byte order, addresses, offsets and blocks.
-use Rattle.std.specs.Prelude.{ℕ, ◌+◌, Bool, List, length, Some, None, nat_le, ◌==◌, if◌then◌else◌, take}
+use Rattle.std.specs.Prelude.{ℕ, ◌+◌, ◌≤◌, Bool, List, length, Some, None, nat_le, ◌==◌, if◌then◌else◌, take}
 use Rattle.blz_model.specs.declared.byte_order.ByteOrder.{ByteOrder}
 use Rattle.blz_model.specs.Reads.{Read, ◌>>=◌, number}
 use Rattle.blz_model.specs.LebNumbers.{uleb}
@@ -24,6 +24,10 @@ section_view s = record { bytes = s.bytes.now; moves = s.moves.now; order = s.or
 -- a section up to a place, or whole where it ends before
 abbrev pub cut : ℕ → Contents → Contents
 cut end s = record { bytes = take end s.bytes; moves = s.moves; order = s.order }
+
+-- A place is not before another one, and lies in the bytes, or at their end, if that one does.
+abbrev pub StaysIn : List ℕ → ℕ → ℕ → Type 0
+StaysIn bytes at next = (at ≤ next) × (at ≤ length bytes → next ≤ length bytes)
 
 -- the number of n bytes at a place
 abbrev pub number_at : ℕ → Contents → ℕ → Read ℕ

@@ -1,6 +1,6 @@
 //! The values of an entry's attributes.
-ghost use Rattle.std.specs.Prelude.{◌≡◌, ◌≤◌, ◌<◌, ◌+◌, ◌^◌, length, IfSome};
-ghost use Rattle.blz_info.specs.Contents.{section_view};
+ghost use Rattle.std.specs.Prelude.{◌≡◌, ◌<◌, ◌+◌, ◌^◌, length, IfSome};
+ghost use Rattle.blz_info.specs.Contents.{section_view, StaysIn};
 ghost use Rattle.blz_info.specs.Attributes.{form_for, direct_attribute, attribute, passed};
 
 use crate::abbreviations::AttrSpec;
@@ -44,7 +44,7 @@ fn direct_attribute(
 ) -> Option<(AttrValue, usize)>
     requires { base.start + length section.now.bytes.now < 2 ^ 64 }
     ensures value { result ≡ direct_attribute name code encoding base (section_view section.now) at }
-    ensures within { IfSome result (λ r. (at ≤ r.1) × (at ≤ length section.now.bytes.now → r.1 ≤ length section.now.bytes.now)) }
+    ensures within { IfSome result (λ r. StaysIn section.now.bytes.now at r.1) }
 {
     value_by(form_for(name, encoding, code)?, encoding, base, section, at)
 }
@@ -60,7 +60,7 @@ pub(crate) fn attribute(
 ) -> Option<(AttrValue, usize)>
     requires { base.start + length section.now.bytes.now < 2 ^ 64 }
     ensures value { result ≡ attribute spec encoding base (section_view section.now) at }
-    ensures within { IfSome result (λ r. (at ≤ r.1) × (at ≤ length section.now.bytes.now → r.1 ≤ length section.now.bytes.now)) }
+    ensures within { IfSome result (λ r. StaysIn section.now.bytes.now at r.1) }
 {
     match spec.form {
         dwarf::DW_FORM_implicit_const => Some((AttrValue::Signed(spec.constant), at)),
@@ -82,7 +82,7 @@ pub(crate) fn passed(
 ) -> Option<usize>
     requires { base.start + length section.now.bytes.now < 2 ^ 64 }
     ensures value { result ≡ passed specs.now encoding base (section_view section.now) at }
-    ensures within { IfSome result (λ n. (at ≤ n) × (at ≤ length section.now.bytes.now → n ≤ length section.now.bytes.now)) }
+    ensures within { IfSome result (λ n. StaysIn section.now.bytes.now at n) }
 {
     let mut place = at;
     for spec in specs {

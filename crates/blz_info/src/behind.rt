@@ -1,6 +1,6 @@
 //! The place behind an attribute, without its value.
-ghost use Rattle.std.specs.Prelude.{◌≡◌, ◌≤◌, length, IfSome, option_map};
-ghost use Rattle.blz_info.specs.Contents.{section_view, bytes_in, field_at};
+ghost use Rattle.std.specs.Prelude.{◌≡◌, ◌≤◌, IfSome, option_map};
+ghost use Rattle.blz_info.specs.Contents.{bytes_in, field_at, section_view, StaysIn};
 ghost use Rattle.blz_info.specs.Sizes.{address_len, size_of, over, behind_form, behind_code, behind};
 
 use crate::abbreviations::AttrSpec;
@@ -60,7 +60,7 @@ pub(crate) fn size_of(field: Field, encoding: Encoding) -> Option<usize>
 #[tactic(auto, unfolding(crate::specs::Sizes::over, blz_model::specs::Reads::passed_over))]
 pub(crate) fn over(size: usize, bytes: &[u8], at: usize) -> Option<usize>
     ensures value { result ≡ over size bytes.now at }
-    ensures within { IfSome result (λ n. (at ≤ n) × (at ≤ length bytes.now → n ≤ length bytes.now)) }
+    ensures within { IfSome result (λ n. StaysIn bytes.now at n) }
 {
     if size == 0 {
         return Some(at);
@@ -78,7 +78,7 @@ fn behind_field(
     at: usize,
 ) -> Option<usize>
     ensures value { result ≡ option_map (λ r. r.1) (field_at field encoding (section_view section.now) at) }
-    ensures within { IfSome result (λ n. (at ≤ n) × (at ≤ length section.now.bytes.now → n ≤ length section.now.bytes.now)) }
+    ensures within { IfSome result (λ n. StaysIn section.now.bytes.now at n) }
 {
     if let Some(size) = size_of(field, encoding) {
         return over(size, section.bytes, at);
@@ -96,7 +96,7 @@ pub(crate) fn behind_form(
     at: usize,
 ) -> Option<usize>
     ensures value { result ≡ behind_form form encoding (section_view section.now) at }
-    ensures within { IfSome result (λ n. (at ≤ n) × (at ≤ length section.now.bytes.now → n ≤ length section.now.bytes.now)) }
+    ensures within { IfSome result (λ n. StaysIn section.now.bytes.now at n) }
 {
     match form {
         Form::Numeric(field, _) => behind_field(field, encoding, section, at),
@@ -114,7 +114,7 @@ pub(crate) fn behind_form(
 #[tactic(auto, unfolding(crate::specs::Sizes::behind_code))]
 fn behind_code(code: u64, encoding: Encoding, section: &Section<'_, '_>, at: usize) -> Option<usize>
     ensures value { result ≡ behind_code code encoding (section_view section.now) at }
-    ensures within { IfSome result (λ n. (at ≤ n) × (at ≤ length section.now.bytes.now → n ≤ length section.now.bytes.now)) }
+    ensures within { IfSome result (λ n. StaysIn section.now.bytes.now at n) }
 {
     behind_form(form_of(code)?, encoding, section, at)
 }
@@ -128,7 +128,7 @@ pub(crate) fn behind(
     at: usize,
 ) -> Option<usize>
     ensures value { result ≡ behind spec encoding (section_view section.now) at }
-    ensures within { IfSome result (λ n. (at ≤ n) × (at ≤ length section.now.bytes.now → n ≤ length section.now.bytes.now)) }
+    ensures within { IfSome result (λ n. StaysIn section.now.bytes.now at n) }
 {
     match spec.form {
         dwarf::DW_FORM_implicit_const => Some(at),

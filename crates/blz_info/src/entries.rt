@@ -4,6 +4,7 @@ ghost use Rattle.std.specs.Option.{option_copied};
 ghost use Rattle.blz_error.specs.declared.kind.ErrorKind.TheVariants.{InvalidDwarf};
 ghost use Rattle.blz_model.specs.Part.{Exactly, Good, Broken};
 ghost use Rattle.blz_info.specs.Attributes.{passed};
+ghost use Rattle.blz_info.specs.Contents.{StaysIn};
 ghost use Rattle.blz_info.specs.Passing.{past, past_one};
 ghost use Rattle.blz_info.specs.Walks.{Steps, IsNext, walk_from, source_of, info_base, opened, next_of, value_of, skipped_of};
 ghost use Rattle.blz_info.specs.Wanted.{bare_language, wanted_of};
@@ -353,7 +354,7 @@ impl<'s, 'b> Entries<'s, 'b> {
     #[inline(always)]
     fn behind_ready(&self, abbreviation: &Abbreviation, at: usize) -> Option<usize>
         ensures value { IfSome result (λ n. passed abbreviation.now.specs self.now.source.encoding self.now.source.base self.now.source.section at ≡ Some n) }
-        ensures within { IfSome result (λ n. (at ≤ n) × (at ≤ length self.now.source.section.bytes → n ≤ length self.now.source.section.bytes)) }
+        ensures within { IfSome result (λ n. StaysIn self.now.source.section.bytes at n) }
     {
         let runs = abbreviation.passing(self.encoding)?;
         let list = runs.runs.as_slice();

@@ -1,7 +1,7 @@
 //! Fields of a section: numbers, addresses, offsets and blocks.
 ghost use Rattle.std.specs.Prelude.{◌≡◌, ◌≤◌, ◌<◌, ◌+◌, ◌*◌, ◌^◌, length, IfSome, MatchOption, option_map};
 ghost use Rattle.blz_model.specs.Reads.{number};
-ghost use Rattle.blz_info.specs.Contents.{section_view, bytes_in, moved_number, address_at, offset_at, offset_len, skipped, field_at};
+ghost use Rattle.blz_info.specs.Contents.{address_at, bytes_in, field_at, moved_number, offset_at, offset_len, section_view, skipped, StaysIn};
 
 use crate::encoding::Encoding;
 use crate::form::{Field, Width};
@@ -102,7 +102,7 @@ pub(crate) fn field_at(
     at: usize,
 ) -> Option<(u64, usize)>
     ensures value { result ≡ field_at field encoding (section_view section.now) at }
-    ensures within { IfSome result (λ r. (at ≤ r.1) × (at ≤ length section.now.bytes.now → r.1 ≤ length section.now.bytes.now)) }
+    ensures within { IfSome result (λ r. StaysIn section.now.bytes.now at r.1) }
 {
     // each result is taken apart, since one that a call writes would stand in memory
     match field {

@@ -1,6 +1,6 @@
 //! An abbreviation that is ready to walk over its entries.
 ghost use Rattle.std.specs.Prelude.{◌≡◌, ◌≤◌, ◌<◌, ◌+◌, ◌^◌, length, drop, IfSome, IfOk, MatchOption, option_map};
-ghost use Rattle.blz_info.specs.Contents.{section_view};
+ghost use Rattle.blz_info.specs.Contents.{section_view, StaysIn};
 ghost use Rattle.blz_info.specs.AttributeRuns.{Reads, IsReady};
 ghost use Rattle.blz_info.specs.Wanted.{wanted_in, met_view};
 
@@ -83,7 +83,7 @@ pub(crate) fn next_wanted(
     ensures counted { IfSome result (λ m. m.count ≤ length pending.now) }
     ensures left { IfSome result (λ m. 0 < m.runs → IfSome reading.entry (λ r. Reads encoding m.runs r.now (drop m.count pending.now))) }
     ensures some { IfSome result (λ m. MatchOption m.found (m.count ≡ length pending.now) (λ _. 0 < m.count)) }
-    ensures within { IfSome result (λ m. (at ≤ m.place) × (at ≤ length section.now.bytes.now → m.place ≤ length section.now.bytes.now)) }
+    ensures within { IfSome result (λ m. StaysIn section.now.bytes.now at m.place) }
 {
     match reading {
         Some(runs) => wanted_after(runs, taken, pending, encoding, base, section, at),
@@ -108,7 +108,7 @@ fn wanted_after(
     ensures counted { IfSome result (λ m. m.count ≤ length pending.now) }
     ensures left { IfSome result (λ m. 0 < m.runs → Reads encoding m.runs runs.now (drop m.count pending.now)) }
     ensures some { IfSome result (λ m. MatchOption m.found (m.count ≡ length pending.now) (λ _. 0 < m.count)) }
-    ensures within { IfSome result (λ m. (at ≤ m.place) × (at ≤ length section.now.bytes.now → m.place ≤ length section.now.bytes.now)) }
+    ensures within { IfSome result (λ m. StaysIn section.now.bytes.now at m.place) }
 {
     let tail = runs.tail;
     let left = &runs.runs[taken..];

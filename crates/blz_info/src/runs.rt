@@ -1,6 +1,6 @@
 //! The attributes of an abbreviation in runs: some whose bytes are fixed, and one behind them that is looked at.
 ghost use Rattle.std.specs.Prelude.{◌≡◌, ◌≤◌, ◌<◌, ◌+◌, ◌^◌, ◌&&◌, length, drop, true, IfSome, IfOk, MatchOption, option_map};
-ghost use Rattle.blz_info.specs.Contents.{section_view};
+ghost use Rattle.blz_info.specs.Contents.{section_view, StaysIn};
 ghost use Rattle.blz_info.specs.Attributes.{attribute};
 ghost use Rattle.blz_info.specs.Wanted.{bare_language, tells, wanted_in, met_view};
 ghost use Rattle.blz_info.specs.AttributeRuns.{wants, skipped_size, form_at, behind_by, value_by_form, passed_by, AreRuns, run_of};
@@ -90,7 +90,7 @@ fn run_of(wanted: bool, encoding: Encoding, skip: usize, count: usize, spec: Att
 impl Run {
     fn behind(&self, encoding: Encoding, section: &Section<'_, '_>, at: usize) -> Option<usize>
         ensures value { result ≡ behind_by self.now.form self.now.spec encoding (section_view section.now) at }
-        ensures within { IfSome result (λ n. (at ≤ n) × (at ≤ length section.now.bytes.now → n ≤ length section.now.bytes.now)) }
+        ensures within { IfSome result (λ n. StaysIn section.now.bytes.now at n) }
     {
         match self.form {
             Some(form) => behind_form(form, encoding, section, at),
@@ -108,7 +108,7 @@ impl Run {
     ) -> Option<(AttrValue, usize)>
         requires { base.start + length section.now.bytes.now < 2 ^ 64 }
         ensures value { result ≡ value_by_form self.now.form self.now.spec encoding base (section_view section.now) at }
-        ensures within { IfSome result (λ r. (at ≤ r.1) × (at ≤ length section.now.bytes.now → r.1 ≤ length section.now.bytes.now)) }
+        ensures within { IfSome result (λ r. StaysIn section.now.bytes.now at r.1) }
     {
         // each result is taken apart, since one that a call writes would stand in memory
         match self.form {
@@ -167,7 +167,7 @@ pub(crate) fn passed_by(
     at: usize,
 ) -> Option<usize>
     ensures value { result ≡ passed_by runs.now tail encoding (section_view section.now) at }
-    ensures within { IfSome result (λ n. (at ≤ n) × (at ≤ length section.now.bytes.now → n ≤ length section.now.bytes.now)) }
+    ensures within { IfSome result (λ n. StaysIn section.now.bytes.now at n) }
 {
     let mut place = at;
     for run in runs {
@@ -195,7 +195,7 @@ pub(crate) fn wanted_by(
     ensures counted { IfSome result (λ m. (m.count ≤ length pending.now) × (m.runs ≤ length runs.now)) }
     ensures left { IfSome result (λ m. IfSome m.found (λ _. AreRuns true encoding (drop m.runs runs.now) tail (drop m.count pending.now))) }
     ensures some { IfSome result (λ m. MatchOption m.found ((m.count ≡ length pending.now) × (m.runs ≡ 0)) (λ _. 0 < m.count)) }
-    ensures within { IfSome result (λ m. (at ≤ m.place) × (at ≤ length section.now.bytes.now → m.place ≤ length section.now.bytes.now)) }
+    ensures within { IfSome result (λ m. StaysIn section.now.bytes.now at m.place) }
 {
     let mut place = at;
     let mut count: usize = 0;

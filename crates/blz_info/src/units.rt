@@ -2,7 +2,7 @@
 ghost use Rattle.std.specs.Prelude.{◌≡◌, ◌≤◌, ◌<◌, length, IfSome, IfOk};
 ghost use Rattle.blz_model.specs.Part.{Exactly};
 ghost use Rattle.blz_info.specs.Marks.{or_invalid};
-ghost use Rattle.blz_info.specs.Contents.{section_view};
+ghost use Rattle.blz_info.specs.Contents.{section_view, StaysIn};
 ghost use Rattle.blz_info.specs.Headers.{encoding_of, kind_of, is_address_size, type_fields, id_at, header_of_4, header_of_5, header_in, header_at, next_unit, behind};
 
 use crate::encoding::Encoding;
@@ -104,7 +104,7 @@ fn type_fields(wide: bool, unit: &Section<'_, '_>, at: usize) -> Option<(u64, us
 #[tactic(auto, unfolding(crate::specs::Headers::id_at))]
 fn id_at(kind: UnitKind, wide: bool, unit: &Section<'_, '_>, at: usize) -> Option<(u64, usize)>
     ensures value { result ≡ id_at kind wide (section_view unit.now) at }
-    ensures within { IfSome result (λ r. (at ≤ r.1) × (at ≤ length unit.now.bytes.now → r.1 ≤ length unit.now.bytes.now)) }
+    ensures within { IfSome result (λ r. StaysIn unit.now.bytes.now at r.1) }
 {
     match kind {
         UnitKind::Compile | UnitKind::Partial => Some((0, at)),
@@ -204,7 +204,7 @@ pub struct UnitHeaders<'s, 'b> {
 }
 
 impl<'s, 'b> Model for UnitHeaders<'s, 'b> {
-    ghost use Rattle.blz_info.specs.Contents.{section_view};
+    ghost use Rattle.blz_info.specs.Contents.{section_view, StaysIn};
     ghost use Rattle.blz_info.specs.Headers.{UnitList};
     ghost use Rattle.blz_info.specs.Codes.{unit_list_code};
 

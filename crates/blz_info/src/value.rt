@@ -1,6 +1,6 @@
 //! Values of attributes, and the forms that they are read by.
 ghost use Rattle.std.specs.Prelude.{◌≡◌, ◌≤◌, ◌<◌, ◌+◌, ◌^◌, length, IfSome};
-ghost use Rattle.blz_info.specs.Contents.{section_view};
+ghost use Rattle.blz_info.specs.Contents.{section_view, StaysIn};
 ghost use Rattle.blz_info.specs.Forms.{made, text_here, value_by, direct_value, form_value, udata};
 
 use crate::encoding::Encoding;
@@ -106,7 +106,7 @@ pub(crate) fn value_by(
 ) -> Option<(AttrValue, usize)>
     requires { base.start + length section.now.bytes.now < 2 ^ 64 }
     ensures value { result ≡ value_by form encoding base (section_view section.now) at }
-    ensures within { IfSome result (λ r. (at ≤ r.1) × (at ≤ length section.now.bytes.now → r.1 ≤ length section.now.bytes.now)) }
+    ensures within { IfSome result (λ r. StaysIn section.now.bytes.now at r.1) }
 {
     // each result is taken apart, since one that a call writes would stand in memory
     match form {
@@ -135,7 +135,7 @@ fn direct_value(
 ) -> Option<(AttrValue, usize)>
     requires { base.start + length section.now.bytes.now < 2 ^ 64 }
     ensures value { result ≡ direct_value code encoding base (section_view section.now) at }
-    ensures within { IfSome result (λ r. (at ≤ r.1) × (at ≤ length section.now.bytes.now → r.1 ≤ length section.now.bytes.now)) }
+    ensures within { IfSome result (λ r. StaysIn section.now.bytes.now at r.1) }
 {
     value_by(form_of(code)?, encoding, base, section, at)
 }
@@ -153,7 +153,7 @@ pub fn form_value(
     at: usize,
 ) -> Option<(AttrValue, usize)>
     ensures value { result ≡ form_value form (record { version = version; wide = wide; address_size = address_size }) (record { part = part; start = 0 }) (section_view section.now) at }
-    ensures within { IfSome result (λ r. (at ≤ r.1) × (at ≤ length section.now.bytes.now → r.1 ≤ length section.now.bytes.now)) }
+    ensures within { IfSome result (λ r. StaysIn section.now.bytes.now at r.1) }
 {
     let encoding = Encoding {
         version,

@@ -1,7 +1,7 @@
 //! Attributes whose values tell what a function or a call is, its names, the addresses that it covers, and where it is
 //! called, or what holds for a whole unit.
 ghost use Rattle.std.specs.Prelude.{◌≡◌, ◌≤◌, ◌<◌, ◌+◌, ◌^◌, length, drop, Some, IfSome, MatchOption, option_map};
-ghost use Rattle.blz_info.specs.Contents.{section_view};
+ghost use Rattle.blz_info.specs.Contents.{section_view, StaysIn};
 ghost use Rattle.blz_info.specs.Wanted.{is_wanted, is_placing, any_placing, bare_value, same_kind, is_alike, any_alike, bare_language, told_elsewhere, tells, wanted_in, met_view};
 
 use crate::abbreviations::AttrSpec;
@@ -167,7 +167,7 @@ pub(crate) fn wanted_in(
     ensures value { option_map (met_view specs.now) result ≡ wanted_in specs.now encoding base (section_view section.now) at }
     ensures counted { IfSome result (λ m. (m.count ≤ length specs.now) × (m.runs ≡ 0)) }
     ensures some { IfSome result (λ m. MatchOption m.found (m.count ≡ length specs.now) (λ _. 0 < m.count)) }
-    ensures within { IfSome result (λ m. (at ≤ m.place) × (at ≤ length section.now.bytes.now → m.place ≤ length section.now.bytes.now)) }
+    ensures within { IfSome result (λ m. StaysIn section.now.bytes.now at m.place) }
 {
     let mut place = at;
     for (index, spec) in specs.iter().enumerate() {
