@@ -1,5 +1,5 @@
 -- What steps of opening find, over the answers of files.
-use Rattle.std.proofs.Common.{◌≡◌, ◌≢◌, ◌⊎◌, ◌≤◌, ℕ, false, Option, Some, None, Result, Ok, Err, Vec, refl, ap, ◌∙◌, sym, inl, inr, subst, arith}
+use Rattle.std.proofs.Common.{◌≡◌, ◌≢◌, ◌≤◌, ℕ, false, Option, Some, None, Result, Ok, Err, Vec, refl, ap, ◌∙◌, sym, inl, inr, subst, arith}
 use Rattle.std.specs.FinMap as map
 use Rattle.std.specs.Option.{option_map}
 use Rattle.std.specs.Result.{IsErrAnd}
@@ -7,9 +7,8 @@ use Rattle.blz_error.specs.Fault.{Fault}
 use Rattle.blz_error.specs.Texts.{Bytes}
 use Rattle.blz_error.specs.declared.kind.ErrorKind.{ErrorKind}
 use Rattle.blz_error.specs.declared.kind.ErrorKind.TheVariants as kind
-use Rattle.blz_model.specs.Part.{Part, Good, Broken}
 use Rattle.blz_links.specs.Contents.{Contents, PathMap}
-use Rattle.blz_links.specs.Counts.{Rose, one_more}
+use Rattle.blz_links.specs.Counts.{Rose}
 use Rattle.blz_links.specs.FilesAnswers.{ReadTells, HasFilesCause}
 use Rattle.blz_links.specs.FilesKinds.{error_from}
 use Rattle.blz_links.specs.declared.files.stamp.Stamp.{Stamp}
@@ -17,7 +16,7 @@ use Rattle.blz_links.specs.declared.files.fault.FilesFault.{FilesFault}
 use Rattle.blz_links.specs.declared.files.fault.FilesFault.TheVariants.{NotFound, Denied, Failed, Memory}
 use Rattle.blz_bundle.specs.FileAnswers.{Answers, Finds, StepAnswers, StepsFind, told}
 use Rattle.blz_bundle.specs.Opened.{Opened, Found, Refused}
-use Rattle.blz_bundle.specs.Outcomes.{Concludes, FilesStay, IsFault, IsRefusal, KeepsValues, Tells}
+use Rattle.blz_bundle.specs.Outcomes.{Concludes, FilesStay, IsRefusal}
 
 -- answers of files that hold one thing everywhere
 pub holding : Option Bytes → Answers

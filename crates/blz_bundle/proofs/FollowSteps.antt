@@ -5,18 +5,16 @@ use Rattle.std.specs.Prelude.{⊤}
 use Rattle.std.specs.Str.{bytes_eq}
 use Rattle.std.proofs.lemmas.Slice.Eq.{bytes_eq-Decides}
 use Rattle.std.proofs.lemmas.List.{append-nil}
-use Rattle.std.specs.Option.{option_map}
 use Rattle.blz_error.specs.Texts.{Bytes}
 use Rattle.blz_error.specs.declared.kind.ErrorKind.{ErrorKind}
-use Rattle.blz_model.specs.Part.{Part, Good, Broken}
 use Rattle.blz_links.specs.Candidates.{candidates}
 use Rattle.blz_links.specs.Contents.{Contents}
 use Rattle.blz_links.specs.Searches.{Search, Steps, left_of}
 use Rattle.blz_links.specs.FilesAnswers.{CanonicalTells, ExistsTells, IsPathIfThere}
 use Rattle.blz_bundle.specs.FileAnswers.{Answers, Finds, told}
-use Rattle.blz_bundle.specs.Following.{Lead, checked, followed, led, read_at, read_found}
+use Rattle.blz_bundle.specs.Following.{followed, read_at}
 use Rattle.blz_bundle.specs.OpenFiles.{FileAt}
-use Rattle.blz_bundle.specs.Opened.{Opened, Found, Refused, ◌>>=◌, of_part}
+use Rattle.blz_bundle.specs.Opened.{Opened, Found, Refused, ◌>>=◌}
 use Rattle.blz_bundle.proofs.Findings.{found_is, found_not_refused}
 
 -- the path by which a file is known

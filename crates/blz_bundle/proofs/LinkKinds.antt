@@ -1,5 +1,5 @@
 -- A link section breaks as invalid data, or is compressed.
-use Rattle.std.proofs.Common.{◌≡◌, ℕ, ◌+◌, ◌-◌, ◌<◌, ◌≤◌, Bool, true, false, cond, List, [], ◌∷◌, length, get_or, drop, map, Option, Some, None, Result, Ok, Err, refl, sym, ap, ◌∙◌, arith}
+use Rattle.std.proofs.Common.{◌≡◌, ℕ, ◌+◌, ◌-◌, ◌<◌, ◌≤◌, Bool, true, false, cond, List, [], ◌∷◌, length, get_or, drop, map, Option, Some, None, Ok, Err, refl, sym, ap, arith}
 use Rattle.std.specs.Prelude.{◌==◌, ⊤, codes, not, slice_get, nat_lt, if◌then◌else◌}
 use Rattle.std.specs.List.{position_from}
 use Rattle.std.specs.Str.{bytes_eq, is_utf8}
@@ -8,9 +8,9 @@ use Rattle.std.proofs.lemmas.Option.{slice_get-get_or}
 use Rattle.blz_error.specs.Texts.{Bytes}
 use Rattle.blz_error.specs.Reports.{fault_of}
 use Rattle.blz_error.specs.declared.kind.ErrorKind.{ErrorKind}
-use Rattle.blz_error.specs.declared.kind.ErrorKind.TheVariants.{InvalidData, InvalidInput, Unsupported}
+use Rattle.blz_error.specs.declared.kind.ErrorKind.TheVariants.{InvalidData, Unsupported}
 use Rattle.blz_model.specs.declared.byte_order.ByteOrder.{ByteOrder}
-use Rattle.blz_model.specs.Part.{Part, Good, Broken, ◌>>=◌, or_mark, all_good}
+use Rattle.blz_model.specs.Part.{Part, Good, Broken, ◌>>=◌, all_good}
 use Rattle.blz_model.specs.LebNumbers.{uleb}
 use Rattle.blz_model.specs.Reads.{number}
 use Rattle.blz_model.specs.Texts.{name_at}

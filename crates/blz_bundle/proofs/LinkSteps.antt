@@ -1,24 +1,25 @@
 -- A step that follows the link of an image.
-use Rattle.std.proofs.Common.{◌≡◌, Bool, List, [], ◌∷◌, Option, Some, None, refl, ap, ◌∙◌, sym}
+use Rattle.std.proofs.Common.{◌≡◌, Bool, List, [], ◌∷◌, Option, Some, None, Result, refl, ap, ◌∙◌, sym}
 use Rattle.std.specs.Option.{option_map}
 use Rattle.std.specs.Prelude.{option_and_then}
 use Rattle.std.specs.Str.{bytes_eq}
+use Rattle.blz_error.specs.Fault.{Fault}
 use Rattle.blz_error.specs.Texts.{Bytes}
 use Rattle.blz_error.specs.declared.kind.ErrorKind.{ErrorKind}
 use Rattle.blz_error.specs.declared.kind.ErrorKind.TheVariants.{InvalidData}
 use Rattle.blz_model.specs.Part.{Part, Good, Broken}
-use Rattle.blz_links.specs.BuildIds.{build_id_of}
 use Rattle.blz_links.specs.Contents.{Contents}
 use Rattle.blz_links.specs.LinkReads.{debug_link_in, debug_altlink_in, debug_sup_in}
 use Rattle.blz_links.specs.LinkValues.{DebugLinkValue, DebugAltlinkValue, DebugSupValue}
 use Rattle.blz_bundle.specs.Alternative.{alternative, altlink_lead}
 use Rattle.blz_bundle.specs.FileAnswers.{Answers, Finds}
 use Rattle.blz_bundle.specs.Following.{Lead, checked, followed, led}
-use Rattle.blz_bundle.specs.Linked.{linked, link_lead, has_checksum}
-use Rattle.blz_bundle.specs.Opened.{Opened, Found, Refused, ◌>>=◌, of_part, agreeing, same_bytes}
+use Rattle.blz_bundle.specs.Linked.{linked, link_lead}
+use Rattle.blz_bundle.specs.Opened.{Opened, Found, Refused, ◌>>=◌, agreeing}
 use Rattle.blz_bundle.specs.OpenFiles.{FileAt}
+use Rattle.blz_bundle.specs.Outcomes.{Concludes}
 use Rattle.blz_bundle.specs.Supplementary.{is_supplementary, supplementary, sup_lead}
-use Rattle.blz_bundle.proofs.Findings.{finds_any, finds_on}
+use Rattle.blz_bundle.proofs.Findings.{concludes_on, finds_any, finds_on}
 
 -- ---- a link that was read
 
@@ -53,20 +54,27 @@ module _ (contents : Option Contents) (step : Answers → Opened (Option FileAt)
   pub led_differs : (file : FileAt) (k : ErrorKind) (v : Option (Bytes × Bytes)) → LeadsTo step dirs from (Some lead) → lead.passes file ≡ Refused k v → Finds contents (λ a. followed a dirs from lead.target lead.build_id) (Found (Some file)) → Finds contents step (Refused k v)
   led_differs file k v leads passes found = ends (Found (Some file)) (Refused k v) leads (ap (λ p. p >>= λ passed. Found (Some file)) passes) found
 
+-- by what is known of the link
+pub leads_by : {X : Type 0} (view : X → Lead) (dirs : List Bytes) (from : FileAt) (link known : Option X) → link ≡ known → LeadsTo (λ a. led a dirs from (option_map view link)) dirs from (option_map view known)
+leads_by view dirs from link known is = λ a. ap (λ o. led a dirs from (option_map view o)) is
+
+-- what a link leads to is what a step finds that follows it
+pub step_leads : {X : Type 0} (view : X → Option FileAt) (contents : Option Contents) (step : Answers → Opened (Option FileAt)) (dirs : List Bytes) (from : FileAt) (lead seen : Option Lead) (r : Result X Fault) (F : Type 0)
+    → LeadsTo step dirs from lead → seen ≡ lead → Concludes view r F (Finds contents (λ a. led a dirs from seen)) → Concludes view r F (Finds contents step)
+step_leads view contents step dirs from lead seen r F leads same = concludes_on view (λ o. o) r F F _ _ (λ rose. rose) (λ x is. on (Found x) is) (λ k v is. on (Refused k v) is)
+  where
+    on : (found : Opened (Option FileAt)) → Finds contents (λ a. led a dirs from seen) found → Finds contents step found
+    on found is = finds_on contents (λ a. led a dirs from seen) step found found (λ a e. leads a ∙ ap (led a dirs from) (sym same) ∙ e) is
+
 -- ---- the debug link
 
 pub linked_broken : (contents : Option Contents) (dirs : List Bytes) (main : FileAt) (k : ErrorKind) → debug_link_in main.image ≡ Broken k → Finds contents (λ a. linked a dirs main) (Refused k None)
 unfolding linked
 linked_broken contents dirs main k broken = finds_any contents _ _ (λ a. rw broken refl)
 
-pub linked_none : (dirs : List Bytes) (main : FileAt) → debug_link_in main.image ≡ Good None → LeadsTo (λ a. linked a dirs main) dirs main None
+pub linked_leads : (dirs : List Bytes) (main : FileAt) (link : Option DebugLinkValue) → debug_link_in main.image ≡ Good link → LeadsTo (λ a. linked a dirs main) dirs main (option_map (link_lead main.image) link)
 unfolding linked
-linked_none dirs main read = λ a. rw read refl
-
-pub linked_leads : (dirs : List Bytes) (main : FileAt) (link : DebugLinkValue) (build_id : Option Bytes) → debug_link_in main.image ≡ Good (Some link) → build_id ≡ build_id_of main.image
-    → LeadsTo (λ a. linked a dirs main) dirs main (Some (record { target = link.file; build_id = build_id; passes = has_checksum link.checksum }))
-unfolding linked
-linked_leads dirs main link build_id read id = λ a. rw (read, id) refl
+linked_leads dirs main link read = λ a. rw read refl
 
 -- ---- the link to the alternative file
 
@@ -74,11 +82,7 @@ pub alternative_broken : (contents : Option Contents) (dirs : List Bytes) (debug
 unfolding alternative
 alternative_broken contents dirs debug k broken = finds_any contents _ _ (λ a. rw broken refl)
 
-pub alternative_none : (dirs : List Bytes) (debug : FileAt) → debug_altlink_in debug.image ≡ Good None → LeadsTo (λ a. alternative a dirs debug) dirs debug None
-unfolding alternative
-alternative_none dirs debug read = λ a. rw read refl
-
-pub alternative_leads : (dirs : List Bytes) (debug : FileAt) (link : DebugAltlinkValue) → debug_altlink_in debug.image ≡ Good (Some link) → LeadsTo (λ a. alternative a dirs debug) dirs debug (Some (altlink_lead link))
+pub alternative_leads : (dirs : List Bytes) (debug : FileAt) (link : Option DebugAltlinkValue) → debug_altlink_in debug.image ≡ Good link → LeadsTo (λ a. alternative a dirs debug) dirs debug (option_map altlink_lead link)
 unfolding alternative
 alternative_leads dirs debug link read = λ a. rw read refl
 
@@ -92,23 +96,10 @@ pub supplementary_leads : (dirs : List Bytes) (debug : FileAt) (sup : Option Deb
 unfolding supplementary
 supplementary_leads dirs debug sup read = λ a. rw read refl
 
--- ---- what is read
+-- ---- the check of a supplementary file
 
 pub read_option : {X Y : Type 0} (p : Part (Option Y)) (view : X → Y) (o known : Option X) → o ≡ known → p ≡ Good (option_map view o) → p ≡ Good (option_map view known)
 read_option p view o known is read = read ∙ ap (λ o. Good (option_map view o)) is
-
--- ---- a supplementary file
-
-pub supplementary_none : (dirs : List Bytes) (debug : FileAt) → debug_sup_in debug.image ≡ Good None → LeadsTo (λ a. supplementary a dirs debug) dirs debug None
-supplementary_none dirs debug read = supplementary_leads dirs debug None read
-
--- A supplementary file leads to no other.
-pub supplementary_itself : (dirs : List Bytes) (debug : FileAt) (sup : DebugSupValue) → debug_sup_in debug.image ≡ Good (Some sup) → sup.path ≡ None → LeadsTo (λ a. supplementary a dirs debug) dirs debug None
-supplementary_itself dirs debug sup read none = λ a. supplementary_leads dirs debug (Some sup) read a ∙ rw none refl
-
-pub supplementary_at : (dirs : List Bytes) (debug : FileAt) (sup : DebugSupValue) (path : Bytes) → debug_sup_in debug.image ≡ Good (Some sup) → sup.path ≡ Some path
-    → LeadsTo (λ a. supplementary a dirs debug) dirs debug (Some (record { target = path; build_id = None; passes = is_supplementary sup.checksum }))
-supplementary_at dirs debug sup path read there = λ a. supplementary_leads dirs debug (Some sup) read a ∙ rw there refl
 
 module _ (recorded : Bytes) (file : FileAt) where
   pub sup_broken : (k : ErrorKind) → debug_sup_in file.image ≡ Broken k → is_supplementary recorded file ≡ Refused k None

@@ -1,7 +1,6 @@
 -- The kinds of the marks of parts and of steps: those for which a fact holds.
-use Rattle.std.proofs.Common.{◌≡◌, Bool, true, false, Option, Some, None, refl}
+use Rattle.std.proofs.Common.{Bool, true, false, Option, Some, None}
 use Rattle.std.specs.Prelude.{⊤, if◌then◌else◌}
-use Rattle.blz_error.specs.Texts.{Bytes}
 use Rattle.blz_error.specs.declared.kind.ErrorKind.{ErrorKind}
 use Rattle.blz_model.specs.Part as parts
 use Rattle.blz_model.specs.Part.{Part, Good, Broken}

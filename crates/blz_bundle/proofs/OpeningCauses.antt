@@ -1,5 +1,5 @@
 -- The causes of what opening refuses.
-use Rattle.std.proofs.Common.{◌≡◌, ◌⊎◌, Bool, false, List, [], ◌∷◌, Option, Some, None, Result, Ok, Err, String, string_bytes, map, refl, sym, ap, ◌∙◌, inl, inr, subst}
+use Rattle.std.proofs.Common.{◌≡◌, ◌⊎◌, Bool, false, List, [], ◌∷◌, Option, Some, None, Result, Ok, Err, String, string_bytes, map, refl, sym, ap, inl, inr, subst}
 use Rattle.std.specs.Prelude.{codes}
 use Rattle.std.specs.Result.{IfErr, IfOk}
 use Rattle.blz_error.specs.Fault.{Fault}
@@ -7,15 +7,14 @@ use Rattle.blz_error.specs.Texts.{Bytes}
 use Rattle.blz_error.specs.declared.kind.ErrorKind.{ErrorKind}
 use Rattle.blz_error.specs.declared.kind.ErrorKind.TheVariants as kind
 use Rattle.blz_error.specs.declared.kind.ErrorKind.TheVariants.{InvalidData}
-use Rattle.blz_model.specs.Part.{Part, Good, Broken}
+use Rattle.blz_model.specs.Part.{Good, Broken}
 use Rattle.blz_links.specs.Contents.{Contents}
-use Rattle.blz_bundle.specs.FileAnswers.{StepAnswers, told_steps}
+use Rattle.blz_bundle.specs.FileAnswers.{told_steps}
 use Rattle.blz_bundle.specs.Images.{ImageSet}
 use Rattle.blz_bundle.specs.Opened.{Opened, Found, Refused, agreeing, part_of}
-use Rattle.blz_bundle.specs.Opening.{IsOpened, IsOpeningKind, Lacks, Opens, OpensTo, default_dirs, opened_by}
-use Rattle.blz_bundle.specs.Outcomes.{Concludes, HasKindCause, IsFault, IsFaultKind, IsRefusal, Tells}
+use Rattle.blz_bundle.specs.Opening.{IsOpened, IsOpeningKind, Lacks, Opens, OpensTo, default_dirs}
+use Rattle.blz_bundle.specs.Outcomes.{Concludes, HasKindCause, IsFaultKind, IsRefusal}
 use Rattle.blz_bundle.proofs.OpeningKinds.{IsMark, opened_lacks, opened_marks}
-use Rattle.blz_bundle.proofs.Findings.{refusal_tells}
 
 -- ---- a check
 

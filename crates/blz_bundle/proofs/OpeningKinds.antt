@@ -1,5 +1,5 @@
 -- The kinds of what opening refuses, and when it refuses that a file is not there.
-use Rattle.std.proofs.Common.{◌≡◌, ◌≢◌, ◌⊎◌, Bool, true, false, cond, List, [], ◌∷◌, Option, Some, None, find, is_some, refl, sym, ap, ◌∙◌, inl, inr, subst}
+use Rattle.std.proofs.Common.{◌≡◌, Bool, true, false, cond, List, [], ◌∷◌, Option, Some, None, find, is_some, refl, subst}
 use Rattle.std.specs.Prelude.{⊤, option_and_then}
 use Rattle.std.specs.FinMap as map
 use Rattle.std.specs.Option.{option_map}
@@ -9,15 +9,13 @@ use Rattle.blz_error.specs.declared.kind.ErrorKind.{ErrorKind}
 use Rattle.blz_error.specs.declared.kind.ErrorKind.TheVariants as kind
 use Rattle.blz_links.specs.Contents.{Contents}
 use Rattle.blz_links.specs.Candidates.{candidates}
-use Rattle.blz_links.specs.LinkReads.{debug_link_in, debug_altlink_in, debug_sup_in}
 use Rattle.blz_links.specs.LinkValues.{DebugSupValue}
 use Rattle.blz_links.specs.BuildIds.{build_id_of}
-use Rattle.blz_bundle.specs.Alternative.{alternative, altlink_lead, has_build_id, same_build_id}
+use Rattle.blz_bundle.specs.Alternative.{alternative, altlink_lead, same_build_id}
 use Rattle.blz_bundle.specs.FileAnswers.{Answers, StepAnswers, told, told_steps}
 use Rattle.blz_bundle.specs.Following.{Lead, checked, followed, led, read_at, read_found}
-use Rattle.blz_bundle.specs.Images.{ImageSet}
-use Rattle.blz_bundle.specs.Linked.{linked, link_lead, has_checksum}
-use Rattle.blz_bundle.specs.Opened.{Opened, Found, Refused, ◌>>=◌, agreeing, or_refused}
+use Rattle.blz_bundle.specs.Linked.{linked, link_lead}
+use Rattle.blz_bundle.specs.Opened.{Opened, Refused, ◌>>=◌, agreeing}
 use Rattle.blz_bundle.specs.OpenFiles.{FileAt, debug_of}
 use Rattle.blz_bundle.specs.Opening.{opened_by, or_supplementary, shared}
 use Rattle.blz_bundle.specs.Supplementary.{supplementary, sup_lead, is_supplementary}

@@ -4,7 +4,7 @@ use Rattle.blz_error.specs.Texts.{Bytes}
 use Rattle.blz_error.specs.declared.kind.ErrorKind.{ErrorKind}
 use Rattle.blz_links.specs.Contents.{Contents}
 use Rattle.blz_bundle.specs.Alternative.{alternative}
-use Rattle.blz_bundle.specs.FileAnswers.{Answers, StepAnswers, Finds, StepsFind, told, told_steps}
+use Rattle.blz_bundle.specs.FileAnswers.{Answers, StepAnswers, Finds, StepsFind, told_steps}
 use Rattle.blz_bundle.specs.Following.{read_at}
 use Rattle.blz_bundle.specs.Linked.{linked}
 use Rattle.blz_bundle.specs.Opened.{Opened, Found, Refused}
@@ -12,7 +12,7 @@ use Rattle.blz_bundle.specs.OpenFiles.{FileAt, images_in, debug_of}
 use Rattle.blz_bundle.specs.Opening.{opened_by, shared, OpensTo}
 use Rattle.blz_bundle.specs.Packages.{package_of}
 use Rattle.blz_bundle.specs.Supplementary.{supplementary}
-use Rattle.blz_bundle.proofs.Findings.{holding, found_is}
+use Rattle.blz_bundle.proofs.Findings.{found_is}
 
 -- the same answers in each step
 every : Answers → StepAnswers

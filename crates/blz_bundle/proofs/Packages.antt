@@ -1,5 +1,5 @@
 -- What is read beside an image.
-use Rattle.std.proofs.Common.{◌≡◌, Option, refl, ap}
+use Rattle.std.proofs.Common.{◌≡◌, Option, refl}
 use Rattle.std.specs.Option.{option_map}
 use Rattle.blz_error.specs.Texts.{Bytes}
 use Rattle.blz_bundle.specs.FileAnswers.{Answers}

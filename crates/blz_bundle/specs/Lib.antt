@@ -14,5 +14,6 @@ pub mod Linked
 pub mod Packages
 pub mod Alternative
 pub mod Supplementary
+pub mod LeadViews
 pub mod Outcomes
 pub mod Opening

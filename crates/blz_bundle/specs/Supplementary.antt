@@ -1,5 +1,5 @@
 -- The supplementary file that several debug files share (DWARF 5 section 7.3.6).
-use Rattle.std.specs.Prelude.{[], ◌∷◌, List, Option, Some, None, option_and_then}
+use Rattle.std.specs.Prelude.{[], ◌∷◌, List, Option, None, option_and_then}
 use Rattle.std.specs.Option.{option_map}
 use Rattle.blz_error.specs.Texts.{Bytes}
 use Rattle.blz_error.specs.declared.kind.ErrorKind.TheVariants.{InvalidData}

@@ -1,17 +1,19 @@
 //! The file that several debug files share, by its build id.
 ghost use Rattle.std.specs.Prelude.{◌≡◌, map, string_bytes};
 ghost use Rattle.std.specs.Option.{option_map};
-ghost use Rattle.blz_bundle.specs.Alternative.{alternative, has_build_id};
+ghost use Rattle.blz_bundle.specs.Alternative.{alternative, altlink_lead, has_build_id};
 ghost use Rattle.blz_bundle.specs.FileAnswers.{Finds};
 ghost use Rattle.blz_bundle.specs.Outcomes.{Concludes, FilesStay};
 ghost use Rattle.blz_bundle.specs.OwnedViews.{file_at};
+ghost use Rattle.blz_bundle.specs.LeadViews.{lead_view};
 ghost use Rattle.blz_links.specs.Counts.{Rose};
+ghost use Rattle.blz_links.specs.LinkViews.{altlink_view};
 
 use crate::agreement::Compared;
-use crate::following::follow;
+use crate::lead::{FileLead, Mark, led};
 use crate::open_file::OpenFile;
 use blz_error::Result;
-use blz_links::Files;
+use blz_links::{DebugAltlink, Files};
 use std::alloc::Global;
 
 /// The file to which the `.gnu_debugaltlink` of a debug file leads (GNU debug links); it has to have the build id of the
@@ -26,18 +28,25 @@ pub fn find_alternative<F: Files>(
         (Finds (F.contents files.old) (λ answers. alternative answers (map string_bytes dirs.now) (file_at debug.now))) }
     ensures stay { FilesStay F.contents F.stamps F.faults files.old files.new }
 {
-    let Some(link) = debug.debug_altlink(alloc)? else {
-        return Ok(None);
-    };
-    let build_id = Some(link.build_id);
-    let Some(file) = follow(alloc, files, dirs, debug, link.path, build_id)? else {
-        return Ok(None);
-    };
-    check_build_id(alloc, &file, link.build_id)?;
-    Ok(Some(file))
+    let link = debug.debug_altlink(alloc)?;
+    led(alloc, files, dirs, debug, lead_of(link))
 }
 
-fn check_build_id(alloc: Global, file: &OpenFile, recorded: &[u8]) -> Result<()>
+fn lead_of(link: Option<DebugAltlink<'_>>) -> Option<FileLead<'_>>
+    ensures { option_map lead_view result ≡ option_map altlink_lead (option_map altlink_view link.entry) }
+{
+    match link {
+        Some(link) => Some(FileLead {
+            target: link.path,
+            build_id: Some(link.build_id),
+            mark: Mark::BuildId(link.build_id),
+        }),
+        None => None,
+    }
+}
+
+/// Refused with both build ids where a file has another than was recorded, or none.
+pub(crate) fn check_build_id(alloc: Global, file: &OpenFile, recorded: &[u8]) -> Result<()>
     ensures { Concludes (λ _. tt) result ⊥ (λ found. has_build_id recorded.now (file_at file.now) ≡ found) }
 {
     let text = "debug altlink destination has another build ID";

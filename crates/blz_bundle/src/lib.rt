@@ -5,6 +5,7 @@ mod agreement;
 mod alternative;
 mod bundle;
 mod following;
+mod lead;
 mod link_reading;
 mod linked;
 mod open_file;

@@ -1,4 +1,4 @@
-use Rattle.std.proofs.Common.{◌≡◌, Some, None, refl, sym, ap, ◌∙◌, string_bytes}
+use Rattle.std.proofs.Common.{◌≡◌, ap, string_bytes}
 use Rattle.blz_bundle.specs.Packages.{package_path}
 use Rattle.blz_bundle.specs.OwnedViews.{file_at}
 use Rattle.blz_bundle.specs.Opened.{Found}

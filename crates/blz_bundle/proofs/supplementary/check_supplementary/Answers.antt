@@ -1,4 +1,3 @@
-use Rattle.std.proofs.Common.{sym, ap}
 use Rattle.blz_bundle.specs.OwnedViews.{file_at}
 use Rattle.blz_bundle.proofs.Findings.{concludes_on, refused_by, refusal_on, refusal_tells}
 use Rattle.blz_bundle.proofs.LinkSteps.{read_option, sup_broken, sup_checksum, sup_flag, sup_missing}
