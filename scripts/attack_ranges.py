@@ -71,6 +71,15 @@ def one_range_list_of_units(n):
 
 
 @shape
+def one_range_list_of_units_of_two_sizes_in_turn(n):
+    # a size is never asked for, but the list is read by it
+    shapes = {ROOT: root(RANGES, 0)}
+    data, first = range_lists(pairs(n) + b"\0")
+    units = unit(entry(shapes, ROOT, first)) + unit(entry(shapes, ROOT, first), address_size=4)
+    return Attack(dwarf(shapes, units * n, rnglists=data), [0])
+
+
+@shape
 def two_range_lists_of_units_in_turn(n):
     shapes = {ROOT: root(RANGES, 0)}
     lists = [pairs(n) + b"\0", pairs(n + 1) + b"\0"]

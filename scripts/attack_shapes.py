@@ -233,6 +233,35 @@ def units_of_one_header_of_files(n):
 
 
 @shape
+def units_of_two_sizes_of_one_program_in_turn(n):
+    shapes = {ROOT: root([LINES], 0)}
+    units = unit(entry(shapes, ROOT, 0)) + unit(entry(shapes, ROOT, 0), address_size=4)
+    return Attack(dwarf(shapes, units * (n // 2 + 1), line=plain_program(many_sequences(n))), [0])
+
+
+@shape
+def units_of_lists_without_ranges_and_two_sizes_of_one_program_in_turn(n):
+    # each has a list of its own, which has no ranges
+    shapes = {ROOT: root([*RANGES, LINES], 0)}
+    data, first = range_lists(bytes(2 * n + 2))
+    units = [unit(entry(shapes, ROOT, first + k, 0), address_size=8 - 4 * (k % 2)) for k in range(2 * n + 2)]
+    return Attack(dwarf(shapes, b"".join(units), rnglists=data, line=plain_program(many_sequences(n))), [0])
+
+
+@shape
+def units_of_two_sizes_of_one_header_of_files_in_turn(n):
+    shapes = {ROOT: root([LINES], 0)}
+    units = unit(entry(shapes, ROOT, 0)) + unit(entry(shapes, ROOT, 0), address_size=4)
+    return Attack(dwarf(shapes, units * (n // 2 + 1), line=line_program(["/p"], [("a", 0)] * 6 * n, b"")), [0])
+
+
+@shape
+def units_of_one_header_without_its_last_file(n):
+    whole = line_program(["/p"], [("a", 0)] * 6 * n, b"")
+    return units_of_one_program(n, whole[:-3] + bytes([ord("a")] * 3))
+
+
+@shape
 def units_of_one_program_of_rows_with_ranges(n):
     shapes = {ROOT: root([*RANGE, LINES], 0)}
     units = b"".join(unit(entry(shapes, ROOT, BASE + 4 * k, 4, 0)) for k in range(n))

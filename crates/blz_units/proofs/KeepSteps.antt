@@ -15,14 +15,13 @@ use Rattle.blz_info.specs.declared.units.UnitHeader.{UnitHeader}
 use Rattle.blz_info.proofs.Marked.{marks_on}
 use Rattle.blz_units.specs.Copies.{KeptRanges, all_kept, IsListOf, IsOnceMore, IsWithKeeper, IsWithUnit}
 use Rattle.blz_units.specs.Keeping.{Keeping, units_told, AreRoots, IsAgain, IsRootOf}
-use Rattle.blz_units.specs.RootKeys.{AreSpansOf}
-use Rattle.blz_units.specs.SharedTables.{table_cmp}
+use Rattle.blz_units.specs.RootKeys.{root_cmp, AreSpansOf}
 use Rattle.blz_units.specs.UnitLists.{EndBefore, IsInPlace}
 use Rattle.blz_units.specs.UnitTables.{KeptUnits, by_root, keep, root_spans}
-use Rattle.blz_units.specs.declared.known_roots.KnownRoot.{KnownRoot}
 use Rattle.blz_units.specs.declared.known_roots.KnownRoots.{KnownRoots}
 use Rattle.blz_units.specs.declared.root_key.RootKey.{RootKey}
-use Rattle.blz_units.proofs.KeptValues.{if_empty, pair_more}
+use Rattle.blz_units.proofs.KeptValues.{if_empty, more_kept}
+use Rattle.blz_units.proofs.KeyOrder.{exact_root}
 use Rattle.blz_units.proofs.UnitsInPlace.{end_later, end_more}
 
 -- the units with one more, by what it announces
@@ -54,12 +53,12 @@ next_more k h new o same next =
 
 -- ---- the keys that were met
 
-root_stays : (s : FileSections) (old new : KeptRanges) (spans : List Span) → IsWithUnit old spans new → (o : Option KnownRoot) → IfSome o (IsRootOf s old) → IfSome o (IsRootOf s new)
-root_stays s old new spans w None r = tt
-root_stays s old new spans w (Some known) r = record { spans = r.spans; list = w.others r.spans known.keeper r.list; are = r.are }
+root_stays : (s : FileSections) (old new : KeptRanges) (spans : List Span) → IsWithUnit old spans new → (key : RootKey) (o : Option (Option ℕ)) → IfSome o (λ keeper. IsRootOf s old (record { key = key; keeper = keeper })) → IfSome o (λ keeper. IsRootOf s new (record { key = key; keeper = keeper }))
+root_stays s old new spans w key None r = tt
+root_stays s old new spans w key (Some keeper) r = record { spans = r.spans; list = w.others r.spans keeper r.list; are = r.are }
 
 pub roots_stay : (s : FileSections) (old new : KeptRanges) (roots : KnownRoots) (o : Option (Option (List Span))) → IsNext old new o → AreRoots s old roots → AreRoots s new roots
-roots_stay s old new roots o next are = λ place. root_stays s old new next.spans next.with_unit (get table_cmp roots.roots place) (are place)
+roots_stay s old new roots o next are = λ key. root_stays s old new next.spans next.with_unit key (get root_cmp roots.roots key) (are key)
 
 pub root_noted : (s : FileSections) (old : KeptRanges) (spans : List Span) (new : KeptRanges × Option ℕ) (key : Option RootKey) → IsWithKeeper old spans new → IfSome key (AreSpansOf s spans) → IfSome key (λ k. IsRootOf s new.0 (record { key = k; keeper = new.1 }))
 root_noted s old spans new None w are = tt
@@ -76,7 +75,7 @@ own_keeper ranges spans (Some k) h = h.0
 
 module _ (s : FileSections) (ranges : KeptRanges) (roots : KnownRoots) (known : AreRoots s ranges roots) (keeper : Option ℕ) (o : Option (Option (List Span))) (again : IsAgain s roots keeper o) where
   root : IsRootOf s ranges (record { key = again.key; keeper = keeper })
-  root = let at = again.known in rw at.1 at (known at.0)
+  root = let at = again.known in rw at at (known again.key)
 
   pub again_keeper : IfSome keeper (λ n. slice_get ranges.keepers n ≡ Some n)
   again_keeper = own_keeper ranges root.spans keeper root.list
@@ -105,7 +104,7 @@ module _ (k v : Keeping) (view : v ≡ k) (h : UnitHeader) (behind : EndBefore k
 -- ---- the keys that are known
 
 pub none_known : (s : FileSections) (ranges : KeptRanges) (roots : KnownRoots) → IsEmpty roots.roots → AreRoots s ranges roots
-none_known s ranges roots e = if_empty table_cmp roots.roots (λ _ known. IsRootOf s ranges known) e
+none_known s ranges roots e = if_empty root_cmp roots.roots (λ key keeper. IsRootOf s ranges (record { key = key; keeper = keeper })) e
 
-pub root_more : (s : FileSections) (ranges : KeptRanges) (old new : KnownRoots) (place : ℕ × ℕ) (key : RootKey) (keeper : Option ℕ) → Updates table_cmp old.roots new.roots place (Some (record { key = key; keeper = keeper })) → AreRoots s ranges old → IsRootOf s ranges (record { key = key; keeper = keeper }) → AreRoots s ranges new
-root_more s ranges old new place key keeper u are known = pair_more old.roots new.roots place (record { key = key; keeper = keeper }) (λ _ known. IsRootOf s ranges known) u known are
+pub root_more : (s : FileSections) (ranges : KeptRanges) (old new : KnownRoots) (key : RootKey) (keeper : Option ℕ) → Updates root_cmp old.roots new.roots key (Some keeper) → AreRoots s ranges old → IsRootOf s ranges (record { key = key; keeper = keeper }) → AreRoots s ranges new
+root_more s ranges old new key keeper u are known = more_kept root_cmp exact_root old.roots new.roots key keeper (λ k x. IsRootOf s ranges (record { key = k; keeper = x })) u known are

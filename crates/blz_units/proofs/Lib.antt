@@ -21,4 +21,5 @@ pub mod LineHeaders
 pub mod SharedPackage
 pub mod Shared
 pub mod SharedLines
+pub mod KeyOrder
 pub mod RootKeys

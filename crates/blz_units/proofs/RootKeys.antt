@@ -5,7 +5,7 @@ use Rattle.std.specs.Option.{option_to_list}
 use Rattle.std.proofs.lemmas.Bool.{false≢true}
 use Rattle.blz_model.specs.Reads.{◌>>=◌}
 use Rattle.blz_entry.specs.AddressIndexes.{address_of}
-use Rattle.blz_entry.specs.RangeLists.{base_behind, base_of_index, begin_by_index, both_by_index, coded_entry, coded_entry_at, is_end, list_length, range_entry_at, ranges_by, ranges_of, spans_from, spans_in, spelled, appended}
+use Rattle.blz_entry.specs.RangeLists.{base_behind, base_of_index, begin_by_index, both_by_index, bounds_of, coded_entry, coded_entry_at, is_end, list_length, not_empty, range_entry_at, ranges_by, ranges_of, spans_from, spans_in, spelled, appended}
 use Rattle.blz_entry.specs.declared.root.UnitRoot.{UnitRoot}
 use Rattle.blz_functions.specs.Leaves.{UnitParts, lying, ranges_in}
 use Rattle.blz_info.specs.FileSections.{FileSections}
@@ -13,21 +13,15 @@ use Rattle.blz_info.specs.declared.section.Sections.{Sections}
 use Rattle.blz_info.specs.declared.units.UnitHeader.{UnitHeader}
 use Rattle.blz_line.specs.UnitLines.{maybe_table}
 use Rattle.blz_ranges.specs.declared.span.Span.{Span}
-use Rattle.blz_units.specs.RootKeys.{list_key, program_at, program_key, ranges_by_key, ranges_key, IsKeyOf}
+use Rattle.blz_units.specs.RootKeys.{bounded_by, list_key, program_at, program_key, ranges_by_key, ranges_key, IsKeyOf}
 use Rattle.blz_units.specs.UnitTables.{lines_in, or_sequences, sequences_of}
 use Rattle.blz_units.specs.declared.root_key.ListKey.{ListKey}
 use Rattle.blz_units.specs.declared.root_key.ProgramKey.{ProgramKey}
 use Rattle.blz_units.specs.declared.root_key.RangesKey.{RangesKey}
-use Rattle.blz_units.specs.declared.root_key.RangesKey.TheVariants.{Listed, Bounded}
+use Rattle.blz_units.specs.declared.root_key.RangesKey.TheVariants.{Listed, Bounded, Unbounded}
 use Rattle.blz_units.specs.declared.root_key.RootKey.TheVariants.{ByRanges, ByLines}
 use Rattle.blz_units.proofs.Rooted.{bind_same}
 use Rattle.blz_units.proofs.SharedLines.{lines_same}
-
-pub same_list : (a b : ListKey) → a.version ≡ b.version → a.address_size ≡ b.address_size → a.low_pc ≡ b.low_pc → a.addr_base ≡ b.addr_base → a.offset ≡ b.offset → a ≡ b
-same_list a b version size low addr offset = λ i. record { version = version i; address_size = size i; low_pc = low i; addr_base = addr i; offset = offset i }
-
-pub same_program : (a b : ProgramKey) → a.lines ≡ b.lines → a.offset ≡ b.offset → a ≡ b
-same_program a b lines offset = λ i. record { lines = lines i; offset = offset i }
 
 -- ---- what is read by the key of a list
 
@@ -56,20 +50,34 @@ module _ (s : Sections) (h g : UnitHeader) (r q : UnitRoot) where
 
 bounds_in : RangesKey → Option Span
 bounds_in (Listed list) = None
-bounds_in (Bounded bounds) = bounds
+bounds_in (Bounded begin end) = Some (record { begin = begin; end = end })
+bounds_in Unbounded = None
+
+bounds_again : (o : Option Span) → bounds_in (bounded_by o) ≡ o
+unfolding bounds_in
+bounds_again None = refl
+bounds_again (Some span) = refl
+
+not_listed : (o : Option Span) (list : ListKey) → bounded_by o ≡ Listed list → ⊥
+not_listed None list e = absurd cc
+not_listed (Some span) list e = absurd cc
 
 list_in : ListKey → RangesKey → ListKey
 list_in other (Listed list) = list
-list_in other (Bounded bounds) = other
+list_in other (Bounded begin end) = other
+list_in other Unbounded = other
 
 abbrev spans_by : UnitParts → Option ℕ → Option (List Span)
 spans_by u o = ranges_by o u.root.ranges (lying u.sections) u.header u.root
 
 by_same : (u v : UnitParts) (o p : Option ℕ) → v.sections ≡ u.sections → ranges_by_key u o ≡ ranges_by_key v p → spans_by v p ≡ spans_by u o
 unfolding bounds_in list_in
-by_same u v None None at e = ap (λ (b : Option Span). Some (option_to_list b)) (sym (ap bounds_in e))
-by_same u v None (Some offset) at e = absurd cc
-by_same u v (Some offset) None at e = absurd cc
+by_same u v None None at e =
+    let own = not_empty (bounds_of u.root.ranges) in
+    let other = not_empty (bounds_of v.root.ranges) in
+    ap (λ (b : Option Span). Some (option_to_list b)) (sym (bounds_again other) ∙ (sym (ap bounds_in e) ∙ bounds_again own))
+by_same u v None (Some offset) at e = absurd (not_listed (not_empty (bounds_of u.root.ranges)) (list_key v offset) e)
+by_same u v (Some offset) None at e = absurd (not_listed (not_empty (bounds_of v.root.ranges)) (list_key u offset) (sym e))
 by_same u v (Some offset) (Some other) at e =
     let key : list_key u offset ≡ list_key v other = ap (list_in (list_key u offset)) e in
     ap (λ (s : FileSections). spans_from [] (lying s) v.header v.root other) at

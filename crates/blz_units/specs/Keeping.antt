@@ -11,8 +11,7 @@ use Rattle.blz_ranges.specs.declared.span.Span.{Span}
 use Rattle.blz_units.specs.BuiltUnits.{Files}
 use Rattle.blz_units.specs.Copies.{KeptRanges, all_kept, IsListOf}
 use Rattle.blz_units.specs.KeptParts.{IsPartOf}
-use Rattle.blz_units.specs.RootKeys.{AreSpansOf, IsToldBy}
-use Rattle.blz_units.specs.SharedTables.{table_cmp}
+use Rattle.blz_units.specs.RootKeys.{root_cmp, AreSpansOf, IsToldBy}
 use Rattle.blz_units.specs.UnitTables.{KeptUnits, by_root}
 use Rattle.blz_units.specs.declared.announcing.Announcement.{Announcement}
 use Rattle.blz_units.specs.declared.announcing.Announcement.TheVariants.{NotKept, Again, Ranges}
@@ -30,7 +29,7 @@ HasPartOf f h (Ranges spans part key) = IsPartOf f h part
 
 -- a key that was met, with its keeper
 abbrev pub IsKnown : KnownRoots → KnownRoot → Type 0
-IsKnown roots known = (place : ℕ × ℕ) × (get table_cmp roots.roots place ≡ Some known)
+IsKnown roots known = get root_cmp roots.roots known.key ≡ Some known.keeper
 
 -- A unit is built, and has a key that was met.
 pub record IsAgain (s : FileSections) (roots : KnownRoots) (keeper : Option ℕ) (announced : Option (Option (List Span))) : Type 0 where
@@ -69,4 +68,4 @@ pub record IsRootOf (s : FileSections) (ranges : KeptRanges) (known : KnownRoot)
   pub are : AreSpansOf s spans known.key
 
 abbrev pub AreRoots : FileSections → KeptRanges → KnownRoots → Type 0
-AreRoots s ranges roots = (place : ℕ × ℕ) → IfSome (get table_cmp roots.roots place) (IsRootOf s ranges)
+AreRoots s ranges roots = (key : RootKey) → IfSome (get root_cmp roots.roots key) (λ keeper. IsRootOf s ranges (record { key = key; keeper = keeper }))

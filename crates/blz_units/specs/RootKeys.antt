@@ -1,5 +1,6 @@
 -- By what the root of a unit tells what the unit announces: as little of the unit as that depends on.
 use Rattle.std.specs.Prelude.{◌≡◌, ℕ, List, Option, Some, None, option_map}
+use Rattle.std.specs.declared.cmp.Ordering.{Ordering}
 use Rattle.blz_entry.specs.RangeLists.{bounds_of, not_empty}
 use Rattle.blz_functions.specs.Leaves.{UnitParts}
 use Rattle.blz_info.specs.FileSections.{FileSections}
@@ -7,7 +8,8 @@ use Rattle.blz_ranges.specs.declared.span.Span.{Span}
 use Rattle.blz_units.specs.declared.root_key.ListKey.{ListKey}
 use Rattle.blz_units.specs.declared.root_key.ProgramKey.{ProgramKey}
 use Rattle.blz_units.specs.declared.root_key.RangesKey.{RangesKey}
-use Rattle.blz_units.specs.declared.root_key.RangesKey.TheVariants.{Listed, Bounded}
+use Rattle.blz_units.specs.declared.root_key.RangesKey.TheVariants.{Listed, Bounded, Unbounded}
+use Rattle.blz_units.specs.contracts.root_key.RootKeyOrd.TheImpl as order
 use Rattle.blz_units.specs.declared.root_key.RootKey.{RootKey}
 use Rattle.blz_units.specs.declared.root_key.RootKey.TheVariants.{ByRanges, ByLines}
 use Rattle.blz_units.specs.Sharing.{lines_key}
@@ -23,9 +25,14 @@ list_key u offset = record {
   offset = offset;
 }
 
+-- what tells the range of some bounds
+abbrev pub bounded_by : Option Span → RangesKey
+bounded_by None = Unbounded
+bounded_by (Some span) = Bounded span.begin span.end
+
 -- what tells the ranges of a root: its list where it has one, and else its bounds
 abbrev pub ranges_by_key : UnitParts → Option ℕ → RangesKey
-ranges_by_key u None = Bounded (not_empty (bounds_of u.root.ranges))
+ranges_by_key u None = bounded_by (not_empty (bounds_of u.root.ranges))
 ranges_by_key u (Some offset) = Listed (list_key u offset)
 
 abbrev pub ranges_key : UnitParts → RangesKey
@@ -37,6 +44,10 @@ program_at u at = record { lines = lines_key u.header u.root; offset = at }
 
 abbrev pub program_key : UnitParts → Option ProgramKey
 program_key u = option_map (program_at u) u.root.line
+
+-- keys stand in the order of their fields
+abbrev pub root_cmp : RootKey → RootKey → Ordering
+root_cmp = order.ghosts.cmp
 
 -- A key tells what a unit announces; a unit with ranges is not asked for its line program.
 abbrev pub IsToldBy : RootKey → UnitParts → Type 0

@@ -1,5 +1,5 @@
 //! What is known of units by the keys of their roots, while they are read.
-ghost use Rattle.std.specs.Prelude.{◌≡◌, IfSome, IfOk, Option};
+ghost use Rattle.std.specs.Prelude.{◌≡◌, IfSome, IfOk};
 ghost use Rattle.std.specs.BTreeMap.{IsEmpty};
 ghost use Rattle.blz_functions.specs.Opened.{open_view};
 ghost use Rattle.blz_info.specs.FileSections.{FileSections};
@@ -12,17 +12,17 @@ use blz_functions::OpenUnit;
 use std::alloc::{AllocError, Global};
 use std::collections::BTreeMap;
 
-/// A key, with the keeper of the units that have it; none where they announce nothing.
+/// A key that was met, with the keeper of the units that have it; none where they announce nothing.
 #[derive(Clone, Copy)]
 pub struct KnownRoot {
     pub key: RootKey,
     pub keeper: Option<usize>,
 }
 
-/// The keys that were met.
+/// The keepers by the keys that were met.
 #[derive(Drop)]
 pub struct KnownRoots {
-    pub roots: BTreeMap<(u64, u64), KnownRoot>,
+    pub roots: BTreeMap<RootKey, Option<usize>>,
 }
 
 impl KnownRoots {
@@ -35,16 +35,15 @@ impl KnownRoots {
         }
     }
 
-    /// What is known by a key, where it is that of a unit.
-    fn by_key(&self, key: RootKey, unit: &OpenUnit<'_, '_>) -> Option<KnownRoot>
-        ensures { IfSome result (λ known. IsKnown self.now known × IsToldBy known.key (open_view unit.now)) }
+    /// What is known by a key.
+    fn by_key(&self, key: RootKey) -> Option<KnownRoot>
+        ensures { IfSome result (λ known. IsKnown self.now known × (known.key ≡ key)) }
     {
-        match self.roots.get(&key.place()) {
-            Some(known) => if known.key.is_of(unit) {
-                Some(*known)
-            } else {
-                None
-            },
+        match self.roots.get(&key) {
+            Some(keeper) => Some(KnownRoot {
+                key,
+                keeper: *keeper,
+            }),
             None => None,
         }
     }
@@ -54,11 +53,11 @@ impl KnownRoots {
         ensures { IfSome result (λ known. IsKnown self.now known × IsToldBy known.key (open_view unit.now)) }
     {
         let ranges = ranges_key(unit);
-        let known = self.by_key(RootKey::ByRanges(ranges), unit);
+        let known = self.by_key(RootKey::ByRanges(ranges));
         if known.is_some() {
             return known;
         }
-        self.by_key(RootKey::ByLines(ranges, program_key(unit)), unit)
+        self.by_key(RootKey::ByLines(ranges, program_key(unit)))
     }
 
     /// Notes one more, where there is a key.
@@ -67,7 +66,7 @@ impl KnownRoots {
     {
         match key {
             Some(key) => {
-                self.roots.insert(key.place(), KnownRoot { key, keeper })?;
+                self.roots.insert(key, keeper)?;
                 Ok(())
             },
             None => Ok(()),

@@ -1,16 +1,15 @@
 //! By what the root of a unit tells what the unit announces.
 ghost use Rattle.std.specs.Prelude.{◌≡◌};
-ghost use Rattle.std.specs.Bool.{OnTrue};
 ghost use Rattle.blz_entry.specs.RangeLists.{bounds_of, not_empty};
 ghost use Rattle.blz_functions.specs.Opened.{open_view};
-ghost use Rattle.blz_units.specs.RootKeys.{list_key, program_key, ranges_key, IsToldBy};
+ghost use Rattle.blz_units.specs.RootKeys.{bounded_by, list_key, program_key, ranges_key};
 
 use crate::shared_lines::{LinesKey, lines_key};
-use blz_entry::{RangeAttributes, Span};
+use blz_entry::RangeAttributes;
 use blz_functions::OpenUnit;
 
 /// What a list of ranges is read by, and its offset.
-#[derive(Clone, Copy)]
+#[derive(Clone, Copy, PartialEq, Eq, PartialOrd, Ord)]
 pub struct ListKey {
     pub version: u16,
     pub address_size: u8,
@@ -20,23 +19,25 @@ pub struct ListKey {
 }
 
 /// What a line program is read by, and its offset.
-#[derive(Clone, Copy)]
+#[derive(Clone, Copy, PartialEq, Eq, PartialOrd, Ord)]
 pub struct ProgramKey {
     pub lines: LinesKey,
     pub offset: u64,
 }
 
 /// What tells the ranges of a root.
-#[derive(Clone, Copy)]
+#[derive(Clone, Copy, PartialEq, Eq, PartialOrd, Ord)]
 pub enum RangesKey {
     /// A list.
     Listed(ListKey),
-    /// Its bounds, which may tell none.
-    Bounded(Option<Span>),
+    /// Its bounds: where its range begins and ends.
+    Bounded(u64, u64),
+    /// Nothing: there are none.
+    Unbounded,
 }
 
-/// What tells what a unit announces. Where there are ranges, the line program is not asked.
-#[derive(Clone, Copy)]
+/// What tells what a unit announces, in an order of its own. Where there are ranges, the line program is not asked.
+#[derive(Clone, Copy, PartialEq, Eq, PartialOrd, Ord)]
 pub enum RootKey {
     /// The ranges of its root, of which there is one.
     ByRanges(RangesKey),
@@ -56,17 +57,17 @@ fn list_key(unit: &OpenUnit<'_, '_>, offset: u64) -> ListKey
     }
 }
 
-/// The bounds of a range that is not empty.
-fn bounds_of(ranges: &RangeAttributes) -> Option<Span>
-    ensures { result ≡ not_empty (bounds_of ranges.now) }
+/// What tells the range of some bounds, of which an empty one is none.
+fn bounded_by(ranges: &RangeAttributes) -> RangesKey
+    ensures { result ≡ bounded_by (not_empty (bounds_of ranges.now)) }
 {
     match ranges.bounds() {
         Some(span) => if span.begin < span.end {
-            Some(span)
+            RangesKey::Bounded(span.begin, span.end)
         } else {
-            None
+            RangesKey::Unbounded
         },
-        None => None,
+        None => RangesKey::Unbounded,
     }
 }
 
@@ -76,7 +77,7 @@ pub fn ranges_key(unit: &OpenUnit<'_, '_>) -> RangesKey
 {
     match unit.root.ranges.ranges_offset {
         Some(offset) => RangesKey::Listed(list_key(unit, offset)),
-        None => RangesKey::Bounded(bounds_of(&unit.root.ranges)),
+        None => bounded_by(&unit.root.ranges),
     }
 }
 
@@ -90,123 +91,5 @@ pub fn program_key(unit: &OpenUnit<'_, '_>) -> Option<ProgramKey>
             offset,
         }),
         None => None,
-    }
-}
-
-fn same_bounds(left: Option<Span>, right: Option<Span>) -> bool
-    ensures { OnTrue result (left ≡ right) }
-{
-    match left {
-        Some(left) => match right {
-            Some(right) => left.begin == right.begin && left.end == right.end,
-            None => false,
-        },
-        None => right.is_none(),
-    }
-}
-
-fn same_program(left: Option<ProgramKey>, right: Option<ProgramKey>) -> bool
-    ensures { OnTrue result (left ≡ right) }
-{
-    match left {
-        Some(left) => match right {
-            Some(right) => left.is(right),
-            None => false,
-        },
-        None => right.is_none(),
-    }
-}
-
-impl ListKey {
-    #[tactic(auto, using(crate::proofs::RootKeys::same_list))]
-    fn is(self, other: ListKey) -> bool
-        ensures { OnTrue result (self ≡ other) }
-    {
-        if self.version == other.version
-            && self.address_size == other.address_size
-            && self.low_pc == other.low_pc
-            && self.addr_base == other.addr_base
-            && self.offset == other.offset
-        {
-            return true;
-        }
-        false
-    }
-}
-
-impl ProgramKey {
-    #[tactic(auto, using(crate::proofs::RootKeys::same_program))]
-    fn is(self, other: ProgramKey) -> bool
-        ensures { OnTrue result (self ≡ other) }
-    {
-        if self.offset == other.offset && self.lines.is(other.lines) {
-            return true;
-        }
-        false
-    }
-}
-
-impl RangesKey {
-    fn is(self, other: RangesKey) -> bool
-        ensures { OnTrue result (self ≡ other) }
-    {
-        match self {
-            RangesKey::Listed(list) => match other {
-                RangesKey::Listed(next) => list.is(next),
-                RangesKey::Bounded(_) => false,
-            },
-            RangesKey::Bounded(bounds) => match other {
-                RangesKey::Listed(_) => false,
-                RangesKey::Bounded(next) => same_bounds(bounds, next),
-            },
-        }
-    }
-}
-
-/// Where what tells the ranges of a root is sought.
-fn ranges_place(ranges: RangesKey) -> (u64, u64) {
-    match ranges {
-        RangesKey::Listed(list) => (list.offset, list.low_pc ^ list.addr_base),
-        RangesKey::Bounded(bounds) => match bounds {
-            Some(span) => (span.begin, span.end),
-            None => (0, 0),
-        },
-    }
-}
-
-/// The same with a line program.
-fn program_place(ranges: RangesKey, program: Option<ProgramKey>) -> (u64, u64) {
-    let place = ranges_place(ranges);
-    match program {
-        Some(program) => (
-            place.0 ^ program.offset,
-            place.1 ^ program.lines.str_offsets_base,
-        ),
-        None => place,
-    }
-}
-
-impl RootKey {
-    /// Where a key is sought. What is found there is asked whether it is the key.
-    pub fn place(self) -> (u64, u64) {
-        match self {
-            RootKey::ByRanges(ranges) => ranges_place(ranges),
-            RootKey::ByLines(ranges, program) => program_place(ranges, program),
-        }
-    }
-
-    /// Whether a unit has a key.
-    pub fn is_of(self, unit: &OpenUnit<'_, '_>) -> bool
-        ensures { OnTrue result (IsToldBy self (open_view unit.now)) }
-    {
-        match self {
-            RootKey::ByRanges(ranges) => ranges.is(ranges_key(unit)),
-            RootKey::ByLines(ranges, program) => {
-                if ranges.is(ranges_key(unit)) && same_program(program, program_key(unit)) {
-                    return true;
-                }
-                false
-            },
-        }
     }
 }

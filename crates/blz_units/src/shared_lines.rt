@@ -10,7 +10,7 @@ use blz_functions::OpenUnit;
 use std::alloc::AllocError;
 
 /// What a line program is read by besides its offset: the size of addresses, and how the strings of its files are found.
-#[derive(Clone, Copy)]
+#[derive(Clone, Copy, PartialEq, Eq, PartialOrd, Ord)]
 pub struct LinesKey {
     pub address_size: u8,
     pub wide: bool,

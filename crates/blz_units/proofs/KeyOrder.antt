@@ -1,0 +1,87 @@
+-- Keys that compare as equal are one.
+use Rattle.std.proofs.Common.{◌≡◌, ℕ, Bool, true, false, Some, None, Ordering, Less, Equal, Greater, refl, ap}
+use Rattle.std.specs.Ordering.{bool_cmp, nat_cmp, ordering_then}
+use Rattle.std.proofs.lemmas.Map.Lookups.{CmpEqualImpliesEq, exact_unsigned}
+use Rattle.blz_units.specs.RootKeys.{root_cmp}
+use Rattle.blz_units.specs.contracts.root_key.ListKeyOrd.TheImpl as list
+use Rattle.blz_units.specs.contracts.root_key.ProgramKeyOrd.TheImpl as program
+use Rattle.blz_units.specs.contracts.root_key.RangesKeyOrd.TheImpl as ranges
+use Rattle.blz_units.specs.contracts.shared_lines.LinesKeyOrd.TheImpl as lines
+use Rattle.blz_units.specs.declared.root_key.RangesKey.TheVariants.{Listed, Bounded, Unbounded}
+use Rattle.blz_units.specs.declared.root_key.RootKey.TheVariants.{ByRanges, ByLines}
+
+both : (a b : Ordering) → ordering_then a b ≡ Equal → (a ≡ Equal) × (b ≡ Equal)
+both Less b e = absurd cc
+both Equal b e = (refl, e)
+both Greater b e = absurd cc
+
+-- one field, and what stands behind it
+number : (x y : ℕ) (rest : Ordering) → ordering_then (nat_cmp x y) rest ≡ Equal → (x ≡ y) × (rest ≡ Equal)
+number x y rest e = let h = both (nat_cmp x y) rest e in (exact_unsigned x y h.0, h.1)
+
+exact_flag : CmpEqualImpliesEq bool_cmp
+exact_flag false false e = refl
+exact_flag false true e = absurd cc
+exact_flag true false e = absurd cc
+exact_flag true true e = refl
+
+flag : (x y : Bool) (rest : Ordering) → ordering_then (bool_cmp x y) rest ≡ Equal → (x ≡ y) × (rest ≡ Equal)
+flag x y rest e = let h = both (bool_cmp x y) rest e in (exact_flag x y h.0, h.1)
+
+-- ---- what tells the ranges
+
+exact_list : CmpEqualImpliesEq list.ghosts.cmp
+exact_list x y e =
+    let version = number x.version y.version _ e in
+    let size = number x.address_size y.address_size _ version.1 in
+    let low = number x.low_pc y.low_pc _ size.1 in
+    let base = number x.addr_base y.addr_base _ low.1 in
+    let offset = exact_unsigned x.offset y.offset base.1 in
+    λ i. record { version = version.0 i; address_size = size.0 i; low_pc = low.0 i; addr_base = base.0 i; offset = offset i }
+
+exact_ranges : CmpEqualImpliesEq ranges.ghosts.cmp
+exact_ranges (Listed x) (Listed y) e = ap Listed (exact_list x y e)
+exact_ranges (Listed x) (Bounded begin end) e = absurd cc
+exact_ranges (Listed x) Unbounded e = absurd cc
+exact_ranges (Bounded begin end) (Listed y) e = absurd cc
+exact_ranges (Bounded begin end) (Bounded other last) e =
+    let first = number begin other _ e in
+    let second = exact_unsigned end last first.1 in
+    λ i. Bounded (first.0 i) (second i)
+exact_ranges (Bounded begin end) Unbounded e = absurd cc
+exact_ranges Unbounded (Listed y) e = absurd cc
+exact_ranges Unbounded (Bounded begin end) e = absurd cc
+exact_ranges Unbounded Unbounded e = refl
+
+-- ---- a line program
+
+exact_lines : CmpEqualImpliesEq lines.ghosts.cmp
+exact_lines x y e =
+    let size = number x.address_size y.address_size _ e in
+    let wide = flag x.wide y.wide _ size.1 in
+    let base = exact_unsigned x.str_offsets_base y.str_offsets_base wide.1 in
+    λ i. record { address_size = size.0 i; wide = wide.0 i; str_offsets_base = base i }
+
+exact_program : CmpEqualImpliesEq program.ghosts.cmp
+exact_program x y e =
+    let first = both (lines.ghosts.cmp x.lines y.lines) _ e in
+    let lines = exact_lines x.lines y.lines first.0 in
+    let offset = exact_unsigned x.offset y.offset first.1 in
+    λ i. record { lines = lines i; offset = offset i }
+
+-- ---- a root
+
+pub exact_root : CmpEqualImpliesEq root_cmp
+exact_root (ByRanges x) (ByRanges y) e = ap ByRanges (exact_ranges x y e)
+exact_root (ByRanges x) (ByLines y q) e = absurd cc
+exact_root (ByLines x p) (ByRanges y) e = absurd cc
+exact_root (ByLines x None) (ByLines y None) e =
+    let same = exact_ranges x y (both (ranges.ghosts.cmp x y) _ e).0 in
+    λ i. ByLines (same i) None
+exact_root (ByLines x None) (ByLines y (Some q)) e = let behind = both (ranges.ghosts.cmp x y) _ e in absurd cc
+exact_root (ByLines x (Some p)) (ByLines y None) e = let behind = both (ranges.ghosts.cmp x y) _ e in absurd cc
+exact_root (ByLines x (Some p)) (ByLines y (Some q)) e =
+    let first = both (ranges.ghosts.cmp x y) _ e in
+    let same = exact_ranges x y first.0 in
+    let lines = exact_program p q first.1 in
+    λ i. ByLines (same i) (Some (lines i))
