@@ -3,8 +3,8 @@ use Rattle.std.proofs.Common.{◌≡◌, ℕ, Bool, true, false, Some, None, Ord
 use Rattle.std.specs.Ordering.{bool_cmp, nat_cmp, ordering_then}
 use Rattle.std.proofs.lemmas.Map.Lookups.{CmpEqualImpliesEq, exact_unsigned}
 use Rattle.blz_units.specs.RootKeys.{root_cmp}
+use Rattle.blz_units.specs.Sharing.{program_cmp}
 use Rattle.blz_units.specs.contracts.root_key.ListKeyOrd.TheImpl as list
-use Rattle.blz_units.specs.contracts.root_key.ProgramKeyOrd.TheImpl as program
 use Rattle.blz_units.specs.contracts.root_key.RangesKeyOrd.TheImpl as ranges
 use Rattle.blz_units.specs.contracts.shared_lines.LinesKeyOrd.TheImpl as lines
 use Rattle.blz_units.specs.declared.root_key.RangesKey.TheVariants.{Listed, Bounded, Unbounded}
@@ -62,7 +62,7 @@ exact_lines x y e =
     let base = exact_unsigned x.str_offsets_base y.str_offsets_base wide.1 in
     λ i. record { address_size = size.0 i; wide = wide.0 i; str_offsets_base = base i }
 
-exact_program : CmpEqualImpliesEq program.ghosts.cmp
+pub exact_program : CmpEqualImpliesEq program_cmp
 exact_program x y e =
     let first = both (lines.ghosts.cmp x.lines y.lines) _ e in
     let lines = exact_lines x.lines y.lines first.0 in

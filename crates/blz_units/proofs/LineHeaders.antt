@@ -1,29 +1,23 @@
--- What is kept of the headers of line programs.
-use Rattle.std.proofs.Common.{◌≡◌, ℕ, Option, Some, None}
-use Rattle.std.specs.Prelude.{IfSome}
+-- What is known of the headers of line programs.
+use Rattle.std.proofs.Common.{◌≡◌, ℕ, Bool, Some}
+use Rattle.std.specs.Prelude.{IfSome, is_some}
 use Rattle.std.specs.BTreeMap.{BTreeMap, get, IsEmpty, Updates}
-use Rattle.std.specs.Ordering.{nat_cmp}
 use Rattle.blz_info.specs.Contents.{Contents}
-use Rattle.blz_units.specs.declared.line_headers.LineHeaders.{LineHeaders}
 use Rattle.blz_units.specs.BuiltUnits.{line_header}
-use Rattle.blz_units.specs.Sharing.{AreHeaders}
-use Rattle.blz_units.proofs.KeptValues.{if_empty, number_more}
+use Rattle.blz_units.specs.SharedTables.{table_cmp}
+use Rattle.blz_units.proofs.KeptValues.{if_empty, pair_more}
 
-abbrev IsHeaderAt : Contents → ℕ → ℕ → Type 0
-IsHeaderAt line at size = line_header line at size ≡ Some tt
+abbrev IsThere : Contents → ℕ × ℕ → Bool → Type 0
+IsThere line key there = is_some (line_header line key.0 key.1) ≡ there
 
-abbrev HaveHeaders : Contents → BTreeMap ℕ ℕ → Type 0
-HaveHeaders line sizes = (at : ℕ) → IfSome (get nat_cmp sizes at) (IsHeaderAt line at)
+abbrev AreMet : Contents → BTreeMap (ℕ × ℕ) Bool → Type 0
+AreMet line met = (key : ℕ × ℕ) → IfSome (get table_cmp met key) (IsThere line key)
 
-pub no_headers : (line : Contents) (sizes : BTreeMap ℕ ℕ) → IsEmpty sizes → HaveHeaders line sizes
-no_headers line sizes empty = if_empty nat_cmp sizes (IsHeaderAt line) empty
+pub no_headers : (line : Contents) (met : BTreeMap (ℕ × ℕ) Bool) → IsEmpty met → AreMet line met
+no_headers line met empty = if_empty table_cmp met (IsThere line) empty
 
-header_by : (line : Contents) (at size : ℕ) (o : Option ℕ) → IfSome o (IsHeaderAt line at) → o ≡ Some size → IsHeaderAt line at size
-header_by line at size None told e = absurd cc
-header_by line at size (Some k) told e = let same : k ≡ size = cc in rw (← same) told
+pub header_more : (line : Contents) (old new : BTreeMap (ℕ × ℕ) Bool) (key : ℕ × ℕ) (there : Bool) → Updates table_cmp old new key (Some there) → IsThere line key there → AreMet line old → AreMet line new
+header_more line old new key there u here told = pair_more old new key there (IsThere line) u here told
 
-pub header_told : (line : Contents) (headers : LineHeaders) (at size : ℕ) → AreHeaders line headers → get nat_cmp headers.sizes at ≡ Some size → line_header line at size ≡ Some tt
-header_told line headers at size told e = header_by line at size (get nat_cmp headers.sizes at) (told at) e
-
-pub header_more : (line : Contents) (old new : BTreeMap ℕ ℕ) (at size : ℕ) → Updates nat_cmp old new at (Some size) → line_header line at size ≡ Some tt → HaveHeaders line old → HaveHeaders line new
-header_more line old new at size u here told = number_more old new at size (IsHeaderAt line) u here told
+pub header_told : (line : Contents) (met : BTreeMap (ℕ × ℕ) Bool) (key : ℕ × ℕ) (there : Bool) → AreMet line met → get table_cmp met key ≡ Some there → IsThere line key there
+header_told line met key there told e = rw e at (told key)

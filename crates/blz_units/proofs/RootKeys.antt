@@ -16,7 +16,7 @@ use Rattle.blz_ranges.specs.declared.span.Span.{Span}
 use Rattle.blz_units.specs.RootKeys.{bounded_by, list_key, program_at, program_key, ranges_by_key, ranges_key, IsKeyOf}
 use Rattle.blz_units.specs.UnitTables.{lines_in, or_sequences, sequences_of}
 use Rattle.blz_units.specs.declared.root_key.ListKey.{ListKey}
-use Rattle.blz_units.specs.declared.root_key.ProgramKey.{ProgramKey}
+use Rattle.blz_units.specs.declared.shared_lines.ProgramKey.{ProgramKey}
 use Rattle.blz_units.specs.declared.root_key.RangesKey.{RangesKey}
 use Rattle.blz_units.specs.declared.root_key.RangesKey.TheVariants.{Listed, Bounded, Unbounded}
 use Rattle.blz_units.specs.declared.root_key.RootKey.TheVariants.{ByRanges, ByLines}

@@ -1,30 +1,22 @@
 -- What units share is what stands at its offset.
-use Rattle.std.proofs.Common.{◌≡◌, ℕ, List, Option, Some, None, option_map, subst}
-use Rattle.std.specs.Prelude.{IfSome}
-use Rattle.std.specs.BTreeMap.{get, IsEmpty, Updates}
-use Rattle.std.specs.Ordering.{nat_cmp}
+use Rattle.std.proofs.Common.{◌≡◌, Some}
+use Rattle.std.specs.declared.alloc.Global.{Global}
+use Rattle.std.specs.declared.vec.Vec.{Vec}
+use Rattle.std.specs.BTreeMap.{IsEmpty, Updates}
 use Rattle.blz_info.specs.FileSections.{FileSections}
 use Rattle.blz_ranges.specs.declared.span.Span.{Span}
-use Rattle.blz_units.specs.declared.shared_lines.LinesKey.{LinesKey}
-use Rattle.blz_units.specs.declared.shared_lines.ProgramSpans.{ProgramSpans}
+use Rattle.blz_units.specs.declared.shared_lines.ProgramKey.{ProgramKey}
 use Rattle.blz_units.specs.declared.shared_parts.SharedParts.{SharedParts}
 use Rattle.blz_units.specs.SharedTables.{AreTables}
-use Rattle.blz_units.specs.Sharing.{AreHeaders, AreShared, AreSpansAt, spans_kept, spans_told}
-use Rattle.blz_units.proofs.KeptValues.{if_empty, number_more}
+use Rattle.blz_units.specs.Sharing.{program_cmp, AreHeaders, AreShared, AreSpansAt}
+use Rattle.blz_units.proofs.KeptValues.{if_empty, more_kept}
+use Rattle.blz_units.proofs.KeyOrder.{exact_program}
 
-abbrev IsProgramAt : FileSections → ℕ → ProgramSpans → Type 0
-IsProgramAt s at k = AreSpansAt s at k.key k.spans.items
+abbrev IsProgramAt : FileSections → ProgramKey → Vec Span Global → Type 0
+IsProgramAt s key spans = AreSpansAt s key.offset key.lines spans.items
 
 pub new_shared : (s : FileSections) (p : SharedParts) → AreTables s.«abbrev».bytes p.tables → AreHeaders s.line p.headers → IsEmpty p.spans → AreShared s p
-new_shared s p tables headers spans = record { tables = tables; headers = headers; spans = if_empty nat_cmp p.spans (IsProgramAt s) spans }
-
--- what a program covers that is kept is told of each unit with its key
-spans_by : (s : FileSections) (at : ℕ) (o : Option ProgramSpans) (key : LinesKey) (spans : List Span) → IfSome o (IsProgramAt s at) → option_map spans_told o ≡ Some (key, spans) → AreSpansAt s at key spans
-spans_by s at None key spans told e = absurd cc
-spans_by s at (Some k) key spans told e = let same : (k.key, k.spans.items) ≡ (key, spans) = cc in subst (λ (t : LinesKey × List Span). AreSpansAt s at t.0 t.1) same told
-
-pub spans_told_at : (s : FileSections) (p : SharedParts) (at : ℕ) (key : LinesKey) (spans : List Span) → AreShared s p → spans_kept p at ≡ Some (key, spans) → AreSpansAt s at key spans
-spans_told_at s p at key spans shared e = spans_by s at (get nat_cmp p.spans at) key spans (shared.spans at) e
+new_shared s p tables headers spans = record { tables = tables; headers = headers; spans = if_empty program_cmp p.spans (IsProgramAt s) spans }
 
 -- ---- one part more, or none
 
@@ -36,13 +28,13 @@ module _ (s : FileSections) (old new : SharedParts) where
   headers_again t k headers shared = record { tables = rw t shared.tables; headers = headers; spans = rw k shared.spans }
 
   pub spans_same : new.spans.entries ≡ old.spans.entries → new.tables ≡ old.tables → new.headers ≡ old.headers → AreShared s old → AreShared s new
-  spans_same e t h shared = record { tables = rw t shared.tables; headers = rw h shared.headers; spans = λ at. rw e (shared.spans at) }
+  spans_same e t h shared = record { tables = rw t shared.tables; headers = rw h shared.headers; spans = λ key. rw e (shared.spans key) }
 
-  pub spans_more : (at : ℕ) (k : ProgramSpans) → Updates nat_cmp old.spans new.spans at (Some k) → new.tables ≡ old.tables → new.headers ≡ old.headers → AreSpansAt s at k.key k.spans.items → AreShared s old → AreShared s new
-  spans_more at k u t h here shared = record {
+  pub spans_more : (key : ProgramKey) (spans : Vec Span Global) → Updates program_cmp old.spans new.spans key (Some spans) → new.tables ≡ old.tables → new.headers ≡ old.headers → AreSpansAt s key.offset key.lines spans.items → AreShared s old → AreShared s new
+  spans_more key spans u t h here shared = record {
     tables = rw t shared.tables;
     headers = rw h shared.headers;
-    spans = number_more old.spans new.spans at k (IsProgramAt s) u here shared.spans;
+    spans = more_kept program_cmp exact_program old.spans new.spans key spans (IsProgramAt s) u here shared.spans;
   }
 
 -- ---- the same sections

@@ -25,9 +25,6 @@ use Rattle.blz_units.specs.declared.shared_lines.LinesKey.{LinesKey}
 use Rattle.blz_units.specs.Sharing.{lines_key, AreSpansAt}
 use Rattle.blz_units.specs.UnitTables.{sequences_of}
 
-pub same_key : (a b : LinesKey) → a.address_size ≡ b.address_size → a.wide ≡ b.wide → a.str_offsets_base ≡ b.str_offsets_base → a ≡ b
-same_key a b size wide base = λ i. record { address_size = size i; wide = wide i; str_offsets_base = base i }
-
 -- ---- whether files can be read does not depend on the unit's own names
 
 some_of : {A B : Type 0} (o : Option A) (f : A → B) → is_some (o >>= λ x. Some (f x)) ≡ is_some o

@@ -6,7 +6,7 @@ use Rattle.blz_functions.specs.Leaves.{UnitParts}
 use Rattle.blz_info.specs.FileSections.{FileSections}
 use Rattle.blz_ranges.specs.declared.span.Span.{Span}
 use Rattle.blz_units.specs.declared.root_key.ListKey.{ListKey}
-use Rattle.blz_units.specs.declared.root_key.ProgramKey.{ProgramKey}
+use Rattle.blz_units.specs.declared.shared_lines.ProgramKey.{ProgramKey}
 use Rattle.blz_units.specs.declared.root_key.RangesKey.{RangesKey}
 use Rattle.blz_units.specs.declared.root_key.RangesKey.TheVariants.{Listed, Bounded, Unbounded}
 use Rattle.blz_units.specs.contracts.root_key.RootKeyOrd.TheImpl as order

@@ -4,7 +4,7 @@ ghost use Rattle.blz_entry.specs.RangeLists.{bounds_of, not_empty};
 ghost use Rattle.blz_functions.specs.Opened.{open_view};
 ghost use Rattle.blz_units.specs.RootKeys.{bounded_by, list_key, program_key, ranges_key};
 
-use crate::shared_lines::{LinesKey, lines_key};
+use crate::shared_lines::{ProgramKey, lines_key};
 use blz_entry::RangeAttributes;
 use blz_functions::OpenUnit;
 
@@ -15,13 +15,6 @@ pub struct ListKey {
     pub address_size: u8,
     pub low_pc: u64,
     pub addr_base: u64,
-    pub offset: u64,
-}
-
-/// What a line program is read by, and its offset.
-#[derive(Clone, Copy, PartialEq, Eq, PartialOrd, Ord)]
-pub struct ProgramKey {
-    pub lines: LinesKey,
     pub offset: u64,
 }
 

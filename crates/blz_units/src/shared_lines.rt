@@ -1,8 +1,8 @@
 //! What the lines of units without ranges cover, found once for the units of one line program.
-ghost use Rattle.std.specs.Prelude.{◌≡◌, Some, IfSome};
-ghost use Rattle.std.specs.Bool.{OnTrue};
+ghost use Rattle.std.specs.Prelude.{◌≡◌, IfSome};
+ghost use Rattle.blz_info.specs.FileSections.{FileSections};
 ghost use Rattle.blz_functions.specs.Opened.{open_view};
-ghost use Rattle.blz_units.specs.Sharing.{lines_key, spans_kept, AreShared, AreSpansAt};
+ghost use Rattle.blz_units.specs.Sharing.{lines_key, AreShared, AreSpansAt};
 
 use crate::shared_parts::SharedParts;
 use blz_entry::{Span, UnitHeader, UnitRoot};
@@ -15,6 +15,13 @@ pub struct LinesKey {
     pub address_size: u8,
     pub wide: bool,
     pub str_offsets_base: u64,
+}
+
+/// What a line program is read by, and its offset, in an order of its own.
+#[derive(Clone, Copy, PartialEq, Eq, PartialOrd, Ord)]
+pub struct ProgramKey {
+    pub lines: LinesKey,
+    pub offset: u64,
 }
 
 /// What the sequences of a line program cover, as units with one key read it.
@@ -35,32 +42,17 @@ pub fn lines_key(header: &UnitHeader, root: &UnitRoot) -> LinesKey
     }
 }
 
-impl LinesKey {
-    #[tactic(auto, using(crate::proofs::SharedLines::same_key))]
-    pub fn is(self, other: LinesKey) -> bool
-        ensures { OnTrue result (self ≡ other) }
-    {
-        if self.address_size == other.address_size
-            && self.wide == other.wide
-            && self.str_offsets_base == other.str_offsets_base
-        {
-            return true;
-        }
-        false
-    }
-}
-
 impl SharedParts {
     /// What is kept of the line program at an offset, for units with a key.
     pub fn kept_spans(&self, at: u64, key: LinesKey) -> Option<&[Span]>
-        ensures { IfSome result (λ spans. spans_kept self.now at ≡ Some (key, spans.now)) }
+        ensures { (s : FileSections) → AreShared s self.now → IfSome result (λ spans. AreSpansAt s at key spans.now) }
     {
-        match self.spans.get(&at) {
-            Some(kept) => if kept.key.is(key) {
-                Some(kept.spans.as_slice())
-            } else {
-                None
-            },
+        let key = ProgramKey {
+            lines: key,
+            offset: at,
+        };
+        match self.spans.get(&key) {
+            Some(spans) => Some(spans.as_slice()),
             None => None,
         }
     }
@@ -76,7 +68,11 @@ impl SharedParts {
         requires spans { AreSpansAt (open_view unit.now).sections at spans.key spans.spans.items }
         ensures { AreShared (open_view unit.now).sections self.new }
     {
-        self.spans.insert(at, spans)?;
+        let key = ProgramKey {
+            lines: spans.key,
+            offset: at,
+        };
+        self.spans.insert(key, spans.spans)?;
         Ok(())
     }
 }

@@ -4,8 +4,9 @@ ghost use Rattle.blz_info.specs.FileSections.{FileSections};
 ghost use Rattle.blz_units.specs.Sharing.{AreShared};
 
 use crate::line_headers::LineHeaders;
-use crate::shared_lines::ProgramSpans;
+use crate::shared_lines::ProgramKey;
 use crate::shared_tables::SharedTables;
+use blz_entry::Span;
 use std::alloc::Global;
 use std::collections::BTreeMap;
 
@@ -15,7 +16,7 @@ use std::collections::BTreeMap;
 pub struct SharedParts {
     pub tables: SharedTables,
     pub headers: LineHeaders,
-    pub spans: BTreeMap<u64, ProgramSpans>,
+    pub spans: BTreeMap<ProgramKey, Vec<Span>>,
 }
 
 impl SharedParts {
