@@ -1,6 +1,5 @@
 -- Caches of units of which nothing is kept.
 use Rattle.std.specs.Prelude.{◌≡◌, ℕ, List, length, Option, None}
-use Rattle.std.specs.BTreeMap.{IsEmpty}
 use Rattle.std.specs.List.{slice_get}
 use Rattle.blz_model.specs.declared.cache.Cache.{Cache}
 use Rattle.blz_model.specs.declared.cache.Cache.TheVariants.{Empty}
@@ -11,6 +10,7 @@ use Rattle.blz_units.specs.declared.caches.UnitCaches.{UnitCaches}
 use Rattle.blz_units.specs.declared.caches.Caches.{Caches}
 use Rattle.blz_units.specs.BuiltUnits.{Files}
 use Rattle.blz_units.specs.KeptParts.{or_empty, AreSeen, kept_root, kept_functions, kept_lines, kept_calls}
+use Rattle.blz_units.specs.SharedTables.{AreTables}
 use Rattle.blz_units.specs.Sharing.{AreShared}
 use Rattle.blz_units.specs.UnitTables.{UnitTable}
 
@@ -33,7 +33,7 @@ pub record IsCold (kept : SideUnits) (count sups : ℕ) (c : Caches) : Type 0 wh
   pub unit_count : length c.units.items ≡ count
   pub sups_empty : NothingKept c.built.sups.units.items
   pub sups_share : (s : FileSections) → AreShared s c.built.sups.shared
-  pub sups_packed : IsEmpty c.built.sups.packed.tables
+  pub sups_packed : (bytes : List ℕ) → AreTables bytes c.built.sups.packed.tables
   pub sups_rows : c.built.sups.packed.rows ≡ None
   pub long_seen : (f : Files) (t : UnitTable) → AreSeen f t c.built.long
   pub units_empty : AreEmpty c.units.items

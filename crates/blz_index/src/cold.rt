@@ -1,8 +1,8 @@
 //! Caches of units of which nothing is kept yet.
-ghost use Rattle.std.specs.Prelude.{◌≡◌, None, length, IfOk};
-ghost use Rattle.std.specs.BTreeMap.{IsEmpty};
+ghost use Rattle.std.specs.Prelude.{◌≡◌, ℕ, List, None, length, IfOk};
 ghost use Rattle.blz_index.specs.Cold.{NothingKept, AreEmpty, IsCold};
 ghost use Rattle.blz_units.specs.Sharing.{AreShared};
+ghost use Rattle.blz_units.specs.SharedTables.{AreTables};
 ghost use Rattle.blz_info.specs.FileSections.{FileSections};
 
 use blz_model::Cache;
@@ -46,7 +46,7 @@ fn empty_sups(alloc: Global, count: usize) -> Result<SideUnits, AllocError>
     ensures count { IfOk result (λ b. length b.units.items ≡ count) }
     ensures empty { IfOk result (λ b. NothingKept b.units.items) }
     ensures shared { IfOk result (λ b. (s : FileSections) → AreShared s b.shared) }
-    ensures packed { IfOk result (λ b. IsEmpty b.packed.tables) }
+    ensures packed { IfOk result (λ b. (bytes : List ℕ) → AreTables bytes b.packed.tables) }
     ensures rows { IfOk result (λ b. b.packed.rows ≡ None) }
 {
     let units = empty_units(alloc, count)?;

@@ -129,6 +129,13 @@ impl<'b> Package<'b> {
         }
     }
 
+    /// The whole data of `.debug_abbrev.dwo`.
+    pub fn abbrev(&self) -> &'b [u8]
+        ensures { result.now ≡ (package_view self.now).«abbrev» }
+    {
+        self.abbrev
+    }
+
     /// The whole data of `.debug_info.dwo`.
     pub fn info(&self) -> &'b [u8]
         ensures { result.now ≡ (package_view self.now).info }

@@ -1,6 +1,6 @@
 -- Units that are built, one more of which is kept.
 use Rattle.std.proofs.Common.{◌≡◌, ℕ, zero, suc, true, false, List, [], ◌∷◌, ◌++◌, length, length-append, Option, Some, None, refl, sym, ap, ◌∙◌, arith}
-use Rattle.std.specs.BTreeMap.{IsEmpty}
+use Rattle.blz_units.specs.SharedTables.{AreTables}
 use Rattle.std.specs.List.{slice_get, slice_set}
 use Rattle.std.proofs.lemmas.List.{length-set}
 use Rattle.blz_model.specs.Kept.{Kept, is_kept}
@@ -105,7 +105,7 @@ side_same f headers old new e same shared fits = record { all = rw e fits.all; s
 nothing_built : (f : Files) → AllBuilt f File [] []
 nothing_built f = record { same = refl; each = λ k. tt }
 
-pub none_built : (f : Files) (headers : List UnitHeader) (b : SideUnits) → headers ≡ [] → b.units.items ≡ [] → ((s : FileSections) → AreShared s b.shared) → IsEmpty b.packed.tables → b.packed.rows ≡ None → SideFits f File headers b
+pub none_built : (f : Files) (headers : List UnitHeader) (b : SideUnits) → headers ≡ [] → b.units.items ≡ [] → ((s : FileSections) → AreShared s b.shared) → ((bytes : List ℕ) → AreTables bytes b.packed.tables) → b.packed.rows ≡ None → SideFits f File headers b
 none_built f headers b none empty shared packed rows = record { all = rw (none, empty) (nothing_built f); shared = shared f.main; packed = nothing_shared f b.packed packed rows }
 
 -- the kept units share more

@@ -16,6 +16,8 @@ pub mod BuiltSteps
 pub mod Choosing
 pub mod PutItems
 pub mod KeptValues
+pub mod TableWindows
+pub mod CutTables
 pub mod SharedTables
 pub mod LineHeaders
 pub mod SharedPackage

@@ -1,5 +1,5 @@
 -- What the units of some sections share of their tables of abbreviations.
-use Rattle.std.specs.Prelude.{ℕ, ◌+◌, ◌-◌, ◌*◌, ◌&&◌, nat_le, ◌==◌, List, Option, Some, None, IfSome, Result, unwrap_or, if◌then◌else◌}
+use Rattle.std.specs.Prelude.{ℕ, ◌+◌, ◌-◌, ◌*◌, ◌&&◌, nat_le, ◌==◌, List, Option, Some, None, IfSome, Result, take, unwrap_or, if◌then◌else◌}
 use Rattle.std.specs.Arc.{arc_value}
 use Rattle.std.specs.BTreeMap.{get}
 use Rattle.std.specs.declared.cmp.Ordering.{Ordering}
@@ -32,7 +32,7 @@ with_more room kept more = if nat_le kept room && nat_le more (room - kept) then
 abbrev pub IsTableAt : List ℕ → ℕ → Result (List Abbrev) Fault → Type 0
 IsTableAt bytes at result = Gives (λ t. t) result (or_invalid (abbreviations bytes at))
 
--- What is kept is what stands at its offset, or that nothing does; the keys tell nothing.
+-- What is kept is what stands at its offset before an end, or that nothing does; the keys tell nothing.
 pub record AreTables (bytes : List ℕ) (t : SharedTables) : Type 0 where
-  pub kept : (key : ℕ × ℕ) → IfSome (get table_cmp t.kept key) (λ d. IsReadFrom bytes (arc_value d))
-  pub broken : (at : ℕ) → IfSome (get nat_cmp t.broken at) (λ places. AreBroken bytes places.items)
+  pub kept : (key : ℕ × ℕ) → IfSome (get table_cmp t.kept key) (λ k. IsReadFrom (take k.end bytes) (arc_value k.declarations))
+  pub broken : (at : ℕ) → IfSome (get nat_cmp t.broken at) (λ b. AreBroken (take b.end bytes) b.places.items)

@@ -73,7 +73,7 @@ fn check_lines(
 
 /// The header of the first unit of a section, which has to be there.
 #[tactic(auto, unfolding(crate::specs::BuiltUnits::first_unit))]
-fn first_header(sections: &Sections<'_, '_>) -> Result<UnitHeader>
+pub(crate) fn first_header(sections: &Sections<'_, '_>) -> Result<UnitHeader>
     ensures value { Exactly (λ h. h) result (or_invalid (first_unit (sections_view sections.now))) }
     ensures ordered { IfOk result (λ h. h.entries ≤ h.end) }
 {

@@ -1,5 +1,5 @@
 //! Units that are built, where they are kept.
-ghost use Rattle.std.specs.Prelude.{◌≡◌, true, List, [], None, Option, IfOk};
+ghost use Rattle.std.specs.Prelude.{◌≡◌, true, ℕ, List, [], None, Option, IfOk};
 ghost use Rattle.std.specs.BTreeMap.{IsEmpty};
 ghost use Rattle.std.specs.Bool.{OnTrue};
 ghost use Rattle.std.specs.List.{slice_get, slice_set};
@@ -10,6 +10,7 @@ ghost use Rattle.blz_units.specs.BuiltUnits.{files_view, IsReadable};
 ghost use Rattle.blz_units.specs.KeptParts.{or_empty, is_missing, unit_of, IsFilled, AllBuilt};
 ghost use Rattle.blz_functions.specs.Opened.{open_view, CanBeOpened};
 ghost use Rattle.blz_units.specs.Sharing.{AreShared};
+ghost use Rattle.blz_units.specs.SharedTables.{AreTables};
 ghost use Rattle.blz_info.specs.FileSections.{FileSections};
 
 use crate::built_unit::BuiltUnit;
@@ -68,7 +69,7 @@ impl SideUnits {
     pub fn new(alloc: Global) -> SideUnits
         ensures units { result.units.items ≡ [] }
         ensures shared { (s : FileSections) → AreShared s result.shared }
-        ensures packed { IsEmpty result.packed.tables }
+        ensures packed { (bytes : List ℕ) → AreTables bytes result.packed.tables }
         ensures rows { result.packed.rows ≡ None }
         ensures bytes { IsEmpty result.shared.tables.bytes }
     {

@@ -16,6 +16,7 @@ pub mod known_roots;
 mod line_headers;
 pub mod long_entries;
 pub mod look;
+mod packed_places;
 mod root_key;
 mod shared_lines;
 pub mod shared_package;

@@ -1,21 +1,22 @@
 //! What the split units of a package share, read once.
-ghost use Rattle.std.specs.Prelude.{◌≡◌, None, IfOk};
-ghost use Rattle.std.specs.BTreeMap.{IsEmpty};
+ghost use Rattle.std.specs.Prelude.{◌≡◌, ℕ, List, None, IfOk};
 ghost use Rattle.blz_model.specs.Part.{Gives};
 ghost use Rattle.blz_info.specs.Marks.{or_invalid};
-ghost use Rattle.blz_split.specs.PackageParts.{package_view, split_unit, IfPiecesFit};
+ghost use Rattle.blz_split.specs.PackageParts.{package_view, split_unit, IfPiecesFit, Inside};
+ghost use Rattle.blz_split.specs.SplitSections.{piece_of};
 ghost use Rattle.blz_units.specs.BuiltUnits.{files_view, sections_from, IsInside, IsReadable};
 ghost use Rattle.blz_units.specs.SharedPackage.{AreRows, IsPackageShared};
-ghost use Rattle.blz_units.specs.SharedTables.{IsTableAt};
+ghost use Rattle.blz_units.specs.SharedTables.{AreTables, IsTableAt};
 ghost use Rattle.blz_units.specs.declared.dwarf.Origin.TheVariants.{Split};
 
-use crate::dwarf::{Dwarf, Origin};
+use crate::dwarf::Dwarf;
+use crate::packed_places::packed_places;
 use crate::shared_tables::SharedTables;
-use blz_entry::{Abbreviations, UnitHeader};
+use blz_entry::{Abbreviations, Declarations, UnitHeader, invalid};
 use blz_error::Result;
-use blz_split::{IdRows, Package, SplitUnit};
+use blz_split::{IdRows, Package, Piece, SplitUnit};
 use std::alloc::{AllocError, Global};
-use std::collections::BTreeMap;
+use std::sync::Arc;
 
 /// So many ids are sought one by one: to read the rows of all takes about as long.
 const FEW_SEARCHES: u32 = 64;
@@ -23,27 +24,61 @@ const FEW_SEARCHES: u32 = 64;
 /// What was read of a package.
 #[derive(Drop)]
 pub struct SharedPackage {
-    /// What was read of its tables of abbreviations, by the places and the lengths of the contributions.
-    pub tables: BTreeMap<(u64, u64), SharedTables>,
+    /// What was read of its tables of abbreviations.
+    pub tables: SharedTables,
     /// The rows of its ids, once more than a few were sought.
     pub rows: Option<IdRows>,
     pub searches: u32,
 }
 
+/// The abbreviations of a unit, which are not kept.
+fn own_table(alloc: Global, abbrev: &[u8], header: &UnitHeader) -> Result<Abbreviations>
+    ensures { IsTableAt «abbrev».now header.now.«abbrev» result }
+{
+    let declarations = Declarations::parse_for(alloc, abbrev, header.abbrev, header.encoding())?;
+    Ok(Abbreviations::behind(Arc::new(alloc, declarations)?, 0))
+}
+
+impl SharedTables {
+    /// The abbreviations of a unit with a contribution to the tables of a section.
+    fn table_of_piece(
+        &mut self,
+        alloc: Global,
+        abbrev: &[u8],
+        piece: &Piece,
+        header: &UnitHeader,
+    ) -> Result<Abbreviations>
+        requires tables { AreTables «abbrev».now self.old }
+        requires inside { Inside piece.now «abbrev».now }
+        ensures value { IsTableAt (piece_of «abbrev».now piece.now) header.now.«abbrev» result }
+        ensures tables { AreTables «abbrev».now self.new }
+    {
+        if header.abbrev >= piece.len as u64 {
+            return Err(invalid("abbreviations lie outside their contribution"));
+        }
+        let unit = UnitHeader {
+            abbrev: piece.start as u64 + header.abbrev,
+            ..*header
+        };
+        self.table_before(alloc, abbrev, &unit, piece.start + piece.len)
+    }
+}
+
 impl SharedPackage {
     /// Nothing; takes no memory.
     pub fn new(alloc: Global) -> SharedPackage
-        ensures tables { IsEmpty result.tables }
+        ensures tables { (bytes : List ℕ) → AreTables bytes result.tables }
         ensures rows { result.rows ≡ None }
     {
         SharedPackage {
-            tables: BTreeMap::new(alloc),
+            tables: SharedTables::new(alloc),
             rows: None,
             searches: 0,
         }
     }
 
-    /// The abbreviations of a unit of some pieces, read where no unit with the same contribution has read them.
+    /// The abbreviations of a unit of some pieces, read where no unit has read them. Those of a contribution are read where they
+    /// stand in the section, so contributions that lie within one another share them.
     pub fn table(
         &mut self,
         alloc: Global,
@@ -57,17 +92,18 @@ impl SharedPackage {
         ensures value { IsTableAt (sections_from (files_view dwarf.now) (Split pieces)).«abbrev».bytes header.now.«abbrev» result }
         ensures packed { IsPackageShared (files_view dwarf.now) self.new }
     {
-        let sections = dwarf.sections(&Origin::Split(pieces));
-        let key = (pieces.abbrev.start as u64, pieces.abbrev.len as u64);
-        match self.tables.get_mut(&key) {
-            Some(tables) => tables.table(alloc, &sections, header),
-            None => {
-                let mut tables = SharedTables::new(alloc);
-                let table = tables.table(alloc, &sections, header);
-                self.tables.insert(key, tables)?;
-                table
-            }
+        let Some(parts) = &dwarf.package else {
+            return own_table(alloc, dwarf.main.abbrev.bytes, header);
+        };
+        let abbrev = parts.abbrev();
+        let table = self
+            .tables
+            .table_of_piece(alloc, abbrev, &pieces.abbrev, header);
+        if self.tables.begins_gathering(header)? {
+            let places = packed_places(alloc, dwarf, parts, header)?;
+            self.tables.gather(alloc, abbrev, header, &places)?;
         }
+        table
     }
 
     /// Reads the rows of all ids before the first search that is not one of a few.

@@ -1,4 +1,4 @@
-use Rattle.std.proofs.Common.{refl}
+use Rattle.std.proofs.Common.{refl, take}
 use Rattle.std.specs.Arc.{arc_value}
 use Rattle.blz_info.specs.AbbreviationTables.{IsReadFrom}
 use Rattle.blz_units.proofs.SharedTables.{kept_same, kept_more}
@@ -12,5 +12,5 @@ returns-in_err-insert-2 c = kept_same c.args.«abbrev».now c.args.self.now _ c.
 
 pub returns : goal.returns
 returns c =
-    let here : IsReadFrom c.args.«abbrev».now (arc_value c.in_ok-declarations.declarations) = rw c.in_ok-declarations.ensures c.requires.places in
-    kept_more c.args.«abbrev».now c.args.self.now _ (c.sizes_of-sizes.result, c.args.header.now.«abbrev») c.in_ok-declarations.declarations c.in_ok-insert-2.ensures.updates refl here c.requires.tables
+    let here : IsReadFrom (take c.args.end c.args.«abbrev».now) (arc_value c.in_ok-declarations.declarations) = rw c.in_ok-declarations.ensures c.requires.places in
+    kept_more c.args.«abbrev».now c.args.self.now _ (c.sizes_of-sizes.result, c.args.header.now.«abbrev») (record { declarations = c.in_ok-declarations.declarations; end = c.args.end }) c.in_ok-insert-2.ensures.updates refl here c.requires.tables
