@@ -88,12 +88,16 @@ def two_range_lists_of_units_in_turn(n):
     return Attack(dwarf(shapes, units * n, rnglists=data), [0])
 
 
+def nested(n):
+    """A list of ranges within one another."""
+    return b"".join(offset_pair(BASE + k, BASE + 2 * n - k) for k in range(n)) + b"\0"
+
+
 @shape
 def ranges_in_one_another_before_units_in_turn(n):
     # what the units in turn announce covers nothing that is asked
     shapes = {ROOT: root(RANGES, 0)}
-    around = b"".join(offset_pair(BASE + k, BASE + 2 * n - k) for k in range(n))
-    lists = [around + b"\0", pairs(1) + b"\0", pairs(2) + b"\0"]
+    lists = [nested(n), pairs(1) + b"\0", pairs(2) + b"\0"]
     data, first = range_lists(b"".join(lists))
     one, two, three = (unit(entry(shapes, ROOT, first + begin)) for begin in begins_of(lists))
     return Attack(dwarf(shapes, one + (two + three) * (n // 2), rnglists=data), [BASE + n])
@@ -102,8 +106,28 @@ def ranges_in_one_another_before_units_in_turn(n):
 @shape
 def ranges_in_one_another_of_units(n):
     shapes = {ROOT: root(RANGES, 0)}
-    data, first = range_lists(b"".join(offset_pair(BASE + k, BASE + 2 * n - k) for k in range(n)) + b"\0")
+    data, first = range_lists(nested(n))
     return Attack(dwarf(shapes, unit(entry(shapes, ROOT, first)) * n, rnglists=data), [BASE + n])
+
+
+@shape
+def ranges_in_one_another_of_every_second_unit(n):
+    # what the units between them announce covers nothing that is asked
+    shapes = {ROOT: root(RANGES, 0)}
+    lists = [nested(n), pairs(1) + b"\0"]
+    data, first = range_lists(b"".join(lists))
+    one, two = (unit(entry(shapes, ROOT, first + begin)) for begin in begins_of(lists))
+    return Attack(dwarf(shapes, (one + two) * (n // 2), rnglists=data), [BASE + n])
+
+
+@shape
+def ranges_in_one_another_each_of_a_unit_before_units_in_turn(n):
+    shapes = {ROOT: root(RANGES, 0), OUTER: root(RANGE, 0)}
+    lists = [pairs(1) + b"\0", pairs(2) + b"\0"]
+    data, first = range_lists(b"".join(lists))
+    around = b"".join(unit(entry(shapes, OUTER, BASE + k, 2 * (n - k))) for k in range(n))
+    two, three = (unit(entry(shapes, ROOT, first + begin)) for begin in begins_of(lists))
+    return Attack(dwarf(shapes, around + (two + three) * (n // 2), rnglists=data), [BASE + n])
 
 
 # ---- lists that begin within one another

@@ -4,6 +4,8 @@ use Rattle.blz_error.specs.Fault.{Fault}
 use Rattle.blz_model.specs.Part.{Good}
 use Rattle.blz_units.specs.declared.caches.UnitCaches.{UnitCaches}
 use Rattle.blz_units.specs.KeptAnswers.{Repeats, first_kept}
+use Rattle.blz_units.specs.Seen.{LeavesOut}
+use Rattle.blz_units.proofs.LeftOut.{none_more}
 use Rattle.blz_ranges.specs.Owned.{items_of}
 use Rattle.blz_ranges.specs.Ranges.{OwnedRanges}
 use Rattle.blz_ranges.specs.Turns.{covering}
@@ -18,7 +20,7 @@ nothing units a ks e = rw e refl
 found_none : (units : List UnitCaches) (a : ℕ) (ks : List ℕ) (r : ℕ × ℕ) → ks ≡ [] → first_kept units a ks ≡ Good (Some r) → ⊥
 found_none units a ks r e h = let n = sym (nothing units a ks e) ∙ h in absurd cc
 
-pub few_after : (announced : OwnedRanges) (units : List UnitCaches) (a address : ℕ) (r : Result (Option (ℕ × ℕ)) Fault) (looks : ℕ) → Repeats (λ x. x) r (first_kept units a (drop 1 (owners_of announced.ranges (covering (items_of announced.ranges) address)))) → FewLooks announced units r looks
-few_after announced units a address (Err e) looks h = tt
-few_after announced units a address (Ok None) looks h = tt
-few_after announced units a address (Ok (Some r)) looks h = λ ordered apart f_ordered f_apart d e m n. absurd (found_none units a _ r (none_left announced.ranges address apart) h)
+pub few_after : (announced : OwnedRanges) (units : List UnitCaches) (a address : ℕ) (left : List ℕ) → LeavesOut [] (owners_of announced.ranges (covering (items_of announced.ranges) address)) left → (r : Result (Option (ℕ × ℕ)) Fault) (looks : ℕ) → Repeats (λ x. x) r (first_kept units a (drop 1 left)) → FewLooks announced units r looks
+few_after announced units a address left out (Err e) looks h = tt
+few_after announced units a address left out (Ok None) looks h = tt
+few_after announced units a address left out (Ok (Some r)) looks h = λ ordered apart f_ordered f_apart d e m n. absurd (found_none units a _ r (none_more _ left out (none_left announced.ranges address apart)) h)

@@ -1,5 +1,5 @@
 //! Questions to units of which each part is kept.
-ghost use Rattle.std.specs.Prelude.{◌≡◌, ◌<◌, ◌≤◌, ◌-◌, true, length, Option, option_map, IfOk, IfSome};
+ghost use Rattle.std.specs.Prelude.{◌≡◌, ◌<◌, ◌≤◌, ◌-◌, true, [], length, Option, option_map, IfOk, IfSome};
 ghost use Rattle.blz_model.specs.Part.{Exactly};
 ghost use Rattle.blz_info.specs.Marks.{or_invalid};
 ghost use Rattle.blz_line.specs.Lookups.{location_view};
@@ -9,6 +9,7 @@ ghost use Rattle.blz_units.specs.KeptParts.{functions_at};
 ghost use Rattle.blz_ranges.specs.Owned.{items_of};
 ghost use Rattle.blz_ranges.specs.Turns.{covering};
 ghost use Rattle.blz_ranges.specs.Owned.{owners_of};
+ghost use Rattle.blz_units.specs.Seen.{LeavesOut};
 ghost use Rattle.blz_units.specs.UnitAnswers.{unit_language, function_at};
 ghost use Rattle.blz_units.specs.UnitSites.{location_at};
 ghost use Rattle.blz_index.specs.UnitsWarm.{units_table, units_prepared, functions_kept, UnitsFit, FewLooks, LooksFew};
@@ -80,7 +81,7 @@ fn function_of<L: Ledger>(
     steps: &mut Steps<L>,
 ) -> Result<Option<(usize, usize)>>
     requires fresh { announcing.old.fresh ≡ true }
-    requires all { announcing.old.left ≡ owners_of announcing.old.announced.ranges (covering (items_of announcing.old.announced.ranges) announcing.old.address) }
+    requires without { LeavesOut [] (owners_of announcing.old.announced.ranges (covering (items_of announcing.old.announced.ranges) announcing.old.address)) announcing.old.left }
     ensures value { Repeats (λ r. r) result (first_kept units.now addr announcing.old.left) }
     ensures there { IfOk result (λ r. IfSome r (λ r. is_value (functions_at units.now r.0) ≡ true)) }
     ensures cost { FewLooks announcing.old.announced units.now result (steps.new - steps.old) }
@@ -111,7 +112,7 @@ impl Units {
         ensures cost { LooksFew self.now result (steps.new - steps.old) }
         ensures later { steps.old ≤ steps.new }
     {
-        let mut announcing = UnitsAt::new(&self.table.announced, addr);
+        let mut announcing = UnitsAt::once(&self.table.announced, addr);
         function_of(self.caches.units.as_slice(), &mut announcing, addr, steps)
     }
 
@@ -135,7 +136,7 @@ impl Units {
         ensures value { (f : Files) → UnitsFit f self.now → Exactly (λ o. option_map location_view o) result (location_at texts.now f (units_table self.now) addr) }
         ensures later { steps.old ≤ steps.new }
     {
-        let mut announcing = UnitsAt::new(&self.table.announced, addr);
+        let mut announcing = UnitsAt::once(&self.table.announced, addr);
         first_location(
             self.caches.units.as_slice(),
             &mut announcing,

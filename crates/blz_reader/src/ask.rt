@@ -67,7 +67,7 @@ impl<'r, 's, 'b> Reader<'r, 's, 'b> {
         ensures fills { Fills O.pair_places self.now caches.old caches.new }
     {
         let mut steps: Steps<L> = Steps::new(blank);
-        let mut units = UnitsAt::new(&self.table.announced, addr);
+        let mut units = UnitsAt::once(&self.table.announced, addr);
         loop {
             let number = match units.next_unit(&mut steps) {
                 Some(number) => number,
@@ -114,7 +114,7 @@ impl<'r, 's, 'b> Reader<'r, 's, 'b> {
         ensures fills { Fills O.pair_places self.now caches.old caches.new }
     {
         let mut steps: Steps<L> = Steps::new(blank);
-        let mut units = UnitsAt::new(&self.table.announced, addr);
+        let mut units = UnitsAt::once(&self.table.announced, addr);
         loop {
             let number = match units.next_unit(&mut steps) {
                 Some(number) => number,

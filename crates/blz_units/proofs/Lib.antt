@@ -12,6 +12,11 @@ pub mod PlaceSteps
 pub mod RowSteps
 pub mod RepeatSteps
 pub mod TurnSteps
+pub mod SeenSteps
+pub mod SeenRanges
+pub mod BehindSteps
+pub mod LeftOver
+pub mod LeftOut
 pub mod BuiltSteps
 pub mod Choosing
 pub mod PutItems

@@ -8,7 +8,7 @@ use Rattle.blz_units.specs.declared.announced.Place.{Place}
 use Rattle.blz_units.specs.declared.units_at.Turn.{Turn}
 use Rattle.blz_units.specs.Copies.{Announced, Copy, announced_all, announced_copies, full_place, told, IsPlaced, StandsFor}
 use Rattle.blz_units.proofs.Copies.{are_copies, copy_place}
-use Rattle.blz_units.specs.Announced.{Announcing, Left, All, Behind, Nothing, behind, are_all, left_behind, left_at, places_left, turn_behind, unit_at, IsCovering, IsLeft, IsPlacedTurn, IsTurn}
+use Rattle.blz_units.specs.Announced.{Announcing, Left, All, Behind, Nothing, behind, left_behind, is_first, left_at, places_left, turn_behind, unit_at, units_left, IsCovering, IsLeft, IsPlacedTurn, IsTurn}
 use Rattle.blz_ranges.specs.Best.{best, next}
 use Rattle.blz_ranges.specs.Owned.{Owned, items_of, owner_at}
 use Rattle.blz_ranges.specs.Ranges.{OwnedRanges, owner_of}
@@ -116,22 +116,17 @@ turn_taken ranges a left t = taken ranges (places_left ranges a left) (λ p e. l
 pub unit_next : (ranges : List (Owned Span)) (a : ℕ) (left : Left) (t : IsLeft ranges a left) (place : Option ℕ) → place ≡ slice_get (places_left ranges a left) 0 → owner_of ranges place ≡ slice_get (owners_of ranges (places_left ranges a left)) 0
 unit_next ranges a left t place e = ap (λ o. owner_of ranges o) e ∙ (turn_taken ranges a left t).unit
 
-pub units_left : (ranges : List (Owned Span)) (a : ℕ) (left : Left) (t : IsLeft ranges a left) (place : Option ℕ) → place ≡ slice_get (places_left ranges a left) 0 → owners_of ranges (places_left ranges a (left_behind place)) ≡ drop 1 (owners_of ranges (places_left ranges a left))
-units_left ranges a left t place e = ap (λ (l : List ℕ). owners_of ranges l) (places_behind ranges a left t place e) ∙ (turn_taken ranges a left t).left
+units_behind : (ranges : List (Owned Span)) (a : ℕ) (left : Left) (t : IsLeft ranges a left) (place : Option ℕ) → place ≡ slice_get (places_left ranges a left) 0 → owners_of ranges (places_left ranges a (left_behind place)) ≡ drop 1 (owners_of ranges (places_left ranges a left))
+units_behind ranges a left t place e = ap (λ (l : List ℕ). owners_of ranges l) (places_behind ranges a left t place e) ∙ (turn_taken ranges a left t).left
 
 -- ---- what a call leaves
 
-not_first : (place : Option ℕ) → are_all (left_behind place) ≡ false
+not_first : (at : Option Place) → is_first (turn_behind at) ≡ false
 not_first None = refl
-not_first (Some p) = refl
+not_first (Some at) = refl
 
 abbrev pub seen : OwnedRanges → ℕ → List ℕ → Bool → Announcing
 seen ranges a left fresh = record { announced = ranges; address = a; left = left; fresh = fresh }
-
-pub seen_behind : (r : OwnedRanges) (a : ℕ) (left : Left) (t : IsLeft r.ranges a left) (place : Option ℕ) → place ≡ slice_get (places_left r.ranges a left) 0 → seen r a (owners_of r.ranges (places_left r.ranges a (left_behind place))) (are_all (left_behind place)) ≡ seen r a (drop 1 (owners_of r.ranges (places_left r.ranges a left))) false
-seen_behind r a left t place e =
-    ap (λ (l : List ℕ). seen r a l (are_all (left_behind place))) (units_left r.ranges a left t place e)
-    ∙ ap (λ (b : Bool). seen r a (drop 1 (owners_of r.ranges (places_left r.ranges a left))) b) (not_first place)
 
 -- ---- by what is kept
 
@@ -172,5 +167,7 @@ module _ (a : Announced) (addr : ℕ) (turn : Turn) (t : IsTurn a addr turn) (at
   pub unit_is : StandsFor a addr at next_left → unit_at at ≡ slice_get (owners_of (announced_all a).ranges (places_left (announced_all a).ranges addr (left_at a turn))) 0
   unit_is s = unit_by a addr at next_left s ∙ unit_next (announced_all a).ranges addr (left_at a turn) t.left next_left refl
 
-  pub turn_seen : StandsFor a addr at next_left → seen (announced_all a) addr (owners_of (announced_all a).ranges (places_left (announced_all a).ranges addr (left_at a (turn_behind at)))) (are_all (left_at a (turn_behind at))) ≡ seen (announced_all a) addr (drop 1 (owners_of (announced_all a).ranges (places_left (announced_all a).ranges addr (left_at a turn)))) false
-  turn_seen s = ap (λ (l : Left). seen (announced_all a) addr (owners_of (announced_all a).ranges (places_left (announced_all a).ranges addr l)) (are_all l)) (left_after a at next_left s.is) ∙ seen_behind (announced_all a) addr (left_at a turn) t.left next_left refl
+  pub turn_seen : (r : OwnedRanges) → StandsFor a addr at next_left → seen r addr (units_left a addr (turn_behind at)) (is_first (turn_behind at)) ≡ seen r addr (drop 1 (units_left a addr turn)) false
+  turn_seen r s =
+      let units = ap (λ (l : Left). owners_of (announced_all a).ranges (places_left (announced_all a).ranges addr l)) (left_after a at next_left s.is) ∙ units_behind (announced_all a).ranges addr (left_at a turn) t.left next_left refl in
+      ap (λ (l : List ℕ). seen r addr l (is_first (turn_behind at))) units ∙ ap (λ (b : Bool). seen r addr (drop 1 (units_left a addr turn)) b) (not_first at)

@@ -2,7 +2,7 @@
 use Rattle.std.specs.Prelude.{◌≡◌, ℕ, ◌<◌, Bool, true, false, List, [], ◌∷◌, length, Option, Some, None, ◌==◌, if◌then◌else◌}
 use Rattle.std.specs.List.{slice_get}
 use Rattle.blz_ranges.specs.declared.span.Span.{Span}
-use Rattle.blz_ranges.specs.Owned.{Owned, items_of}
+use Rattle.blz_ranges.specs.Owned.{Owned, items_of, owners_of}
 use Rattle.blz_ranges.specs.Ranges.{OwnedRanges}
 use Rattle.blz_ranges.specs.Turns.{covering}
 use Rattle.blz_units.specs.UnitTables.{UnitTable, announcing}
@@ -39,11 +39,6 @@ places_left ranges addr All = covering (items_of ranges) addr
 places_left ranges addr (Behind p) = behind p (covering (items_of ranges) addr)
 places_left ranges addr Nothing = []
 
-abbrev pub are_all : Left → Bool
-are_all All = true
-are_all (Behind p) = false
-are_all Nothing = false
-
 -- what is left behind a place that was found
 abbrev pub left_behind : Option ℕ → Left
 left_behind None = Nothing
@@ -66,6 +61,16 @@ abbrev pub left_at : Announced → Turn → Left
 left_at a First = All
 left_at a (After at) = Behind (full_place (announced_copies a) at)
 left_at a Over = Nothing
+
+-- whether no unit was asked for
+abbrev pub is_first : Turn → Bool
+is_first First = true
+is_first (After at) = false
+is_first Over = false
+
+-- the units that are still to come
+abbrev pub units_left : Announced → ℕ → Turn → List ℕ
+units_left a addr turn = owners_of (announced_all a).ranges (places_left (announced_all a).ranges addr (left_at a turn))
 
 -- the turn behind a place that was found
 abbrev pub turn_behind : Option Place → Turn

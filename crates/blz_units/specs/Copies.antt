@@ -4,7 +4,7 @@ use Rattle.std.specs.Prelude.{◌≡◌, ℕ, zero, suc, ◌+◌, ◌<◌, ◌�
 use Rattle.std.specs.List.{slice_get}
 use Rattle.std.specs.List.Sorted.{IsNonDecreasingBy}
 use Rattle.blz_ranges.specs.declared.span.Span.{Span}
-use Rattle.blz_ranges.specs.Best.{covers, NotAfter}
+use Rattle.blz_ranges.specs.Best.{covers, next, NotAfter}
 use Rattle.blz_ranges.specs.Owned.{Owned, items_of, own_all, owned, owner_at}
 use Rattle.blz_ranges.specs.Ranges.{OwnedRanges}
 use Rattle.blz_units.specs.declared.announced.Place.{Place}
@@ -245,7 +245,22 @@ abbrev pub comes_first : List (Owned Span) → ℕ → ℕ → Option ℕ → Bo
 comes_first kept begin unit None = false
 comes_first kept begin unit (Some place) = is_below unit (owner_at kept place) && begin_alike (slice_get (items_of kept) place) (Some (no_longer begin))
 
+-- a range, where it comes before those of a unit that begin at a number
+abbrev pub up_to : List (Owned Span) → ℕ → Option ℕ → Option ℕ → Option ℕ
+up_to kept begin None place = place
+up_to kept begin (Some unit) place = if comes_first kept begin unit place then place else None
+
+-- the next own one among those that are seen, up to a unit
+pub record IsOwnUpTo (seen kept : List (Owned Span)) (unit addr begin : ℕ) (before found : Option ℕ) : Type 0 where
+  pub own : Option ℕ
+  pub is : IsNextOwn seen unit addr begin own
+  pub up_to_it : found ≡ up_to kept begin before own
+
 -- a place that stands for one among all ranges
 pub record StandsFor (a : Announced) (addr : ℕ) (at : Option Place) (place : Option ℕ) : Type 0 where
   pub is : option_map (full_place (announced_copies a)) at ≡ place
   pub placed : IfSome at (IsPlaced a.kept.ranges a.keepers addr)
+
+-- what is next behind a place among all ranges
+abbrev pub IsBehind : Announced → ℕ → Place → Option Place → Type 0
+IsBehind a addr at found = StandsFor a addr found (next (items_of (announced_all a).ranges) addr (full_place (announced_copies a) at))

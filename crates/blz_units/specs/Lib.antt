@@ -10,6 +10,7 @@ pub mod UnitLists
 pub mod TableViews
 pub mod Copies
 pub mod Announced
+pub mod Seen
 pub mod UnitAnswers
 pub mod UnitSites
 pub mod LongEntries

@@ -7,6 +7,7 @@ mod announcing;
 pub mod built_unit;
 pub mod built_units;
 pub mod caches;
+mod comparing;
 pub mod dwarf;
 mod gathered_tables;
 pub mod keepers;

@@ -1,14 +1,15 @@
 //! The units that announce an address.
 ghost use Rattle.std.specs.Prelude.{◌≡◌, ◌≤◌, ◌*◌, ◌^◌, ◌-◌, ◌+◌, true, false, length, drop, Option};
 ghost use Rattle.std.specs.List.{slice_get};
-ghost use Rattle.blz_units.specs.Announced.{are_all, left_at, places_left, turn_behind, unit_at, IsTurn};
+ghost use Rattle.blz_units.specs.Announced.{is_first, left_at, places_left, turn_behind, IsTurn};
 ghost use Rattle.blz_units.specs.Copies.{announced_all, StandsFor};
+ghost use Rattle.blz_units.specs.Seen.{seen_by, IsOnce};
 ghost use Rattle.blz_ranges.specs.Groups.{AreApart};
 ghost use Rattle.blz_ranges.specs.Owned.{items_of};
 ghost use Rattle.blz_ranges.specs.Turns.{covering};
 ghost use Rattle.blz_ranges.specs.Owned.{owners_of};
 
-use crate::announced::{Announced, Place};
+use crate::announced::{Announced, Asked, Place, unit_at};
 use blz_bytes::Steps;
 use std::marker::Model;
 use std::sync::ledger::Ledger;
@@ -29,21 +30,21 @@ enum Turn {
 #[derive(Drop)]
 pub struct UnitsAt<'u> {
     announced: &'u Announced,
-    addr: u64,
+    asked: Asked,
     turn: Turn,
 }
 
 impl<'u> Model for UnitsAt<'u> {
     ghost use Rattle.std.specs.Prelude.{◌≡◌};
-    ghost use Rattle.blz_units.specs.Announced.{Announcing, are_all, left_at, places_left, IsTurn};
+    ghost use Rattle.blz_units.specs.Announced.{Announcing, is_first, units_left, IsTurn};
     ghost use Rattle.blz_units.specs.Copies.{announced_all};
-    ghost use Rattle.blz_ranges.specs.Owned.{owners_of};
+    ghost use Rattle.blz_units.specs.Seen.{seen_by};
 
     ghost Value = { Announcing };
 
-    ghost view = { λ u. record { announced = announced_all u.announced.now; address = u.addr; left = owners_of (announced_all u.announced.now).ranges (places_left (announced_all u.announced.now).ranges u.addr (left_at u.announced.now u.turn)); fresh = are_all (left_at u.announced.now u.turn) } };
+    ghost view = { λ u. record { announced = announced_all u.announced.now; address = u.asked.addr; left = units_left (seen_by u.asked u.announced.now) u.asked.addr u.turn; fresh = is_first u.turn } };
 
-    ghost invariant = { λ u. IsTurn u.announced.now u.addr u.turn };
+    ghost invariant = { λ u. IsTurn (seen_by u.asked u.announced.now) u.asked.addr u.turn };
 }
 
 fn turn_behind(place: Option<Place>) -> Turn
@@ -58,29 +59,19 @@ fn turn_behind(place: Option<Place>) -> Turn
 /// The place of the range whose turn it is.
 fn next_place<L: Ledger>(
     announced: &Announced,
-    addr: u64,
+    asked: Asked,
     turn: Turn,
     steps: &mut Steps<L>,
 ) -> Option<Place>
-    requires { IsTurn announced.now addr turn }
-    ensures place { StandsFor announced.now addr result (slice_get (places_left (announced_all announced.now).ranges addr (left_at announced.now turn)) 0) }
-    ensures cost { are_all (left_at announced.now turn) ≡ true → announced.now.kept.ordered ≡ true → AreApart (items_of (announced_all announced.now).ranges) → 2 ^ (steps.new - steps.old) ≤ 4 * (2 * length (announced_all announced.now).ranges + 1) }
+    requires { IsTurn (seen_by asked announced.now) asked.addr turn }
+    ensures place { StandsFor (seen_by asked announced.now) asked.addr result (slice_get (places_left (announced_all (seen_by asked announced.now)).ranges asked.addr (left_at (seen_by asked announced.now) turn)) 0) }
+    ensures cost { is_first turn ≡ true → announced.now.kept.ordered ≡ true → AreApart (items_of (announced_all announced.now).ranges) → 2 ^ (steps.new - steps.old) ≤ 4 * (2 * length (announced_all announced.now).ranges + 1) }
     ensures later { steps.old ≤ steps.new }
 {
     match turn {
-        Turn::First => announced.first(addr, steps),
-        Turn::After(place) => announced.after(addr, place, steps),
+        Turn::First => announced.first(asked, steps),
+        Turn::After(place) => announced.after(asked, place, steps),
         Turn::Over => None,
-    }
-}
-
-/// The unit of a range.
-fn unit_at(place: Option<Place>) -> Option<usize>
-    ensures { result ≡ unit_at place }
-{
-    match place {
-        Some(place) => Some(place.unit),
-        None => None,
     }
 }
 
@@ -89,9 +80,22 @@ impl<'u> UnitsAt<'u> {
     pub fn new(announced: &'u Announced, addr: u64) -> UnitsAt<'u>
         ensures { result ≡ record { announced = announced_all announced.now; address = addr; left = owners_of (announced_all announced.now).ranges (covering (items_of (announced_all announced.now).ranges) addr); fresh = true } }
     {
+        let asked = Asked { addr, once: false };
         UnitsAt {
             announced,
-            addr,
+            asked,
+            turn: Turn::First,
+        }
+    }
+
+    /// The same, without some that were told before.
+    pub fn once(announced: &'u Announced, addr: u64) -> UnitsAt<'u>
+        ensures { IsOnce announced.now addr result }
+    {
+        let asked = Asked { addr, once: true };
+        UnitsAt {
+            announced,
+            asked,
             turn: Turn::First,
         }
     }
@@ -104,7 +108,7 @@ impl<'u> UnitsAt<'u> {
         ensures cost { self.old.fresh ≡ true → self.old.announced.ordered ≡ true → AreApart (items_of self.old.announced.ranges) → 2 ^ (steps.new - steps.old) ≤ 4 * (2 * length self.old.announced.ranges + 1) }
         ensures later { steps.old ≤ steps.new }
     {
-        let place = next_place(self.announced, self.addr, self.turn, steps);
+        let place = next_place(self.announced, self.asked, self.turn, steps);
         self.turn = turn_behind(place);
         unit_at(place)
     }

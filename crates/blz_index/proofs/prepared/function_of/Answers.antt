@@ -24,7 +24,7 @@ returns-in-Ok-None-clause-value g c =
     subst (λ (p : Part (Option (ℕ × ℕ))). Repeats (λ r. r) c.first_function.result p) (sym left) (rw c.in-Some.ensures.left at c.first_function.ensures.value)
 
 pub returns-in-Ok-None-clause-cost : goal.returns-in-Ok-None-clause-cost
-returns-in-Ok-None-clause-cost g c = few_after c.args.announcing.now.announced c.args.units.now c.args.addr c.args.announcing.now.address c.first_function.result _ (rw (c.in-Some.ensures.left, c.requires.all) at c.first_function.ensures.value)
+returns-in-Ok-None-clause-cost g c = few_after c.args.announcing.now.announced c.args.units.now c.args.addr c.args.announcing.now.address c.args.announcing.now.left c.requires.without c.first_function.result _ (rw c.in-Some.ensures.left at c.first_function.ensures.value)
 
 pub returns-in-Err-clause-value : goal.returns-in-Err-clause-value
 returns-in-Err-clause-value g c = kept_fails c.args.units.now c.args.addr c.in-Some.number c.args.announcing.now.left _ (sym c.in-Some.ensures.unit) c.in-Err.ensures.value

@@ -1,8 +1,9 @@
-use Rattle.std.proofs.Common.{ap, sym, refl, ◌∙◌, ℕ, Option, None, Some}
+use Rattle.std.proofs.Common.{ap, sym, ◌∙◌, ℕ, Option, None, Some}
 use Rattle.blz_info.proofs.Marked.{good_some, marks_on}
 use Rattle.blz_info.specs.Marks.{or_invalid}
 use Rattle.blz_reader.specs.Readers.{reader_files, reader_table}
 use Rattle.blz_units.specs.UnitAnswers.{function_at}
+use Rattle.blz_units.proofs.LeftOut.{function_again}
 use Rattle.blz_reader.proofs.CacheSteps.{fills_same, fills_again}
 use Rattle.blz_reader.proofs.UnitSteps.{function_over, function_on, function_fails}
 use Rattle.blz_reader.proofs.reader.Reader.find_function.Goals as goal
@@ -27,7 +28,7 @@ pub loop-number-init : goal.loop-number-init
 unfolding function_at
 loop-number-init g c = record {
   fills = fills_same _ _ _ c.requires.fillable;
-  rest = rw c.new-units.ensures refl;
+  rest = sym (function_again (reader_files c.args.self.now) (reader_table c.args.self.now) c.args.addr _ c.once-units.result.left c.once-units.ensures.without);
 }
 
 pub loop-number-preserved : goal.loop-number-preserved

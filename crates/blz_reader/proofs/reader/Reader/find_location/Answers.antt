@@ -1,7 +1,8 @@
-use Rattle.std.proofs.Common.{sym, refl, ◌∙◌, None, Some}
+use Rattle.std.proofs.Common.{sym, ◌∙◌, None, Some}
 use Rattle.blz_line.specs.Lookups.{location_view}
 use Rattle.blz_reader.specs.Readers.{reader_files, reader_table}
 use Rattle.blz_units.specs.UnitSites.{location_at}
+use Rattle.blz_units.proofs.LeftOut.{line_again}
 use Rattle.blz_reader.proofs.CacheSteps.{fills_same, fills_again}
 use Rattle.blz_reader.proofs.UnitSteps.{line_over, line_on, line_fails}
 use Rattle.blz_reader.proofs.reader.Reader.find_location.Goals as goal
@@ -26,7 +27,7 @@ pub loop-number-init : goal.loop-number-init
 unfolding location_at
 loop-number-init g c = record {
   fills = fills_same _ _ _ c.requires.fillable;
-  rest = rw c.new-units.ensures refl;
+  rest = sym (line_again c.args.self.now.dwarf.now.texts (reader_files c.args.self.now) (reader_table c.args.self.now) c.args.addr _ c.once-units.result.left c.once-units.ensures.without);
 }
 
 pub loop-number-preserved : goal.loop-number-preserved

@@ -11,15 +11,15 @@ use Rattle.blz_units.proofs.announced.Announced.first_alike.Goals as goal
 pub returns-then-is_alike-clause-first : goal.returns-then-is_alike-clause-first
 returns-then-is_alike-clause-first g c =
     let a = c.args.self.now in
-    let have : HaveKeepers a.kept.ranges a.keepers = rw (← c.self.view_is) c.self.invariant.1.have in
-    let ends : AreEnds a.kept.ranges a.keepers c.self.inside.keepers.ends.items = rw (← c.self.view_is) c.self.invariant.1.ends in
+    let have : HaveKeepers a.kept.ranges a.keepers = rw (← c.self.view_is) c.self.invariant.1.0.have in
+    let ends : AreEnds a.kept.ranges a.keepers c.self.inside.keepers.ends.items = rw (← c.self.view_is) c.self.invariant.1.0.ends in
     first_at a.kept.ranges a.keepers c.self.inside.keepers.ends.items have ends c.args.keeper c.args.addr c.args.begin c.start-from.result c.requires c.start-from.ensures (sym c.is_alike.ensures.is ∙ c.if-is_alike.true)
 
 pub returns-in_default-clause-first : goal.returns-in_default-clause-first
 returns-in_default-clause-first g c =
     let a = c.args.self.now in
-    let have : HaveKeepers a.kept.ranges a.keepers = rw (← c.self.view_is) c.self.invariant.1.have in
-    let ends : AreEnds a.kept.ranges a.keepers c.self.inside.keepers.ends.items = rw (← c.self.view_is) c.self.invariant.1.ends in
+    let have : HaveKeepers a.kept.ranges a.keepers = rw (← c.self.view_is) c.self.invariant.1.0.have in
+    let ends : AreEnds a.kept.ranges a.keepers c.self.inside.keepers.ends.items = rw (← c.self.view_is) c.self.invariant.1.0.ends in
     let items : c.self.inside.index.spans ≡ items_of a.kept.ranges = rw (← c.self.view_is) (sym (items_owned c.self.inside.index.spans c.self.inside.owners.items c.self.invariant.0)) in
     let found : c.next_after.result ≡ next_after (items_of a.kept.ranges) c.args.addr (record { place = c.start-from.result; span = no_longer c.args.begin }) = rw (← items) (c.next_after.ensures.next ∙ ap (λ (b : Placed). next_after c.self.inside.index.spans c.args.addr b) c.behind.ensures) in
     first_none a.kept.ranges a.keepers c.self.inside.keepers.ends.items have ends c.args.keeper c.args.addr c.args.begin c.start-from.result c.requires c.start-from.ensures (sym c.is_alike.ensures.is ∙ c.if-is_alike.false) c.next_after.result c.in_default.is (after_is _ _ _ _ _ found)
@@ -27,8 +27,8 @@ returns-in_default-clause-first g c =
 pub returns-then-is_alike-2-clause-first : goal.returns-then-is_alike-2-clause-first
 returns-then-is_alike-2-clause-first g c =
     let a = c.args.self.now in
-    let have : HaveKeepers a.kept.ranges a.keepers = rw (← c.self.view_is) c.self.invariant.1.have in
-    let ends : AreEnds a.kept.ranges a.keepers c.self.inside.keepers.ends.items = rw (← c.self.view_is) c.self.invariant.1.ends in
+    let have : HaveKeepers a.kept.ranges a.keepers = rw (← c.self.view_is) c.self.invariant.1.0.have in
+    let ends : AreEnds a.kept.ranges a.keepers c.self.inside.keepers.ends.items = rw (← c.self.view_is) c.self.invariant.1.0.ends in
     let items : c.self.inside.index.spans ≡ items_of a.kept.ranges = rw (← c.self.view_is) (sym (items_owned c.self.inside.index.spans c.self.inside.owners.items c.self.invariant.0)) in
     let found : c.next_after.result ≡ next_after (items_of a.kept.ranges) c.args.addr (record { place = c.start-from.result; span = no_longer c.args.begin }) = rw (← items) (c.next_after.ensures.next ∙ ap (λ (b : Placed). next_after c.self.inside.index.spans c.args.addr b) c.behind.ensures) in
     let n = next_of a.kept.ranges a.keepers c.self.inside.keepers.ends.items have ends c.args.keeper c.args.addr c.args.begin c.start-from.result c.requires c.start-from.ensures c.next_after.result c.in-Some.next c.in-Some.is (after_is _ _ _ _ _ found) in
@@ -37,8 +37,8 @@ returns-then-is_alike-2-clause-first g c =
 pub returns-else-is_alike-2-clause-first : goal.returns-else-is_alike-2-clause-first
 returns-else-is_alike-2-clause-first g c =
     let a = c.args.self.now in
-    let have : HaveKeepers a.kept.ranges a.keepers = rw (← c.self.view_is) c.self.invariant.1.have in
-    let ends : AreEnds a.kept.ranges a.keepers c.self.inside.keepers.ends.items = rw (← c.self.view_is) c.self.invariant.1.ends in
+    let have : HaveKeepers a.kept.ranges a.keepers = rw (← c.self.view_is) c.self.invariant.1.0.have in
+    let ends : AreEnds a.kept.ranges a.keepers c.self.inside.keepers.ends.items = rw (← c.self.view_is) c.self.invariant.1.0.ends in
     let items : c.self.inside.index.spans ≡ items_of a.kept.ranges = rw (← c.self.view_is) (sym (items_owned c.self.inside.index.spans c.self.inside.owners.items c.self.invariant.0)) in
     let found : c.next_after.result ≡ next_after (items_of a.kept.ranges) c.args.addr (record { place = c.start-from.result; span = no_longer c.args.begin }) = rw (← items) (c.next_after.ensures.next ∙ ap (λ (b : Placed). next_after c.self.inside.index.spans c.args.addr b) c.behind.ensures) in
     let n = next_of a.kept.ranges a.keepers c.self.inside.keepers.ends.items have ends c.args.keeper c.args.addr c.args.begin c.start-from.result c.requires c.start-from.ensures c.next_after.result c.in-Some.next c.in-Some.is (after_is _ _ _ _ _ found) in

@@ -1,4 +1,5 @@
 use Rattle.std.proofs.Common.{◌≤◌}
+use Rattle.blz_units.specs.Seen.{seen}
 use Rattle.blz_units.proofs.RepeatSteps.{NoneBefore}
 use Rattle.blz_units.proofs.announced.Announced.next_repeat.Given as goal
 
@@ -6,5 +7,5 @@ abbrev pub invariant-loop-at : goal.invariant-loop-at
 invariant-loop-at g l = record {
   from : l.from ≤ l.at;
   later : l.initial.steps ≤ l.steps;
-  none : NoneBefore l.self.kept.ranges l.self.keepers l.self-inside.keepers.repeats.items l.unit l.addr l.begin l.at;
+  none : NoneBefore (seen l.asked l.self.kept.ranges) l.self.keepers l.self-inside.keepers.repeats.items l.unit l.asked.addr l.begin l.at;
 }
