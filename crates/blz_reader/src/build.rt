@@ -1,5 +1,5 @@
 //! Units, built where they are needed.
-ghost use Rattle.std.specs.Prelude.{◌≡◌, ◌≤◌, true, List, Option, IfOk};
+ghost use Rattle.std.specs.Prelude.{◌≡◌, ◌≤◌, true, IfOk};
 ghost use Rattle.std.specs.List.{slice_get};
 ghost use Rattle.blz_model.specs.Part.{Gives};
 ghost use Rattle.blz_model.specs.Kept.{Kept, is_kept};
@@ -10,9 +10,10 @@ ghost use Rattle.blz_reader.specs.Readers.{reader_files, reader_table};
 ghost use Rattle.blz_units.specs.SharedPackage.{IsPackageShared};
 ghost use Rattle.blz_units.specs.Sharing.{AreShared};
 
+use crate::marks::mark_of;
 use crate::reader::Reader;
 use blz_entry::{UnitHeader, invalid};
-use blz_error::{ErrorKind, Result};
+use blz_error::Result;
 use blz_model::Cache;
 use blz_units::built_unit::BuiltUnit;
 use blz_units::built_units::{BuiltUnits, Side, SideUnits, is_missing, put};
@@ -67,8 +68,7 @@ impl<'r, 's, 'b> Reader<'r, 's, 'b> {
     {
         match self.build(side, shared, packed, header) {
             Ok(unit) => Ok(Cache::Value(unit)),
-            Err(e) if e.kind() == ErrorKind::OutOfMemory => Err(AllocError),
-            Err(e) => Ok(Cache::Mark(e.kind())),
+            Err(e) => Ok(Cache::Mark(mark_of(&e)?)),
         }
     }
 

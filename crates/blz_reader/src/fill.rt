@@ -7,15 +7,15 @@ ghost use Rattle.blz_functions.specs.AskedCalls.{asked_calls};
 ghost use Rattle.blz_units.specs.BuiltUnits.{IsReadable};
 ghost use Rattle.blz_reader.specs.Filling.{AreCallsOf, AreFunctionsOf, AreLinesOf, CanBeFilled, Fills, HasCallsOf, HasPart, IsRootOf};
 ghost use Rattle.blz_reader.specs.Growing.{Told};
-ghost use Rattle.blz_units.specs.KeptParts.{lacks_root, lacks_functions, lacks_lines, lacks_calls, BuiltFit, PartsFit};
-ghost use Rattle.blz_reader.specs.Readers.{as_read, reader_files, reader_table};
+ghost use Rattle.blz_units.specs.KeptParts.{lacks_root, lacks_functions, lacks_lines, lacks_calls};
+ghost use Rattle.blz_reader.specs.Readers.{BuiltFor, PartsFor, as_read};
 ghost use Rattle.blz_units.specs.UnitAnswers.{function_calls};
 
+use crate::marks::mark_of;
 use crate::puts::{put_calls, put_functions, put_lines, put_root};
 use crate::reader::Reader;
 use blz_bytes::Orders;
 use blz_entry::UnitRoot;
-use blz_error::ErrorKind;
 use blz_functions::{CallLists, Functions, InlinedFunctions};
 use blz_line::Lines;
 use blz_model::Cache;
@@ -34,14 +34,13 @@ impl<'r, 's, 'b> Reader<'r, 's, 'b> {
         number: usize,
     ) -> Result<Cache<UnitRoot>, AllocError>
         requires readable { IsReadable self.now.dwarf.now }
-        requires fits { BuiltFit (reader_files self.now) (reader_table self.now) built.old }
+        requires fits { BuiltFor self.now built.old }
         ensures read { IfOk result (IsRootOf self.now number) }
-        ensures fits { BuiltFit (reader_files self.now) (reader_table self.now) built.new }
+        ensures fits { BuiltFor self.now built.new }
     {
         match self.read_root(built, number) {
             Ok(root) => Ok(Cache::Value(root)),
-            Err(e) if e.kind() == ErrorKind::OutOfMemory => Err(AllocError),
-            Err(e) => Ok(Cache::Mark(e.kind())),
+            Err(e) => Ok(Cache::Mark(mark_of(&e)?)),
         }
     }
 
@@ -79,17 +78,16 @@ impl<'r, 's, 'b> Reader<'r, 's, 'b> {
         number: usize,
     ) -> Result<Cache<Functions>, AllocError>
         requires readable { IsReadable self.now.dwarf.now }
-        requires fits { BuiltFit (reader_files self.now) (reader_table self.now) built.old }
+        requires fits { BuiltFor self.now built.old }
         ensures read { IfOk result (AreFunctionsOf O.pair_places self.now number) }
-        ensures fits { BuiltFit (reader_files self.now) (reader_table self.now) built.new }
+        ensures fits { BuiltFor self.now built.new }
     {
         match self.read_functions(built, number) {
             Ok(lists) => {
                 let functions = lists.indexed(self.alloc, orders)?;
                 Ok(Cache::Value(functions))
             },
-            Err(e) if e.kind() == ErrorKind::OutOfMemory => Err(AllocError),
-            Err(e) => Ok(Cache::Mark(e.kind())),
+            Err(e) => Ok(Cache::Mark(mark_of(&e)?)),
         }
     }
 
@@ -136,7 +134,7 @@ impl<'r, 's, 'b> Reader<'r, 's, 'b> {
         units: &[UnitCaches],
         number: usize,
     ) -> Result<Cache<Option<Lines>>, AllocError>
-        requires fits { PartsFit (reader_files self.now) (reader_table self.now) units.now }
+        requires fits { PartsFor self.now units.now }
         requires filled { lacks_root (slice_get units.now number) ≡ false }
         ensures { IfOk result (AreLinesOf O.pair_places self.now number) }
     {
@@ -146,8 +144,7 @@ impl<'r, 's, 'b> Reader<'r, 's, 'b> {
         };
         match self.read_lines(orders, number, &root) {
             Ok(lines) => Ok(Cache::Value(lines)),
-            Err(e) if e.kind() == ErrorKind::OutOfMemory => Err(AllocError),
-            Err(e) => Ok(Cache::Mark(e.kind())),
+            Err(e) => Ok(Cache::Mark(mark_of(&e)?)),
         }
     }
 
@@ -198,12 +195,12 @@ impl<'r, 's, 'b> Reader<'r, 's, 'b> {
         function: usize,
     ) -> blz_error::Result<CallLists>
         requires readable { IsReadable self.now.dwarf.now }
-        requires built { BuiltFit (reader_files self.now) (reader_table self.now) built.old }
-        requires fits { PartsFit (reader_files self.now) (reader_table self.now) units.now }
+        requires built { BuiltFor self.now built.old }
+        requires fits { PartsFor self.now units.now }
         requires filled { lacks_functions (slice_get units.now number) ≡ false }
         ensures value { Gives asked_calls result
             (or_invalid (as_read self.now function_calls number function)) }
-        ensures built { BuiltFit (reader_files self.now) (reader_table self.now) built.new }
+        ensures built { BuiltFor self.now built.new }
     {
         let place = match function_place(units, number, function) {
             Ok(place) => place,
@@ -222,19 +219,18 @@ impl<'r, 's, 'b> Reader<'r, 's, 'b> {
         function: usize,
     ) -> Result<Cache<InlinedFunctions>, AllocError>
         requires readable { IsReadable self.now.dwarf.now }
-        requires built { BuiltFit (reader_files self.now) (reader_table self.now) built.old }
-        requires fits { PartsFit (reader_files self.now) (reader_table self.now) units.now }
+        requires built { BuiltFor self.now built.old }
+        requires fits { PartsFor self.now units.now }
         requires filled { lacks_functions (slice_get units.now number) ≡ false }
         ensures read { IfOk result (AreCallsOf O.pair_places self.now number function) }
-        ensures built { BuiltFit (reader_files self.now) (reader_table self.now) built.new }
+        ensures built { BuiltFor self.now built.new }
     {
         match self.calls_by_number(built, units, number, function) {
             Ok(lists) => {
                 let calls = lists.indexed(self.alloc, orders)?;
                 Ok(Cache::Value(calls))
             },
-            Err(e) if e.kind() == ErrorKind::OutOfMemory => Err(AllocError),
-            Err(e) => Ok(Cache::Mark(e.kind())),
+            Err(e) => Ok(Cache::Mark(mark_of(&e)?)),
         }
     }
 

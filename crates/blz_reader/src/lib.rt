@@ -8,6 +8,7 @@ mod calls;
 mod fill;
 mod lent;
 mod list;
+mod marks;
 mod names;
 mod prepare;
 mod puts;

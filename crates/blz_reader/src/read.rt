@@ -1,16 +1,14 @@
 //! The parts of a unit, as they are read.
-ghost use Rattle.std.specs.Prelude.{◌≡◌, ◌≤◌, true, List, Option, Some, map, IfOk};
+ghost use Rattle.std.specs.Prelude.{◌≡◌, ◌≤◌, Some, IfOk};
 ghost use Rattle.std.specs.List.{slice_get};
 ghost use Rattle.blz_model.specs.Part.{Gives};
-ghost use Rattle.blz_model.specs.Kept.{Kept, is_kept};
-ghost use Rattle.blz_model.specs.declared.cache.Cache.TheVariants.{Empty};
 ghost use Rattle.blz_info.specs.Marks.{or_invalid};
 ghost use Rattle.blz_functions.specs.AskedCalls.{asked_calls};
 ghost use Rattle.blz_functions.specs.SearchedFunctions.{asked_of};
-ghost use Rattle.blz_units.specs.BuiltUnits.{built, built_view, has_id, root_in, BuiltFits, IsReadable};
+ghost use Rattle.blz_units.specs.BuiltUnits.{built, root_in, BuiltFits, IsReadable};
 ghost use Rattle.blz_reader.specs.Growing.{LinesOrdered};
-ghost use Rattle.blz_units.specs.KeptParts.{lines_view, unit_root, BuiltFit, IsBuilt, IsFilled};
-ghost use Rattle.blz_reader.specs.Readers.{reader_files, reader_table};
+ghost use Rattle.blz_units.specs.KeptParts.{lines_view, unit_root, IsBuilt, IsFilled};
+ghost use Rattle.blz_reader.specs.Readers.{BuiltFor, as_read, as_seen, reader_files};
 ghost use Rattle.blz_units.specs.Sharing.{AreShared};
 ghost use Rattle.blz_units.specs.UnitAnswers.{read_unit, lists_in, calls_in, place_calls, unit_functions, unit_lines};
 
@@ -31,23 +29,42 @@ use blz_units::shared_parts::SharedParts;
 use std::mem;
 
 impl<'r, 's, 'b> Reader<'r, 's, 'b> {
-    /// Takes a unit out of those that are built.
-    fn take_unit(&self, built: &mut BuiltUnits, number: usize) -> Cache<BuiltUnit>
-        requires fits { BuiltFit (reader_files self.now) (reader_table self.now) built.old }
+    /// Takes a unit, or its mark, out of those that are built.
+    fn take_built(&self, built: &mut BuiltUnits, number: usize) -> Cache<BuiltUnit>
+        requires fits { BuiltFor self.now built.old }
         requires filled { IsFilled (slice_get built.old.kept.units.items number) }
-        ensures fits { BuiltFit (reader_files self.now) (reader_table self.now) built.new }
-        ensures taken { IsBuilt (reader_files self.now) result (read_unit (reader_files self.now) (reader_table self.now) number) }
+        ensures fits { BuiltFor self.now built.new }
+        ensures taken { IsBuilt (reader_files self.now) result (as_read self.now read_unit number) }
     {
         take(&mut built.kept.units, number)
     }
 
     /// Puts a unit, or its mark, back among those that are built.
     fn put_unit(&self, built: &mut BuiltUnits, number: usize, unit: Cache<BuiltUnit>)
-        requires fits { BuiltFit (reader_files self.now) (reader_table self.now) built.old }
-        requires unit { IsBuilt (reader_files self.now) unit (read_unit (reader_files self.now) (reader_table self.now) number) }
-        ensures { BuiltFit (reader_files self.now) (reader_table self.now) built.new }
+        requires fits { BuiltFor self.now built.old }
+        requires unit { IsBuilt (reader_files self.now) unit (as_read self.now read_unit number) }
+        ensures { BuiltFor self.now built.new }
     {
         put(&mut built.kept.units, number, unit);
+    }
+
+    /// Takes a unit out of those that are built, where it is built; a mark stays among them.
+    fn take_unit(&self, built: &mut BuiltUnits, number: usize) -> Result<BuiltUnit>
+        requires readable { IsReadable self.now.dwarf.now }
+        requires fits { BuiltFor self.now built.old }
+        ensures value { Gives (as_seen self.now) result (or_invalid (as_read self.now read_unit number)) }
+        ensures right { IfOk result (BuiltFits (reader_files self.now)) }
+        ensures fits { BuiltFor self.now built.new }
+    {
+        self.fill_unit(Side::File, built, number)?;
+        match self.take_built(built, number) {
+            Cache::Value(unit) => Ok(unit),
+            Cache::Mark(kind) => {
+                self.put_unit(built, number, Cache::Mark(kind));
+                Err(Error::new(kind, Str::fixed("unit")))
+            },
+            Cache::Empty => Err(invalid("a unit has no such number")),
+        }
     }
 
     /// No units; takes no memory.
@@ -67,11 +84,11 @@ impl<'r, 's, 'b> Reader<'r, 's, 'b> {
         unit: &BuiltUnit,
     ) -> Result<FunctionLists>
         requires readable { IsReadable self.now.dwarf.now }
-        requires fits { BuiltFit (reader_files self.now) (reader_table self.now) built.old }
+        requires fits { BuiltFor self.now built.old }
         requires unit { BuiltFits (reader_files self.now) unit.now }
-        requires is { read_unit (reader_files self.now) (reader_table self.now) number ≡ Some (built_view (reader_files self.now) unit.now) }
-        ensures value { Gives asked_of result (or_invalid (lists_in (reader_files self.now) (reader_table self.now) (built_view (reader_files self.now) unit.now))) }
-        ensures fits { BuiltFit (reader_files self.now) (reader_table self.now) built.new }
+        requires is { as_read self.now read_unit number ≡ Some (as_seen self.now unit.now) }
+        ensures value { Gives asked_of result (or_invalid (as_read self.now lists_in (as_seen self.now unit.now))) }
+        ensures fits { BuiltFor self.now built.new }
     {
         let dwarf = lent(&*self.dwarf);
         let open = open_in(&*unit, &dwarf);
@@ -91,11 +108,11 @@ impl<'r, 's, 'b> Reader<'r, 's, 'b> {
         place: usize,
     ) -> Result<CallLists>
         requires readable { IsReadable self.now.dwarf.now }
-        requires fits { BuiltFit (reader_files self.now) (reader_table self.now) built.old }
+        requires fits { BuiltFor self.now built.old }
         requires unit { BuiltFits (reader_files self.now) unit.now }
-        requires is { read_unit (reader_files self.now) (reader_table self.now) number ≡ Some (built_view (reader_files self.now) unit.now) }
-        ensures value { Gives asked_calls result (or_invalid (calls_in (reader_files self.now) (reader_table self.now) place (built_view (reader_files self.now) unit.now))) }
-        ensures fits { BuiltFit (reader_files self.now) (reader_table self.now) built.new }
+        requires is { as_read self.now read_unit number ≡ Some (as_seen self.now unit.now) }
+        ensures value { Gives asked_calls result (or_invalid (as_read self.now calls_in place (as_seen self.now unit.now))) }
+        ensures fits { BuiltFor self.now built.new }
     {
         let dwarf = lent(&*self.dwarf);
         let open = open_in(&*unit, &dwarf);
@@ -110,23 +127,14 @@ impl<'r, 's, 'b> Reader<'r, 's, 'b> {
     #[tactic(auto, unfolding(blz_units::specs::UnitAnswers::unit_functions))]
     pub fn read_functions(&self, built: &mut BuiltUnits, number: usize) -> Result<FunctionLists>
         requires readable { IsReadable self.now.dwarf.now }
-        requires fits { BuiltFit (reader_files self.now) (reader_table self.now) built.old }
-        ensures value { Gives asked_of result (or_invalid (unit_functions (reader_files self.now) (reader_table self.now) number)) }
-        ensures fits { BuiltFit (reader_files self.now) (reader_table self.now) built.new }
+        requires fits { BuiltFor self.now built.old }
+        ensures value { Gives asked_of result (or_invalid (as_read self.now unit_functions number)) }
+        ensures fits { BuiltFor self.now built.new }
     {
-        self.fill_unit(Side::File, built, number)?;
-        match self.take_unit(built, number) {
-            Cache::Value(unit) => {
-                let lists = self.functions_of(built, number, &unit);
-                self.put_unit(built, number, Cache::Value(unit));
-                lists
-            },
-            Cache::Mark(kind) => {
-                self.put_unit(built, number, Cache::Mark(kind));
-                Err(Error::new(kind, Str::fixed("unit")))
-            },
-            Cache::Empty => Err(invalid("a unit has no such number")),
-        }
+        let unit = self.take_unit(built, number)?;
+        let lists = self.functions_of(built, number, &unit);
+        self.put_unit(built, number, Cache::Value(unit));
+        lists
     }
 
     /// The calls of the function at a place of a kept unit.
@@ -138,23 +146,14 @@ impl<'r, 's, 'b> Reader<'r, 's, 'b> {
         place: usize,
     ) -> Result<CallLists>
         requires readable { IsReadable self.now.dwarf.now }
-        requires fits { BuiltFit (reader_files self.now) (reader_table self.now) built.old }
-        ensures value { Gives asked_calls result (or_invalid (place_calls (reader_files self.now) (reader_table self.now) number place)) }
-        ensures fits { BuiltFit (reader_files self.now) (reader_table self.now) built.new }
+        requires fits { BuiltFor self.now built.old }
+        ensures value { Gives asked_calls result (or_invalid (as_read self.now place_calls number place)) }
+        ensures fits { BuiltFor self.now built.new }
     {
-        self.fill_unit(Side::File, built, number)?;
-        match self.take_unit(built, number) {
-            Cache::Value(unit) => {
-                let lists = self.calls_of(built, number, &unit, place);
-                self.put_unit(built, number, Cache::Value(unit));
-                lists
-            },
-            Cache::Mark(kind) => {
-                self.put_unit(built, number, Cache::Mark(kind));
-                Err(Error::new(kind, Str::fixed("unit")))
-            },
-            Cache::Empty => Err(invalid("a unit has no such number")),
-        }
+        let unit = self.take_unit(built, number)?;
+        let lists = self.calls_of(built, number, &unit, place);
+        self.put_unit(built, number, Cache::Value(unit));
+        lists
     }
 
     /// The root of a unit itself, which is not the one that its functions are read from.
@@ -173,9 +172,9 @@ impl<'r, 's, 'b> Reader<'r, 's, 'b> {
     #[tactic(auto, using(blz_units::proofs::BuiltSteps::shared_again), unfolding(blz_units::specs::UnitAnswers::main_unit))]
     pub fn read_root(&self, built: &mut BuiltUnits, number: usize) -> Result<UnitRoot>
         requires readable { IsReadable self.now.dwarf.now }
-        requires fits { BuiltFit (reader_files self.now) (reader_table self.now) built.old }
-        ensures value { Gives (λ r. r) result (or_invalid (unit_root (reader_files self.now) (reader_table self.now) number)) }
-        ensures fits { BuiltFit (reader_files self.now) (reader_table self.now) built.new }
+        requires fits { BuiltFor self.now built.old }
+        ensures value { Gives (λ r. r) result (or_invalid (as_read self.now unit_root number)) }
+        ensures fits { BuiltFor self.now built.new }
     {
         let Some(header) = self.table.kept.get(number) else {
             return Err(invalid("a unit has no such number"));
@@ -201,8 +200,8 @@ impl<'r, 's, 'b> Reader<'r, 's, 'b> {
         number: usize,
         root: &UnitRoot,
     ) -> Result<Option<Lines>>
-        requires { unit_root (reader_files self.now) (reader_table self.now) number ≡ Some root.now }
-        ensures value { Gives lines_view result (or_invalid (unit_lines (reader_files self.now) (reader_table self.now) number)) }
+        requires { as_read self.now unit_root number ≡ Some root.now }
+        ensures value { Gives lines_view result (or_invalid (as_read self.now unit_lines number)) }
         ensures ordered { IfOk result (LinesOrdered O.pair_places) }
     {
         match self.table.kept.get(number) {

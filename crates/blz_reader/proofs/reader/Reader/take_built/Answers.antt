@@ -3,7 +3,7 @@ use Rattle.blz_units.specs.declared.built_units.Side.TheVariants.{File}
 use Rattle.blz_reader.specs.Readers.{reader_files, reader_table}
 use Rattle.blz_units.specs.UnitAnswers.{read_unit}
 use Rattle.blz_units.proofs.BuiltSteps.{all_put, taken_is}
-use Rattle.blz_reader.proofs.reader.Reader.take_unit.Goals as goal
+use Rattle.blz_reader.proofs.reader.Reader.take_built.Goals as goal
 
 pub returns-clause-fits : goal.returns-clause-fits
 returns-clause-fits c =
