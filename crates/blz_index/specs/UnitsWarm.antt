@@ -1,5 +1,5 @@
 -- The units of a file with what is kept of them: the file that they fit, and what a call may add.
-use Rattle.std.specs.Prelude.{◌≡◌, ℕ, ◌+◌, ◌^◌, ◌<◌, ◌≤◌, Bool, true, false, List, length, Option, Some, None, Result, Ok, Err, ⊤}
+use Rattle.std.specs.Prelude.{◌≡◌, ℕ, ◌+◌, ◌^◌, ◌<◌, ◌≤◌, Bool, true, false, List, length, map, Option, Some, None, Result, Ok, Err, ⊤}
 use Rattle.blz_error.specs.Fault.{Fault}
 use Rattle.blz_model.specs.Kept.{is_kept}
 use Rattle.blz_model.specs.declared.cache.Cache.{Cache}
@@ -11,6 +11,7 @@ use Rattle.blz_index.specs.declared.units.Units.{Units}
 use Rattle.blz_units.specs.BuiltUnits.{Files, files_view, IsReadable}
 use Rattle.blz_units.specs.declared.dwarf.Dwarf.{Dwarf}
 use Rattle.blz_ranges.specs.Groups.{AreApart}
+use Rattle.blz_ranges.specs.Keyed.{IsAccepted, begin_key}
 use Rattle.blz_reader.specs.Growing.{Told, UnitsGrowTo}
 use Rattle.blz_units.specs.KeptParts.{AllFit, AllFull, functions_at, lines_at, calls_at}
 use Rattle.blz_ranges.specs.declared.span.Span.{Span}
@@ -22,7 +23,6 @@ use Rattle.blz_units.specs.TableViews.{table_view}
 use Rattle.blz_units.specs.UnitTables.{UnitTable, units_of}
 use Rattle.blz_units.specs.KeptAnswers.{is_value, has_order, function_in, ranges_in}
 use Rattle.std.specs.List.{slice_get}
-use Rattle.blz_functions.specs.FunctionList.{Lists}
 use Rattle.blz_reader.specs.UnitNames.{list_in}
 
 -- ---- what is seen of them
@@ -38,6 +38,14 @@ announced_kept u = u.table.announced.kept.ranges
 -- whether their order was accepted
 abbrev pub announced_ordered : Units → Bool
 announced_ordered u = u.table.announced.kept.ordered
+
+-- their order was accepted, or it is the standard library's
+abbrev pub AnnouncedOrdered : Told → Units → Type 0
+AnnouncedOrdered told u = IsAccepted told (map begin_key (items_of (announced_kept u))) (announced_ordered u)
+
+-- what is said of files and their units, of those of DWARF data and some units
+abbrev pub as_read : {A : Type 0} → Dwarf → Units → (Files → UnitTable → A) → A
+as_read d u said = said (files_view d) (units_table u)
 
 -- whether `prepare` filled all
 abbrev pub units_prepared : Units → Bool

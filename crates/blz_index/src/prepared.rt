@@ -1,5 +1,5 @@
 //! Questions to units of which each part is kept.
-ghost use Rattle.std.specs.Prelude.{◌≡◌, ◌<◌, ◌≤◌, ◌-◌, true, [], length, Option, option_map, IfOk, IfSome};
+ghost use Rattle.std.specs.Prelude.{◌≡◌, ◌<◌, ◌≤◌, ◌-◌, true, [], length, option_map, IfOk, IfSome};
 ghost use Rattle.blz_model.specs.Part.{Exactly};
 ghost use Rattle.blz_info.specs.Marks.{or_invalid};
 ghost use Rattle.blz_line.specs.Lookups.{location_view};

@@ -1,18 +1,15 @@
 //! The units of a file, as they are asked.
-ghost use Rattle.std.specs.Prelude.{◌≡◌, ◌<◌, ◌-◌, true, false, length, map, Option, IfOk, IfSome, IfErr};
+ghost use Rattle.std.specs.Prelude.{◌≡◌, ◌<◌, true, length, IfOk, IfSome, IfErr};
 ghost use Rattle.std.specs.Option.{option_map};
-ghost use Rattle.blz_model.specs.Part.{Gives, Exactly};
+ghost use Rattle.blz_model.specs.Part.{Gives};
 ghost use Rattle.blz_info.specs.Marks.{or_invalid};
 ghost use Rattle.blz_line.specs.Lookups.{location_view};
 ghost use Rattle.blz_units.specs.BuiltUnits.{files_view, IsReadable};
 ghost use Rattle.blz_reader.specs.Growing.{Told};
-ghost use Rattle.blz_ranges.specs.Keyed.{IsAccepted, begin_key};
-ghost use Rattle.blz_ranges.specs.Owned.{items_of};
-ghost use Rattle.blz_functions.specs.References.{unit_at};
 ghost use Rattle.blz_units.specs.UnitAnswers.{unit_language, function_at};
 ghost use Rattle.blz_units.specs.UnitSites.{location_at, inlined_at};
 ghost use Rattle.blz_units.specs.UnitTables.{units_of};
-ghost use Rattle.blz_index.specs.UnitsWarm.{units_table, announced_kept, announced_ordered, units_prepared, functions_kept, kept_function, CanBeAsked, Leaves, UnitsFit, UnitsGrow, AreCold};
+ghost use Rattle.blz_index.specs.UnitsWarm.{AnnouncedOrdered, as_read, units_table, units_prepared, functions_kept, kept_function, CanBeAsked, Leaves, UnitsFit, UnitsGrow, AreCold};
 
 mod find;
 mod lend;
@@ -49,7 +46,7 @@ impl Units {
         requires readable { IsReadable dwarf.now }
         ensures value { Gives units_table result (or_invalid (units_of (files_view dwarf.now))) }
         ensures fits { IfOk result (UnitsFit (files_view dwarf.now)) }
-        ensures accepted { IfOk result (λ u. IsAccepted O.pair_places (map begin_key (items_of (announced_kept u))) (announced_ordered u)) }
+        ensures accepted { IfOk result (AnnouncedOrdered O.pair_places) }
         ensures cold { IfOk result AreCold }
     {
         let (table, built) = UnitTable::read(alloc, orders, dwarf)?;
@@ -73,7 +70,7 @@ impl Units {
     pub fn language(&mut self, alloc: Global, dwarf: &Dwarf<'_, '_>, unit: usize) -> Result<SrcLang>
         requires asked { CanBeAsked dwarf.now self.old }
         requires there { unit < length (units_table self.old).kept }
-        ensures value { Gives (λ l. l) result (or_invalid (unit_language (files_view dwarf.now) (units_table self.old) unit)) }
+        ensures value { Gives (λ l. l) result (or_invalid (as_read dwarf.now self.old unit_language unit)) }
         ensures leaves { (told : Told) → Leaves told dwarf.now self.old self.new }
     {
         let reader = Reader {
@@ -95,7 +92,7 @@ impl Units {
         addr: u64,
     ) -> Result<Option<(usize, usize)>>
         requires asked { CanBeAsked dwarf.now self.old }
-        ensures value { Gives (λ r. r) result (or_invalid (function_at (files_view dwarf.now) (units_table self.old) addr)) }
+        ensures value { Gives (λ r. r) result (or_invalid (as_read dwarf.now self.old function_at addr)) }
         ensures there { IfOk result (λ r. IfSome r (λ r. functions_kept self.new r.0 ≡ true)) }
         ensures leaves { Leaves O.pair_places dwarf.now self.old self.new }
     {
@@ -118,7 +115,7 @@ impl Units {
         addr: u64,
     ) -> Result<Option<Location<'b>>>
         requires asked { CanBeAsked dwarf.now self.old }
-        ensures value { Gives (λ o. option_map location_view o) result (location_at dwarf.now.texts (files_view dwarf.now) (units_table self.old) addr) }
+        ensures value { Gives (λ o. option_map location_view o) result (as_read dwarf.now self.old (location_at dwarf.now.texts) addr) }
         ensures leaves { Leaves O.pair_places dwarf.now self.old self.new }
     {
         let reader = Reader {
@@ -143,7 +140,7 @@ impl Units {
     ) -> Result<InlinedSites<'b>>
         requires asked { CanBeAsked dwarf.now self.old }
         requires there { unit < length (units_table self.old).kept }
-        ensures value { Gives (λ s. s) result (inlined_at dwarf.now.texts (files_view dwarf.now) (units_table self.old) addr unit function) }
+        ensures value { Gives (λ s. s) result (as_read dwarf.now self.old (inlined_at dwarf.now.texts) addr unit function) }
         ensures leaves { Leaves O.pair_places dwarf.now self.old self.new }
     {
         let reader = Reader {

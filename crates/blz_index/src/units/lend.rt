@@ -1,14 +1,13 @@
 //! Parts of a unit, read first and lent after.
-ghost use Rattle.std.specs.Prelude.{◌≡◌, ◌<◌, true, length, Option, Some, IfOk, IfSome};
+ghost use Rattle.std.specs.Prelude.{◌≡◌, ◌<◌, true, length, Some, IfOk, IfSome};
 ghost use Rattle.std.specs.Option.{option_map};
 ghost use Rattle.blz_model.specs.Part.{Gives, Exactly};
 ghost use Rattle.blz_info.specs.Marks.{or_invalid};
-ghost use Rattle.blz_line.specs.UnitLines.{OrderedLines};
-ghost use Rattle.blz_units.specs.BuiltUnits.{Files, files_view};
+ghost use Rattle.blz_units.specs.BuiltUnits.{Files};
 ghost use Rattle.blz_units.specs.KeptAnswers.{Repeats, kept_part, calls_listed, calls_told, value_in};
 ghost use Rattle.blz_units.specs.KeptParts.{lists_view, calls_view};
 ghost use Rattle.blz_units.specs.UnitAnswers.{unit_functions, unit_lines, function_calls};
-ghost use Rattle.blz_index.specs.UnitsWarm.{units_table, lines_kept, functions_cache, lines_cache, calls_cache, calls_kept, CanBeAsked, Leaves, UnitsFit};
+ghost use Rattle.blz_index.specs.UnitsWarm.{as_read, units_table, lines_kept, functions_cache, lines_cache, calls_cache, calls_kept, CanBeAsked, Leaves, UnitsFit};
 
 use crate::units::Units;
 use blz_bytes::Orders;
@@ -41,7 +40,7 @@ impl Units {
     ) -> Result<&Functions>
         requires asked { CanBeAsked dwarf.now self.old }
         requires there { unit < length (units_table self.old).kept }
-        ensures { Gives (λ x. lists_view x.now) result (or_invalid (unit_functions (files_view dwarf.now) (units_table self.old) unit)) }
+        ensures { Gives (λ x. lists_view x.now) result (or_invalid (as_read dwarf.now self.old unit_functions unit)) }
     {
         self.fill_functions(alloc, orders, dwarf, unit)?;
         match self.unit_functions(unit) {
@@ -98,7 +97,7 @@ impl Units {
     ) -> Result<Option<&Lines>>
         requires asked { CanBeAsked dwarf.now self.old }
         requires there { unit < length (units_table self.old).kept }
-        ensures { Gives (λ o. option_map (λ l. l.now.table) o) result (or_invalid (unit_lines (files_view dwarf.now) (units_table self.old) unit)) }
+        ensures { Gives (λ o. option_map (λ l. l.now.table) o) result (or_invalid (as_read dwarf.now self.old unit_lines unit)) }
     {
         self.fill_lines(alloc, orders, dwarf, unit)?;
         self.lines(unit)
@@ -115,7 +114,7 @@ impl Units {
         function: usize,
     ) -> Result<()>
         requires asked { CanBeAsked dwarf.now self.old }
-        ensures value { Gives (λ _. calls_told (calls_cache self.new unit function)) result (or_invalid (calls_listed (function_calls (files_view dwarf.now) (units_table self.old) unit function))) }
+        ensures value { Gives (λ _. calls_told (calls_cache self.new unit function)) result (or_invalid (calls_listed (as_read dwarf.now self.old function_calls unit function))) }
         ensures there { IfOk result (λ _. calls_kept self.new unit function ≡ true) }
         ensures leaves { Leaves O.pair_places dwarf.now self.old self.new }
     {
@@ -148,7 +147,7 @@ impl Units {
     ) -> Result<&InlinedFunctions>
         requires asked { CanBeAsked dwarf.now self.old }
         requires there { unit < length (units_table self.old).kept }
-        ensures { Gives (λ x. calls_view x.now) result (or_invalid (function_calls (files_view dwarf.now) (units_table self.old) unit function)) }
+        ensures { Gives (λ x. calls_view x.now) result (or_invalid (as_read dwarf.now self.old function_calls unit function)) }
     {
         self.fill_inlined_functions(alloc, orders, dwarf, unit, function)?;
         match self.inlined_functions(unit, function) {

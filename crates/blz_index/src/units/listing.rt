@@ -2,12 +2,11 @@
 ghost use Rattle.std.specs.Prelude.{◌≡◌, true, false, option_map, IfOk};
 ghost use Rattle.blz_model.specs.Part.{Gives};
 ghost use Rattle.blz_info.specs.Marks.{or_invalid};
-ghost use Rattle.blz_units.specs.BuiltUnits.{files_view};
 ghost use Rattle.blz_units.specs.KeptParts.{functions_at};
 ghost use Rattle.blz_reader.specs.ShownFunctions.{ShowsUnits, all_shown};
 ghost use Rattle.blz_units.specs.UnitAnswers.{unit_functions, functions_named, all_functions};
 ghost use Rattle.blz_reader.specs.UnitNames.{listed, list_in};
-ghost use Rattle.blz_index.specs.UnitsWarm.{units_table, functions_kept, CanBeAsked, Leaves, kept_list, AllKept};
+ghost use Rattle.blz_index.specs.UnitsWarm.{as_read, functions_kept, CanBeAsked, Leaves, kept_list, AllKept};
 
 use crate::units::Units;
 use blz_bytes::Orders;
@@ -44,7 +43,7 @@ impl Units {
         unit: usize,
     ) -> Result<()>
         requires asked { CanBeAsked dwarf.now self.old }
-        ensures value { Gives (λ _. kept_list self.new unit) result (or_invalid (listed (unit_functions (files_view dwarf.now) (units_table self.old) unit))) }
+        ensures value { Gives (λ _. kept_list self.new unit) result (or_invalid (listed (as_read dwarf.now self.old unit_functions unit))) }
         ensures there { IfOk result (λ _. functions_kept self.new unit ≡ true) }
         ensures leaves { Leaves O.pair_places dwarf.now self.old self.new }
     {
@@ -73,7 +72,7 @@ impl Units {
         name: &str,
     ) -> Result<Vec<(usize, usize)>>
         requires asked { CanBeAsked dwarf.now self.old }
-        ensures value { Gives (λ v. v.items) result (or_invalid (functions_named dwarf.now.texts (files_view dwarf.now) (units_table self.old) name.now)) }
+        ensures value { Gives (λ v. v.items) result (or_invalid (as_read dwarf.now self.old (functions_named dwarf.now.texts) name.now)) }
         ensures there { IfOk result (λ v. AllKept self.new v.items) }
         ensures leaves { Leaves O.pair_places dwarf.now self.old self.new }
     {
@@ -97,7 +96,7 @@ impl Units {
     ) -> Result<()>
         requires asked { CanBeAsked dwarf.now self.old }
         requires goes_on { W.stopped visit.old ≡ false }
-        ensures shows { ShowsUnits (all_functions (files_view dwarf.now) (units_table self.old)) (all_shown (files_view dwarf.now) (units_table self.old)) (W.shown visit.old) (W.shown visit.new) (W.stopped visit.new) result }
+        ensures shows { ShowsUnits (as_read dwarf.now self.old all_functions) (as_read dwarf.now self.old all_shown) (W.shown visit.old) (W.shown visit.new) (W.stopped visit.new) result }
         ensures leaves { Leaves O.pair_places dwarf.now self.old self.new }
     {
         let reader = Reader {
