@@ -13,7 +13,7 @@ use Rattle.blz_ranges.specs.Owned.{Owned, own_all}
 use Rattle.blz_ranges.specs.declared.span.Span.{Span}
 use Rattle.blz_info.specs.declared.units.UnitHeader.{UnitHeader}
 use Rattle.blz_info.proofs.Marked.{marks_on}
-use Rattle.blz_units.specs.Copies.{KeptRanges, all_kept, IsListOf, IsOnceMore, IsWithKeeper, IsWithUnit}
+use Rattle.blz_announced.specs.Copies.{KeptRanges, all_kept, IsListOf, IsOnceMore, IsWithKeeper, IsWithUnit}
 use Rattle.blz_units.specs.Keeping.{Keeping, units_told, AreRoots, IsAgain, IsRootOf}
 use Rattle.blz_units.specs.RootKeys.{root_cmp, AreSpansOf}
 use Rattle.blz_units.specs.UnitLists.{EndBefore, IsInPlace}

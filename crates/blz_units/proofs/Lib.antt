@@ -6,16 +6,6 @@ pub mod UnitsInPlace
 pub mod LinesLying
 pub mod Appended
 pub mod KeepSteps
-pub mod Copies
-pub mod NextCopies
-pub mod PlaceSteps
-pub mod RowSteps
-pub mod RepeatSteps
-pub mod TurnSteps
-pub mod SeenSteps
-pub mod SeenRanges
-pub mod BehindSteps
-pub mod LeftOver
 pub mod LeftOut
 pub mod BuiltSteps
 pub mod Choosing

@@ -9,7 +9,7 @@ use Rattle.blz_info.specs.Marks.{or_invalid}
 use Rattle.blz_model.specs.Part.{Fails}
 use Rattle.blz_ranges.specs.declared.span.Span.{Span}
 use Rattle.blz_units.specs.BuiltUnits.{Files}
-use Rattle.blz_units.specs.Copies.{KeptRanges, all_kept, IsListOf}
+use Rattle.blz_announced.specs.Copies.{KeptRanges, all_kept, IsListOf}
 use Rattle.blz_units.specs.KeptParts.{IsPartOf}
 use Rattle.blz_units.specs.RootKeys.{root_cmp, AreSpansOf, IsToldBy}
 use Rattle.blz_units.specs.UnitTables.{KeptUnits, by_root}

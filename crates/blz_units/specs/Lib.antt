@@ -8,9 +8,6 @@ pub mod Sets
 pub mod UnitTables
 pub mod UnitLists
 pub mod TableViews
-pub mod Copies
-pub mod Announced
-pub mod Seen
 pub mod UnitAnswers
 pub mod UnitSites
 pub mod LongEntries

@@ -13,9 +13,9 @@ use crate::address_sets::AddressSets;
 use crate::announcing::{Announcement, announced};
 use crate::built_units::SideUnits;
 use crate::dwarf::Dwarf;
-use crate::kept_ranges::KeptRanges;
 use crate::known_roots::KnownRoots;
 use crate::unit_list::UnitList;
+use blz_announced::KeptRanges;
 use blz_entry::{UnitHeader, UnitHeaders};
 use blz_error::Result;
 use std::alloc::{AllocError, Global};
@@ -55,7 +55,7 @@ fn keep(
 }
 
 impl KeptUnits {
-    #[tactic(auto, unfolding(crate::specs::Copies::copies))]
+    #[tactic(auto, unfolding(blz_announced::specs::Copies::copies))]
     fn new(alloc: Global) -> KeptUnits
         ensures told { units_told result ≡ no_units }
     {

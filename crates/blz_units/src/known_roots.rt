@@ -3,7 +3,7 @@ ghost use Rattle.std.specs.Prelude.{◌≡◌, IfSome, IfOk};
 ghost use Rattle.std.specs.BTreeMap.{IsEmpty};
 ghost use Rattle.blz_functions.specs.Opened.{open_view};
 ghost use Rattle.blz_info.specs.FileSections.{FileSections};
-ghost use Rattle.blz_units.specs.Copies.{KeptRanges};
+ghost use Rattle.blz_announced.specs.Copies.{KeptRanges};
 ghost use Rattle.blz_units.specs.Keeping.{AreRoots, IsKnown, IsRootOf};
 ghost use Rattle.blz_units.specs.RootKeys.{IsToldBy};
 

@@ -2,16 +2,12 @@
 #![tactic(auto)]
 
 mod address_sets;
-pub mod announced;
 mod announcing;
 pub mod built_unit;
 pub mod built_units;
 pub mod caches;
-mod comparing;
 pub mod dwarf;
 mod gathered_tables;
-pub mod keepers;
-mod kept_ranges;
 mod kept_units;
 pub mod known_roots;
 mod line_headers;
@@ -25,4 +21,3 @@ pub mod shared_parts;
 mod shared_tables;
 pub mod unit_list;
 pub mod unit_table;
-pub mod units_at;

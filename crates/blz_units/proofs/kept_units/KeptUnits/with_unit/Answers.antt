@@ -3,7 +3,7 @@ use Rattle.std.proofs.lemmas.Result.{err_from_is_err_and}
 use Rattle.blz_info.specs.Marks.{or_invalid}
 use Rattle.blz_ranges.specs.declared.span.Span.{Span}
 use Rattle.blz_units.specs.BuiltUnits.{files_view}
-use Rattle.blz_units.specs.Copies.{IsWithKeeper}
+use Rattle.blz_announced.specs.Copies.{IsWithKeeper}
 use Rattle.blz_units.specs.KeptParts.{SideFits}
 use Rattle.blz_units.specs.Keeping.{Keeping, units_told, AreRoots}
 use Rattle.blz_units.specs.UnitTables.{announces, with_unit}

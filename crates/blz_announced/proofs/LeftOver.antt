@@ -1,0 +1,316 @@
+-- The units that are told where each is told once, among all that announce an address.
+use Rattle.std.proofs.Common.{◌≡◌, ℕ, zero, suc, ◌<◌, ◌≤◌, eqb, true, false, List, [], ◌∷◌, map, Option, Some, None, refl, sym, ap, subst, ◌∙◌, arith, inl, inr, ◌⊎◌}
+use Rattle.std.specs.Prelude.{option_map, if◌then◌else◌}
+use Rattle.std.specs.List.{slice_get}
+use Rattle.std.proofs.lemmas.Bool.{cases_Bool, cases_lt, eq-eqb, false≢true}
+use Rattle.std.proofs.lemmas.List.{map-append}
+use Rattle.std.proofs.lemmas.Option.{slice_get-map}
+use Rattle.blz_ranges.specs.declared.span.Span.{Span}
+use Rattle.blz_ranges.specs.Best.{best, covers, next, no_span, NotAfter, IsBest}
+use Rattle.blz_ranges.specs.Groups.{best_in}
+use Rattle.blz_ranges.specs.Owned.{Owned, items_of, owner_at, owners_of}
+use Rattle.blz_ranges.specs.Turns.{covering}
+use Rattle.blz_ranges.proofs.BestOf.{best_is_best}
+use Rattle.blz_ranges.proofs.InTurn.{turns}
+use Rattle.blz_announced.specs.Copies.{announced_all, announced_copies, copies, copies_of, same_number, told, Announced, Copy}
+use Rattle.blz_announced.specs.Seen.{by_owner, is_seen, seen, seen_by, seen_from, Holds, LeavesOut}
+use Rattle.blz_announced.specs.declared.announced.Asked.{Asked}
+use Rattle.blz_announced.proofs.Copies.{are_copies}
+use Rattle.blz_announced.proofs.NextCopies.{has_item, item_at, next_is, some_is, After, IsNext}
+use Rattle.blz_announced.proofs.SeenRanges.{best_of_keeper, no_cover, seen_by_best, seen_not_once, there_mapped, IsBestOr}
+use Rattle.blz_announced.proofs.SeenSteps.{first_from, from_here, from_next, other_after, AreAmong, FirstFrom, IsFirst, IsFrom}
+
+-- ---- lists of places, each with the next behind it
+
+abbrev IsRun : List Span → ℕ → List ℕ → Type 0
+IsRun spans addr [] = Unit {0}
+IsRun spans addr (p ∷ places) = (slice_get places 0 ≡ next spans addr p) × IsRun spans addr places
+
+run_of : (spans : List Span) (addr : ℕ) (places : List ℕ) → ((i p : ℕ) → slice_get places i ≡ Some p → slice_get places (suc i) ≡ next spans addr p) → IsRun spans addr places
+run_of spans addr [] h = tt
+run_of spans addr (p ∷ places) h = (h 0 p refl, run_of spans addr places (λ i q is. h (suc i) q is))
+
+-- one of two ranges comes after the other, if they are not one
+either : (p q : ℕ) (s t : Span) → After p s q t ⊎ (After q t p s ⊎ (p ≡ q))
+either p q s t = elim (cases_lt t.begin s.begin) [
+  | inl less ↦ inl (inl less)
+  | inr ge ↦ elim (cases_lt s.begin t.begin) [
+    | inl more ↦ inr (inl (inl more))
+    | inr le ↦ by_place (omega arith) (cases_lt p q) (cases_lt q p)
+  ]
+]
+  where
+    by_place : t.begin ≡ s.begin → (p < q) ⊎ (q ≤ p) → (q < p) ⊎ (p ≤ q) → After p s q t ⊎ (After q t p s ⊎ (p ≡ q))
+    by_place e (inl lt) k = inl (inr (e, lt))
+    by_place e (inr ge) (inl lt) = inr (inl (inr (sym e, lt)))
+    by_place e (inr ge) (inr le) = inr (inr (omega arith))
+
+not_both : (p q : ℕ) (s t : Span) → After q t p s → NotAfter p s q t → ⊥
+not_both p q s t (inl less) n = let b = n.below in omega arith
+not_both p q s t (inr h) n = let k = n.tie (sym h.0) in let l = h.1 in omega arith
+
+owner_here : (ranges : List (Owned Span)) (p n : ℕ) (places : List ℕ) → owner_at ranges p ≡ Some n → owners_of ranges (p ∷ places) ≡ n ∷ owners_of ranges places
+owner_here ranges p n places own = rw own refl
+
+-- ---- two lists of ranges, of which the second hides some
+
+module _ (xs ys : List (Owned Span)) (addr : ℕ) where
+  abbrev pub all : List Span
+  all = items_of xs
+
+  abbrev pub few : List Span
+  few = items_of ys
+
+  -- a range before another one, of the same owner
+  pub record IsTold (p : ℕ) (s : Span) : Type 0 where
+    pub place : ℕ
+    pub span : Span
+    pub is : slice_get all place ≡ Some span
+    pub reached : covers span addr ≡ true
+    pub before : After place span p s
+    pub same : owner_at xs place ≡ owner_at xs p
+    pub hides : (t : Span) → slice_get few p ≡ Some t → covers t addr ≡ true → ⊥
+
+  -- the owners of all ranges before one
+  abbrev AreBefore : List ℕ → Option ℕ → Type 0
+  AreBefore before None = Unit {0}
+  AreBefore before (Some p) = (s : Span) → slice_get all p ≡ Some s → (q n : ℕ) (t : Span) → slice_get all q ≡ Some t → covers t addr ≡ true → After q t p s → owner_at xs q ≡ Some n → Holds before n
+
+  module _ (owners : (p : ℕ) → owner_at ys p ≡ owner_at xs p) (among : AreAmong all few addr) (each : (p : ℕ) (s : Span) → slice_get all p ≡ Some s → covers s addr ≡ true → (slice_get few p ≡ Some s) ⊎ IsTold p s) where
+    before_next : (before : List ℕ) (p k : ℕ) (s : Span) → slice_get all p ≡ Some s → owner_at xs p ≡ Some k → AreBefore before (Some p) → (o : Option ℕ) → IsNext all addr p s o → AreBefore (k ∷ before) o
+    before_next before p k s is own b None n = tt
+    before_next before p k s is own b (Some r) n = λ u is_u q m t is_t reached after own_q. by u is_u q m t is_t reached after own_q (either p q s t)
+      where
+        by : (u : Span) → slice_get all r ≡ Some u → (q m : ℕ) (t : Span) → slice_get all q ≡ Some t → covers t addr ≡ true → After q t r u → owner_at xs q ≡ Some m → After p s q t ⊎ (After q t p s ⊎ (p ≡ q)) → Holds (k ∷ before) m
+        by u is_u q m t is_t reached after own_q (inl later) =
+            let e : n.span ≡ u = some_is n.span u (sym n.at ∙ is_u) in
+            absurd (not_both r q u t after (subst (λ (z : Span). NotAfter r z q t) e (n.first q t is_t reached later)))
+        by u is_u q m t is_t reached after own_q (inr (inl sooner)) = let h = b s is q m t is_t reached sooner own_q in (suc h.0, h.1)
+        by u is_u q m t is_t reached after own_q (inr (inr same)) = (0, sym own ∙ (ap (owner_at xs) same ∙ own_q))
+
+    before_again : (before : List ℕ) (k : ℕ) → Holds before k → (o : Option ℕ) → AreBefore (k ∷ before) o → AreBefore before o
+    before_again before k h None b = tt
+    before_again before k h (Some p) b = λ s is q n t is_t reached after own. shorter n (b s is q n t is_t reached after own)
+      where
+        shorter_at : (n i : ℕ) → slice_get (k ∷ before) i ≡ Some n → Holds before n
+        shorter_at n zero is = (h.0, h.1 ∙ is)
+        shorter_at n (suc i) is = (i, is)
+
+        shorter : (n : ℕ) → Holds (k ∷ before) n → Holds before n
+        shorter n g = shorter_at n g.0 g.1
+
+    -- what is left out of the owners of some places, for any that are seen of them
+    abbrev Walks : List ℕ → Type 0
+    Walks places = (some before : List ℕ) → IsRun few addr some → FirstFrom all few addr (slice_get places 0) (slice_get some 0) → AreBefore before (slice_get places 0) → LeavesOut before (owners_of xs places) (owners_of ys some)
+
+    walk : (places some : List ℕ) (before : List ℕ) → IsRun all addr places → IsRun few addr some → FirstFrom all few addr (slice_get places 0) (slice_get some 0) → AreBefore before (slice_get places 0) → LeavesOut before (owners_of xs places) (owners_of ys some)
+    walk [] [] before r m f b = refl
+    walk [] (q ∷ some) before r m f b = absurd cc
+    walk (p ∷ places) some before r m f b = by (λ more held n g h. walk places more held r.1 n g h) some m f (each p f.span f.at f.reached)
+      where
+        own : owner_at xs p ≡ Some (has_item xs p f.span f.at).keeper
+        own = ap (option_map (λ (x : Owned Span). x.owner)) (has_item xs p f.span f.at).is
+
+        on : IsNext all addr p f.span (slice_get places 0)
+        on = next_is all addr p f.span (slice_get places 0) f.at (sym r.0)
+
+        b_next : AreBefore ((has_item xs p f.span f.at).keeper ∷ before) (slice_get places 0)
+        b_next = before_next before p (has_item xs p f.span f.at).keeper f.span f.at own b (slice_get places 0) on
+
+        matched : Walks places → (q : ℕ) (some : List ℕ) → q ≡ p → IsRun few addr (q ∷ some) → slice_get few p ≡ Some f.span → LeavesOut before (owners_of xs (p ∷ places)) (owners_of ys (q ∷ some))
+        matched again q some e m here =
+            let k = (has_item xs p f.span f.at).keeper in
+            let on_few = next_is few addr p f.span (slice_get some 0) here (sym (m.0 ∙ ap (next few addr) e)) in
+            let own_q : owner_at ys q ≡ Some k = ap (owner_at ys) e ∙ (owners p ∙ own) in
+            let rest = again some (k ∷ before) m.1 (first_from all few addr among p f.span (slice_get places 0) (slice_get some 0) on on_few) b_next in
+            rw (owner_here xs p k places own, owner_here ys q k some own_q) (inr (owners_of ys some, refl, rest))
+
+        by : Walks places → (some : List ℕ) → IsRun few addr some → IsFrom all few addr p (slice_get some 0) → (slice_get few p ≡ Some f.span) ⊎ IsTold p f.span → LeavesOut before (owners_of xs (p ∷ places)) (owners_of ys some)
+        by again [] m h (inl here) = let e = from_here all few addr among p None h (λ s is. here ∙ (sym f.at ∙ is)) in absurd cc
+        by again (q ∷ some) m h (inl here) = let e = from_here all few addr among p (Some q) h (λ s is. here ∙ (sym f.at ∙ is)) in matched again q some (some_is q p e) m here
+        by again some m h (inr t) =
+            let k = (has_item xs p f.span f.at).keeper in
+            let held : Holds before k = b f.span f.at t.place k t.span t.is t.reached t.before (t.same ∙ own) in
+            let on_h = next_is all addr p h.span (slice_get places 0) h.at (sym r.0) in
+            let rest = again some before m (from_next all few addr among p (slice_get some 0) h t.hides (slice_get places 0) on_h) (before_again before k held (slice_get places 0) b_next) in
+            rw (owner_here xs p k places own) (inl (held, rest))
+
+    first_best : (o found : Option ℕ) → IsBest (λ at s. covers s addr) all o → IsBest (λ at s. covers s addr) few found → FirstFrom all few addr o found
+    first_best None None b m = refl
+    first_best None (Some q) b m = absurd (b q m.span (among q m.span m.at m.passes) m.passes)
+    first_best (Some p) found b m = record { span = b.span; at = b.at; reached = b.passes; first = by found m }
+      where
+        by : (found : Option ℕ) → IsBest (λ at s. covers s addr) few found → IsFirst few addr p b.span found
+        by None m = λ q t is reached not. m q t is reached
+        by (Some q) m = record {
+          span = m.span;
+          at = m.at;
+          reached = m.passes;
+          behind = b.first q m.span (among q m.span m.at m.passes) m.passes;
+          first = λ r t is reached not. m.first r t is reached;
+        }
+
+    none_before : (o : Option ℕ) → IsBest (λ at s. covers s addr) all o → AreBefore [] o
+    none_before None b = tt
+    none_before (Some p) b = λ s is q n t is_t reached after own.
+        let e : b.span ≡ s = some_is b.span s (sym b.at ∙ is) in
+        absurd (not_both p q s t after (subst (λ (z : Span). NotAfter p z q t) e (b.first q t is_t reached)))
+
+    pub left_out : LeavesOut [] (owners_of xs (covering all addr)) (owners_of ys (covering few addr))
+    left_out =
+        let p = turns all addr in
+        let q = turns few addr in
+        let b = best_is_best (λ at s. covers s addr) all in
+        let m = best_is_best (λ at s. covers s addr) few in
+        walk (covering all addr) (covering few addr) [] (run_of all addr (covering all addr) p.then_next) (run_of few addr (covering few addr) q.then_next)
+        (rw (p.first, q.first) (first_best (best all addr) (best few addr) b m))
+        (rw p.first (none_before (best all addr) b))
+
+-- ---- all ranges, and those that are seen
+
+module _ (asked : Asked) (kept : List (Owned Span)) where
+  shown : Copy → Copy
+  shown c = record { unit = c.unit; place = c.place; span = if is_seen asked kept c.place then c.span else no_span }
+
+  copies_of_seen : (unit keeper at : ℕ) (list : List (Owned Span)) → copies_of unit keeper at (seen_from asked kept at list) ≡ map shown (copies_of unit keeper at list)
+  unfolding copies_of seen_from shown
+  copies_of_seen unit keeper at [] = refl
+  copies_of_seen unit keeper at (x ∷ list) =
+      elim (cases_Bool (is_seen asked kept at)) [
+        | inl t ↦ elim (cases_Bool (eqb x.owner keeper)) [
+          | inl own ↦ rw (t, own, copies_of_seen unit keeper (suc at) list, t) refl
+          | inr other ↦ rw (t, other, copies_of_seen unit keeper (suc at) list) refl
+        ]
+        | inr f ↦ elim (cases_Bool (eqb x.owner keeper)) [
+          | inl own ↦ rw (f, own, copies_of_seen unit keeper (suc at) list, f) refl
+          | inr other ↦ rw (f, other, copies_of_seen unit keeper (suc at) list) refl
+        ]
+      ]
+
+  copies_seen : (unit : ℕ) (keepers : List ℕ) → copies (seen asked kept) unit keepers ≡ map shown (copies kept unit keepers)
+  unfolding copies
+  copies_seen unit [] = refl
+  copies_seen unit (keeper ∷ keepers) = rw (copies_of_seen unit keeper 0 kept, copies_seen (suc unit) keepers) (sym (map-append shown (copies_of unit keeper 0 kept) (copies kept (suc unit) keepers)))
+
+module _ (asked : Asked) (a : Announced) where
+  abbrev kept_ranges : List (Owned Span)
+  kept_ranges = a.kept.ranges
+
+  abbrev list : List Copy
+  list = announced_copies a
+
+  abbrev list_seen : List Copy
+  list_seen = announced_copies (seen_by asked a)
+
+  told_at : (l : List Copy) (q : ℕ) → slice_get (told l) q ≡ option_map (λ (c : Copy). record { item = c.span; owner = c.unit }) (slice_get l q)
+  told_at l q = slice_get-map (λ (c : Copy). record { item = c.span; owner = c.unit }) l q
+
+  seen_copy : (q : ℕ) → slice_get list_seen q ≡ option_map (shown asked kept_ranges) (slice_get list q)
+  seen_copy q = ap (λ (l : List Copy). slice_get l q) (copies_seen asked kept_ranges 0 a.keepers) ∙ slice_get-map (shown asked kept_ranges) list q
+
+  same_owners : (q : ℕ) → owner_at (told list_seen) q ≡ owner_at (told list) q
+  unfolding shown
+  same_owners q = ap (option_map (λ (x : Owned Span). x.owner)) (told_at list_seen q ∙ ap (option_map (λ (c : Copy). record { item = c.span; owner = c.unit })) (seen_copy q)) ∙ (by (slice_get list q) ∙ sym (ap (option_map (λ (x : Owned Span). x.owner)) (told_at list q)))
+    where
+      by : (o : Option Copy) → option_map (λ (x : Owned Span). x.owner) (option_map (λ (c : Copy). record { item = c.span; owner = c.unit }) (option_map (shown asked kept_ranges) o)) ≡ option_map (λ (x : Owned Span). x.owner) (option_map (λ (c : Copy). record { item = c.span; owner = c.unit }) o)
+      by None = refl
+      by (Some c) = refl
+
+  -- what stands at a place of all ranges
+  record HasCopy (q : ℕ) (s : Span) : Type 0 where
+    pub copy : Copy
+    pub is : slice_get list q ≡ Some copy
+    pub span_is : copy.span ≡ s
+
+  has_copy : (q : ℕ) (s : Span) → slice_get (items_of (told list)) q ≡ Some s → HasCopy q s
+  has_copy q s is =
+      let h = has_item (told list) q s is in
+      let k = there_mapped (λ (c : Copy). record { item = c.span; owner = c.unit }) (slice_get list q) (record { item = s; owner = h.keeper }) (sym (told_at list q) ∙ h.is) in
+      record { copy = k.0; is = k.1; span_is = ap (λ (x : Owned Span). x.item) k.2 }
+
+  shown_item : (q : ℕ) (c : Copy) → slice_get list q ≡ Some c → slice_get (items_of (told list_seen)) q ≡ Some (shown asked kept_ranges c).span
+  shown_item q c is = item_at (told list_seen) q (record { item = (shown asked kept_ranges c).span; owner = (shown asked kept_ranges c).unit }) (told_at list_seen q ∙ ap (option_map (λ (d : Copy). record { item = d.span; owner = d.unit })) (seen_copy q ∙ ap (option_map (shown asked kept_ranges)) is))
+
+  shown_same : (c : Copy) → is_seen asked kept_ranges c.place ≡ true → (shown asked kept_ranges c).span ≡ c.span
+  unfolding shown
+  shown_same c t = rw t refl
+
+  shown_none : (c : Copy) → is_seen asked kept_ranges c.place ≡ false → (shown asked kept_ranges c).span ≡ no_span
+  unfolding shown
+  shown_none c f = rw f refl
+
+  there_in : (l : List Copy) (q : ℕ) (t : Span) → slice_get (items_of (told l)) q ≡ Some t → (c : Copy) × (slice_get l q ≡ Some c)
+  there_in [] q t is = absurd cc
+  there_in (c ∷ l) zero t is = (c, refl)
+  there_in (c ∷ l) (suc q) t is = there_in l q t is
+
+  among_all : AreAmong (items_of (told list)) (items_of (told list_seen)) asked.addr
+  among_all = λ q t is reached.
+      let d = there_in list_seen q t is in
+      let k = there_mapped (shown asked kept_ranges) (slice_get list q) d.0 (sym (seen_copy q) ∙ d.1) in
+      let c = k.0 in
+      let span : (shown asked kept_ranges c).span ≡ t = some_is (shown asked kept_ranges c).span t (sym (shown_item q c k.1) ∙ is) in
+      elim (cases_Bool (is_seen asked kept_ranges c.place)) [
+        | inl seen_it ↦ item_at (told list) q (record { item = c.span; owner = c.unit }) (told_at list q ∙ ap (option_map (λ (e : Copy). record { item = e.span; owner = e.unit })) k.1) ∙ ap (λ (s : Span). Some s) (sym (shown_same c seen_it) ∙ span)
+        | inr hid ↦ absurd (no_cover asked.addr (ap (λ (s : Span). covers s asked.addr) (sym (shown_none c hid) ∙ span) ∙ reached))
+      ]
+
+  -- where the best range of a keeper stands among those of one of its units
+  told_before : (q : ℕ) (c : Copy) (keeper : ℕ) → slice_get list q ≡ Some c → slice_get a.keepers c.unit ≡ Some keeper → slice_get kept_ranges c.place ≡ Some (record { item = c.span; owner = keeper }) → covers c.span asked.addr ≡ true → is_seen asked kept_ranges c.place ≡ false
+      → (o : Option ℕ) → best_in (by_owner kept_ranges) keeper asked.addr ≡ o → IsBestOr kept_ranges keeper asked.addr o → IsTold (told list) (told list_seen) asked.addr q c.span
+  told_before q c keeper is row kept_is reached hid None e h = absurd (h c.place c.span (record { is = kept_is; reached = reached }))
+  told_before q c keeper is row kept_is reached hid (Some p) e h =
+      let are = are_copies kept_ranges a.keepers in
+      let there = are.there c.unit keeper p h.span row h.own.is in
+      let once = seen_not_once asked kept_ranges c.place hid in
+      let other : p ≡ c.place → ⊥ = λ same. false≢true (sym hid ∙ (seen_by_best asked kept_ranges c.place keeper once (ap (option_map (λ (x : Owned Span). x.owner)) kept_is) ∙ (ap (λ (o : Option ℕ). same_number o (Some c.place)) e ∙ eq-eqb p c.place same))) in
+      let after = other_after p c.place h.span c.span other (h.first c.place c.span (record { is = kept_is; reached = reached })) in
+      record {
+        place = there.at;
+        span = h.span;
+        is = item_at (told list) there.at (record { item = h.span; owner = c.unit }) (told_at list there.at ∙ ap (option_map (λ (d : Copy). record { item = d.span; owner = d.unit })) there.is);
+        reached = h.own.reached;
+        before = full_after there.at there.is after;
+        same = owner_told there.at _ there.is ∙ sym (owner_told q c is);
+        hides = λ t is_t covered. no_cover asked.addr (ap (λ (s : Span). covers s asked.addr) (sym (shown_none c hid) ∙ some_is (shown asked kept_ranges c).span t (sym (shown_item q c is) ∙ is_t)) ∙ covered);
+      }
+    where
+      owner_told : (i : ℕ) (d : Copy) → slice_get list i ≡ Some d → owner_at (told list) i ≡ Some d.unit
+      owner_told i d is_d = ap (option_map (λ (x : Owned Span). x.owner)) (told_at list i ∙ ap (option_map (λ (e : Copy). record { item = e.span; owner = e.unit })) is_d)
+
+      full_before : (i : ℕ) → slice_get list i ≡ Some (record { unit = c.unit; place = p; span = h.span }) → p < c.place → i < q
+      full_before i is_i lt = elim (cases_lt i q) [
+        | inl less ↦ less
+        | inr more ↦ absurd (not_behind i is_i lt (cases_lt q i) more)
+      ]
+        where
+          not_behind : (i : ℕ) → slice_get list i ≡ Some (record { unit = c.unit; place = p; span = h.span }) → p < c.place → (q < i) ⊎ (i ≤ q) → q ≤ i → ⊥
+          not_behind i is_i lt (inl less) le = by ((are_copies kept_ranges a.keepers).sorted q i c (record { unit = c.unit; place = p; span = h.span }) less is is_i)
+            where
+              by : (c.unit < c.unit) ⊎ ((c.unit ≡ c.unit) × (c.place < p)) → ⊥
+              by (inl k) = omega arith
+              by (inr k) = let l = k.1 in omega arith
+          not_behind i is_i lt (inr more) le =
+              let e : i ≡ q = omega arith in
+              let same : record { unit = c.unit; place = p; span = h.span } ≡ c = some_is (record { unit = c.unit; place = p; span = h.span }) c (sym is_i ∙ subst (λ (n : ℕ). slice_get list n ≡ Some c) (sym e) is) in
+              let k : p ≡ c.place = ap (λ (d : Copy). d.place) same in
+              omega arith
+
+      full_after : (i : ℕ) → slice_get list i ≡ Some (record { unit = c.unit; place = p; span = h.span }) → After p h.span c.place c.span → After i h.span q c.span
+      full_after i is_i (inl less) = inl less
+      full_after i is_i (inr k) = inr (k.0, full_before i is_i k.1)
+
+  each_told : (q : ℕ) (s : Span) → slice_get (items_of (told list)) q ≡ Some s → covers s asked.addr ≡ true → (slice_get (items_of (told list_seen)) q ≡ Some s) ⊎ IsTold (told list) (told list_seen) asked.addr q s
+  each_told q s is reached =
+      let h = has_copy q s is in
+      let t = (are_copies kept_ranges a.keepers).told q h.copy h.is in
+      let unit : t.row ≡ h.copy.unit = omega (arith, t.unit_is) in
+      let row = subst (λ (n : ℕ). slice_get a.keepers n ≡ Some t.keeper) unit t.has in
+      let covered : covers h.copy.span asked.addr ≡ true = ap (λ (z : Span). covers z asked.addr) h.span_is ∙ reached in
+      elim (cases_Bool (is_seen asked kept_ranges h.copy.place)) [
+        | inl seen_it ↦ inl (shown_item q h.copy h.is ∙ ap (λ (z : Span). Some z) (shown_same h.copy seen_it ∙ h.span_is))
+        | inr hid ↦ inr (subst (λ (z : Span). IsTold (told list) (told list_seen) asked.addr q z) h.span_is (told_before q h.copy t.keeper h.is row t.is covered hid (best_in (by_owner kept_ranges) t.keeper asked.addr) refl (best_of_keeper kept_ranges t.keeper asked.addr (best_in (by_owner kept_ranges) t.keeper asked.addr) refl)))
+      ]
+
+  pub told_once : LeavesOut [] (owners_of (announced_all a).ranges (covering (items_of (announced_all a).ranges) asked.addr)) (owners_of (announced_all (seen_by asked a)).ranges (covering (items_of (announced_all (seen_by asked a)).ranges) asked.addr))
+  told_once = left_out (told list) (told list_seen) asked.addr same_owners among_all each_told

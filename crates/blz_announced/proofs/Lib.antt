@@ -1,0 +1,10 @@
+pub mod Copies
+pub mod NextCopies
+pub mod PlaceSteps
+pub mod RepeatSteps
+pub mod RowSteps
+pub mod SeenSteps
+pub mod SeenRanges
+pub mod BehindSteps
+pub mod LeftOver
+pub mod TurnSteps

@@ -1,0 +1,238 @@
+-- What is next among the ranges that are kept stands for what is next among all.
+use Rattle.std.proofs.Common.{◌≡◌, ℕ, zero, suc, ◌+◌, ◌*◌, ◌<◌, ◌≤◌, Bool, true, false, eqb, List, [], ◌∷◌, length, Option, Some, None, refl, sym, ap, subst, ◌∙◌, arith, inl, inr, ◌⊎◌}
+use Rattle.std.specs.Prelude.{◌&&◌, option_map, IfSome}
+use Rattle.std.specs.List.{slice_get}
+use Rattle.std.proofs.lemmas.Bool.{cases_lt, and_parts, and_from, eqb-true, eq-eqb, false≢true}
+use Rattle.std.proofs.lemmas.List.{length-map}
+use Rattle.blz_ranges.specs.declared.span.Span.{Span}
+use Rattle.blz_ranges.specs.Best.{best, covers, next, IsBest}
+use Rattle.blz_ranges.specs.Groups.{AreApart}
+use Rattle.blz_ranges.specs.Owned.{Owned, items_of, owner_at}
+use Rattle.blz_ranges.proofs.BestOf.{best_is, best_is_best}
+use Rattle.blz_announced.specs.declared.announced.Place.{Place}
+use Rattle.blz_announced.specs.Copies.{Announced, Copy, announced_all, announced_copies, begun, comes_first, full_place, goes_on, moved, told, HaveKeepers, IsLast, IsNextOwn, IsNextRepeat, IsOwn, IsPlaced, IsRepeat, StandsFor}
+use Rattle.blz_announced.proofs.Copies.{are_copies, within, AreCopies}
+use Rattle.blz_announced.proofs.NextCopies.{as_kept, best_none, best_some, has_item, is_at, is_next, item_at, moved_next, moved_placed, next_is, none_next, own_next, own_placed, placed_kept, precedes_repeat, repeat_next, repeat_placed, some_is, stands_before, IsAt, IsNext, Precedes}
+
+module _ (a : Announced) (rows : HaveKeepers a.kept.ranges a.keepers) (addr : ℕ) where
+  abbrev kept : List (Owned Span)
+  kept = a.kept.ranges
+
+  abbrev list : List Copy
+  list = announced_copies a
+
+  are : AreCopies kept a.keepers list
+  are = are_copies kept a.keepers
+
+  abbrev all : List Span
+  all = items_of (announced_all a).ranges
+
+  abbrev Stands : Option Place → Option ℕ → Type 0
+  Stands at place = StandsFor a addr at place
+
+  owner_is : (p keeper : ℕ) (s : Span) → slice_get kept p ≡ Some (record { item = s; owner = keeper }) → owner_at kept p ≡ Some keeper
+  owner_is p keeper s is = ap (option_map (λ (x : Owned Span). x.owner)) is
+
+  -- ---- the best one
+
+  first_by : (o : Option ℕ) → best (items_of kept) addr ≡ o → IsBest (λ at s. covers s addr) (items_of kept) o → Stands (begun kept o) (best all addr)
+  first_by None e b = record { is = best_is (λ at s. covers s addr) all None (best_none kept a.keepers list rows are addr e); placed = tt }
+  first_by (Some p) e b =
+      let h = has_item kept p b.span b.at in
+      rw (owner_is p h.keeper b.span h.is) (record {
+        is = best_is (λ at s. covers s addr) all (Some (full_place list (as_kept kept a.keepers list rows are addr p h.keeper))) (best_some kept a.keepers list rows are addr p b h.keeper h.is);
+        placed = placed_kept kept a.keepers list rows are addr p b h.keeper h.is;
+      })
+
+  pub first_stands : (o : Option ℕ) → o ≡ best (items_of kept) addr → Stands (begun kept o) (best all addr)
+  first_stands o e = first_by o (sym e) (subst (IsBest (λ at s. covers s addr) (items_of kept)) (sym e) (best_is_best (λ at s. covers s addr) (items_of kept)))
+
+  -- ---- the next one
+
+  module _ (at : Place) (w : IsPlaced kept a.keepers addr at) where
+    abbrev IsKeptNext : Option ℕ → Type 0
+    IsKeptNext o = IsNext (items_of kept) addr at.place w.span o
+
+    is_kept_next : (o : Option ℕ) → o ≡ next (items_of kept) addr at.place → IsKeptNext o
+    is_kept_next o e = next_is (items_of kept) addr at.place w.span o (item_at kept at.place (record { item = w.span; owner = w.keeper }) w.is) (sym e)
+
+    full_at : slice_get all (full_place list at) ≡ Some w.span
+    full_at = (is_at kept a.keepers list rows are addr at w.keeper w.span w.row w.is).full
+
+    is_full_next : (o : Option ℕ) → IsNext all addr (full_place list at) w.span o → o ≡ next all addr (full_place list at)
+    is_full_next o h = is_next all addr (full_place list at) w.span o full_at h
+
+    goes_is : (q keeper : ℕ) (t : Span) → slice_get kept q ≡ Some (record { item = t; owner = keeper }) → goes_on kept at.place (Some q) ≡ (eqb w.keeper keeper && eqb w.span.begin t.begin)
+    goes_is q keeper t is = rw (item_at kept at.place (record { item = w.span; owner = w.keeper }) w.is, item_at kept q (record { item = t; owner = keeper }) is, owner_is at.place w.keeper w.span w.is, owner_is q keeper t is) refl
+
+    moved_by : (o : Option ℕ) → IsKeptNext o → goes_on kept at.place o ≡ true → Stands (moved at o) (next all addr (full_place list at))
+    moved_by None n goes = absurd cc
+    moved_by (Some q) n goes =
+        let h = has_item kept q n.span n.at in
+        let both = and_parts _ _ (sym (goes_is q h.keeper n.span h.is) ∙ goes) in
+        let same : h.keeper ≡ w.keeper = sym (eqb-true w.keeper h.keeper both.0) in
+        let begin : n.span.begin ≡ w.span.begin = sym (eqb-true w.span.begin n.span.begin both.1) in
+        let is = subst (λ (k : ℕ). slice_get kept q ≡ Some (record { item = n.span; owner = k })) same h.is in
+        record {
+          is = is_full_next (Some (full_place list (record { place = q; unit = at.unit }))) (moved_next kept a.keepers list rows are addr at w q n is begin);
+          placed = moved_placed kept a.keepers list rows are addr at w q n is begin;
+        }
+
+    moved_stands : (o : Option ℕ) → o ≡ next (items_of kept) addr at.place → goes_on kept at.place o ≡ true → Stands (moved at o) (next all addr (full_place list at))
+    moved_stands o e goes = moved_by o (is_kept_next o e) goes
+
+    -- no range of its keeper that begins alike is next
+
+    last_by : (o : Option ℕ) → IsKeptNext o → goes_on kept at.place o ≡ false → (q : ℕ) (t : Span) → slice_get kept q ≡ Some (record { item = t; owner = w.keeper }) → covers t addr ≡ true → t.begin ≡ w.span.begin → at.place < q → ⊥
+    last_by None n goes q t is reached same lt = n q t (item_at kept q (record { item = t; owner = w.keeper }) is) reached (inr (same, lt))
+    last_by (Some r) n goes q t is reached same lt =
+        let h = has_item kept r n.span n.at in
+        let k = n.first q t (item_at kept q (record { item = t; owner = w.keeper }) is) reached (inr (same, lt)) in
+        let begin : n.span.begin ≡ w.span.begin = not_above k.below n.behind in
+        let le = k.tie (same ∙ sym begin) in
+        let lower = rows.sorted at.place r (record { item = w.span; owner = w.keeper }) (record { item = n.span; owner = h.keeper }) (behind_it begin n.behind) w.is h.is in
+        let upper = rows.sorted r q (record { item = n.span; owner = h.keeper }) (record { item = t; owner = w.keeper }) le h.is is in
+        let keeper : w.keeper ≡ h.keeper = omega arith in
+        false≢true (sym goes ∙ (goes_is r h.keeper n.span h.is ∙ and_from _ _ (eq-eqb w.keeper h.keeper keeper) (eq-eqb w.span.begin n.span.begin (sym begin))))
+      where
+        not_above : t.begin ≤ n.span.begin → (n.span.begin < w.span.begin) ⊎ ((n.span.begin ≡ w.span.begin) × (at.place < r)) → n.span.begin ≡ w.span.begin
+        not_above le (inl less) = absurd (omega arith)
+        not_above le (inr h) = h.0
+
+        behind_it : n.span.begin ≡ w.span.begin → (n.span.begin < w.span.begin) ⊎ ((n.span.begin ≡ w.span.begin) × (at.place < r)) → at.place ≤ r
+        behind_it e (inl less) = absurd (omega arith)
+        behind_it e (inr h) = let k = h.1 in omega arith
+
+    is_last : (o : Option ℕ) → o ≡ next (items_of kept) addr at.place → goes_on kept at.place o ≡ false → IsLast kept addr w.span.begin at.place
+    is_last o e goes = λ keeper q t own is reached same lt.
+        let k : keeper ≡ w.keeper = some_is keeper w.keeper (sym own ∙ owner_is at.place w.keeper w.span w.is) in
+        last_by o (is_kept_next o e) goes q t (subst (λ (n : ℕ). slice_get kept q ≡ Some (record { item = t; owner = n })) k is) reached same lt
+
+    pub moved_found : (o : Option ℕ) → o ≡ next (items_of kept) addr at.place → goes_on kept at.place o ≡ true → IfSome (moved at o) (λ _. Stands (moved at o) (next all addr (full_place list at)))
+    moved_found None e goes = tt
+    moved_found (Some q) e goes = moved_stands (Some q) e goes
+
+    pub is_last_at : (o : Option ℕ) → o ≡ next (items_of kept) addr at.place → goes_on kept at.place o ≡ false → (x : Owned Span) → slice_get kept at.place ≡ Some x → IsLast kept addr x.item.begin at.place
+    is_last_at o e goes x is = subst (λ (b : ℕ). IsLast kept addr b at.place) (ap (λ (y : Owned Span). y.item.begin) (some_is (record { item = w.span; owner = w.keeper }) x (sym w.is ∙ is))) (is_last o e goes)
+
+    -- ---- behind its unit
+
+    module _ (last : IsLast kept addr w.span.begin at.place) where
+      last_one : (q : ℕ) (t : Span) → slice_get kept q ≡ Some (record { item = t; owner = w.keeper }) → covers t addr ≡ true → t.begin ≡ w.span.begin → at.place < q → ⊥
+      last_one q t is reached same lt = last w.keeper q t (owner_is at.place w.keeper w.span w.is) is reached same lt
+
+      own_by : (q : ℕ) (n : IsOwn kept at.unit addr w.span.begin q) → Precedes kept a.keepers list rows are addr at w q n → Stands (begun kept (Some q)) (next all addr (full_place list at))
+      own_by q n precedes =
+          rw (owner_is q n.range.owner n.range.item n.is) (record {
+            is = is_full_next (Some (full_place list (as_kept kept a.keepers list rows are addr q n.range.owner))) (own_next kept a.keepers list rows are addr at w last_one q n precedes);
+            placed = own_placed kept a.keepers list rows are addr at w q n;
+          })
+
+      own_stands : (o : Option ℕ) → IsNextOwn kept at.unit addr w.span.begin o → IsNextRepeat kept a.keepers at.unit addr w.span.begin None → Stands (begun kept o) (next all addr (full_place list at))
+      own_stands None own repeat = record { is = is_full_next None (none_next kept a.keepers list rows are addr at w last_one own repeat); placed = tt }
+      own_stands (Some q) own repeat = own_by q own (λ other k p lt row less alike. absurd (repeat other k p lt row less alike))
+
+      own_first_stands : (o : Option ℕ) → IsNextOwn kept at.unit addr w.span.begin o → (r : Place) → IsRepeat kept a.keepers at.unit addr w.span.begin r → comes_first kept w.span.begin r.unit o ≡ true → Stands (begun kept o) (next all addr (full_place list at))
+      own_first_stands None own r repeat e = absurd cc
+      own_first_stands (Some q) own r repeat e = own_by q own (precedes_repeat kept a.keepers list rows are addr at w q own r repeat e)
+
+      repeat_stands : (o : Option ℕ) → IsNextOwn kept at.unit addr w.span.begin o → (r : Place) → IsRepeat kept a.keepers at.unit addr w.span.begin r → comes_first kept w.span.begin r.unit o ≡ false → Stands (Some r) (next all addr (full_place list at))
+      repeat_stands o own r repeat e = record {
+        is = is_full_next (Some (full_place list r)) (repeat_next kept a.keepers list rows are addr at w last_one o own r repeat e);
+        placed = repeat_placed kept a.keepers list rows are addr at w r repeat;
+      }
+
+    pub first_owner : (x : Owned Span) → slice_get kept 0 ≡ Some x → x.owner ≤ at.unit
+    first_owner x is =
+        let up = rows.sorted 0 at.place x (record { item = w.span; owner = w.keeper }) (omega arith) is w.is in
+        let le = rows.before at.unit w.keeper w.row in
+        omega arith
+
+    pub begin_read : (s : Span) → slice_get (items_of kept) at.place ≡ Some s → w.span.begin ≡ s.begin
+    begin_read s is = ap (λ (t : Span). t.begin) (some_is w.span s (sym (item_at kept at.place (record { item = w.span; owner = w.keeper }) w.is) ∙ is))
+
+    -- by the begin as it was read
+    module _ (begin : ℕ) (is_begin : w.span.begin ≡ begin) where
+      pub own_behind : IsLast kept addr begin at.place → (o : Option ℕ) → IsNextOwn kept at.unit addr begin o → IsNextRepeat kept a.keepers at.unit addr begin None → Stands (begun kept o) (next all addr (full_place list at))
+      own_behind = subst (λ (b : ℕ). IsLast kept addr b at.place → (o : Option ℕ) → IsNextOwn kept at.unit addr b o → IsNextRepeat kept a.keepers at.unit addr b None → Stands (begun kept o) (next all addr (full_place list at))) is_begin (λ last o own repeat. own_stands last o own repeat)
+
+      pub own_first : IsLast kept addr begin at.place → (o : Option ℕ) → IsNextOwn kept at.unit addr begin o → (r : Place) → IsRepeat kept a.keepers at.unit addr begin r → comes_first kept begin r.unit o ≡ true → Stands (begun kept o) (next all addr (full_place list at))
+      own_first = subst (λ (b : ℕ). IsLast kept addr b at.place → (o : Option ℕ) → IsNextOwn kept at.unit addr b o → (r : Place) → IsRepeat kept a.keepers at.unit addr b r → comes_first kept b r.unit o ≡ true → Stands (begun kept o) (next all addr (full_place list at))) is_begin (λ last o own r repeat e. own_first_stands last o own r repeat e)
+
+      pub repeat_first : IsLast kept addr begin at.place → (o : Option ℕ) → IsNextOwn kept at.unit addr begin o → (r : Place) → IsRepeat kept a.keepers at.unit addr begin r → comes_first kept begin r.unit o ≡ false → Stands (Some r) (next all addr (full_place list at))
+      repeat_first = subst (λ (b : ℕ). IsLast kept addr b at.place → (o : Option ℕ) → IsNextOwn kept at.unit addr b o → (r : Place) → IsRepeat kept a.keepers at.unit addr b r → comes_first kept b r.unit o ≡ false → Stands (Some r) (next all addr (full_place list at))) is_begin (λ last o own r repeat e. repeat_stands last o own r repeat e)
+
+-- ---- looks
+
+module _ (a : Announced) (rows : HaveKeepers a.kept.ranges a.keepers) where
+  abbrev ranges : List (Owned Span)
+  ranges = a.kept.ranges
+
+  abbrev copies_in : List Copy
+  copies_in = announced_copies a
+
+  abbrev all_in : List Span
+  all_in = items_of (announced_all a).ranges
+
+  -- where a range that is kept stands among all, as that of its keeper
+  abbrev own_place : ℕ → ℕ → Place
+  own_place p keeper = record { place = p; unit = keeper }
+
+  stands_at : (p keeper : ℕ) (s : Span) → slice_get ranges p ≡ Some (record { item = s; owner = keeper }) → IsAt ranges a.keepers copies_in rows (are_copies ranges a.keepers) 0 (own_place p keeper) s
+  stands_at p keeper s is = is_at ranges a.keepers copies_in rows (are_copies ranges a.keepers) 0 (own_place p keeper) keeper s (rows.ranges p (record { item = s; owner = keeper }) is) is
+
+  same_place : (p q m n : ℕ) (s t : Span) → slice_get ranges p ≡ Some (record { item = s; owner = m }) → slice_get ranges q ≡ Some (record { item = t; owner = n }) → full_place copies_in (own_place p m) ≡ full_place copies_in (own_place q n) → p ≡ q
+  same_place p q m n s t is_p is_q e =
+      let x = (stands_at p m s is_p).copy in
+      let y = (stands_at q n t is_q).copy in
+      let z = subst (λ (k : ℕ). slice_get copies_in k ≡ Some (record { unit = m; place = p; span = s })) e x in
+      let same : Some (record { unit = m; place = p; span = s }) ≡ Some (record { unit = n; place = q; span = t }) = sym z ∙ y in
+      let one = some_is (record { unit = m; place = p; span = s }) (record { unit = n; place = q; span = t }) same in
+      ap (λ (x : Copy). x.place) one
+
+  pub apart_kept : AreApart all_in → AreApart (items_of ranges)
+  apart_kept apart = record {
+    nonempty = λ p s is. let h = has_item ranges p s is in apart.nonempty (full_place copies_in (own_place p h.keeper)) s (stands_at p h.keeper s h.is).full;
+    apart = λ p q s t differ is_s is_t.
+        let g = has_item ranges p s is_s in
+        let h = has_item ranges q t is_t in
+        apart.apart (full_place copies_in (own_place p g.keeper)) (full_place copies_in (own_place q h.keeper)) s t (λ e. differ (same_place p q g.keeper h.keeper s t g.is h.is e)) (stands_at p g.keeper s g.is).full (stands_at q h.keeper t h.is).full;
+  }
+
+  there_below : (p : ℕ) (l : List (Owned Span)) → p < length l → (x : Owned Span) × (slice_get l p ≡ Some x)
+  there_below p [] lt = absurd (omega arith)
+  there_below zero (x ∷ l) lt = (x, refl)
+  there_below (suc p) (x ∷ l) lt = there_below p l (omega arith)
+
+  -- no place of a range that is kept is greater than that which it has among all
+  rises : (p : ℕ) (x : Owned Span) → slice_get ranges p ≡ Some x → p ≤ full_place copies_in (own_place p x.owner)
+  rises zero x is = omega arith
+  rises (suc p) x is =
+      let lt = within ranges (suc p) x is in
+      let y = there_below p ranges (omega arith) in
+      let le = rises p y.0 y.1 in
+      let up = rows.sorted p (suc p) y.0 x (omega arith) y.1 is in
+      let less = stands_before ranges a.keepers copies_in rows (are_copies ranges a.keepers) 0 (full_place copies_in (own_place p y.0.owner)) (full_place copies_in (own_place (suc p) x.owner)) (record { unit = y.0.owner; place = p; span = y.0.item }) (record { unit = x.owner; place = suc p; span = x.item }) (stands_at p y.0.owner y.0.item y.1).copy (stands_at (suc p) x.owner x.item is).copy (by y.0.owner x.owner up) in
+      omega arith
+    where
+      by : (m n : ℕ) → m ≤ n → (m < n) ⊎ ((m ≡ n) × (p < suc p))
+      by m n le = elim (cases_lt m n) [ inl lt ↦ inl lt | inr ge ↦ inr (omega arith, omega arith) ]
+
+  fewer : (n : ℕ) → n ≡ length ranges → n ≤ length copies_in
+  fewer zero e = omega arith
+  fewer (suc n) e =
+      let x = there_below n ranges (omega arith) in
+      let le = rises n x.0 x.1 in
+      let lt = within copies_in (full_place copies_in (own_place n x.0.owner)) (record { unit = x.0.owner; place = n; span = x.0.item }) (stands_at n x.0.owner x.0.item x.1).copy in
+      omega arith
+
+  -- a bound that was proved of the ranges that are kept
+  pub first_cost : (spans : List Span) (ordered : Bool) (cost : ℕ) → items_of ranges ≡ spans → (ordered ≡ true → AreApart spans → cost ≤ 4 * (2 * length spans + 1)) → ordered ≡ true → AreApart all_in → cost ≤ 4 * (2 * length (announced_all a).ranges + 1)
+  first_cost spans ordered cost e few is apart =
+      let k = few is (subst AreApart e (apart_kept apart)) in
+      let l = ap length e in
+      let m = length-map ranges (λ (x : Owned Span). x.item) in
+      let n = fewer (length ranges) refl in
+      let o : length (told copies_in) ≡ length copies_in = length-map copies_in (λ (c : Copy). record { item = c.span; owner = c.unit }) in
+      let t : length (announced_all a).ranges ≡ length (told copies_in) = refl in
+      omega arith

@@ -1,0 +1,14 @@
+use Rattle.std.proofs.Common.{◌≡◌, Some, arith, subst, sym}
+use Rattle.std.specs.List.{slice_get}
+use Rattle.blz_announced.specs.Copies.{KeptRanges}
+use Rattle.blz_announced.proofs.RowSteps.{again_kept, again_unit}
+use Rattle.blz_announced.proofs.kept_ranges.KeptRanges.with_keeper.Goals as goal
+
+pub invariant_of-self : goal.invariant_of-self
+invariant_of-self c =
+    let is = subst (λ (k : KeptRanges). slice_get k.keepers c.args.keeper ≡ Some c.args.keeper) (sym c.self.view_is) c.requires in
+    again_kept c.self.inside.spans.items c.self.inside.owners.items c.self.inside.keepers (record { of_units = c.push.new.self; ends = c.push-2.new.self; repeats = c.push-3.new.self }) c.self.inside.last c.self.inside.from c.args.keeper c.len-unit.result c.len.result c.self.invariant is
+    c.in_ok-push.ensures.items c.in_ok-push-2.ensures.items (omega arith) c.in_ok-push-3.ensures.items (omega arith)
+
+pub returns : goal.returns
+returns c = rw (← c.self.view_is, c.in_ok-push.ensures.items) (again_unit _ c.self.invariant.are.have c.args.keeper)

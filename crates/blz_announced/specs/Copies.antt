@@ -1,0 +1,266 @@
+-- What units announce, kept once for those that announce one list, and all that it stands for. The first of such units is
+-- the keeper of each of them, and what is kept belongs to keepers.
+use Rattle.std.specs.Prelude.{◌≡◌, ℕ, zero, suc, ◌+◌, ◌<◌, ◌≤◌, Bool, true, false, List, [], ◌∷◌, ◌++◌, length, drop, map, Option, Some, None, IfSome, ◌⊎◌, ◌&&◌, ◌==◌, nat_lt, if◌then◌else◌, option_map, unwrap_or}
+use Rattle.std.specs.List.{slice_get}
+use Rattle.std.specs.List.Sorted.{IsNonDecreasingBy}
+use Rattle.blz_ranges.specs.declared.span.Span.{Span}
+use Rattle.blz_ranges.specs.Best.{covers, next, NotAfter}
+use Rattle.blz_ranges.specs.Owned.{Owned, items_of, own_all, owned, owner_at}
+use Rattle.blz_ranges.specs.Ranges.{OwnedRanges}
+use Rattle.blz_announced.specs.declared.announced.Place.{Place}
+use Rattle.blz_announced.specs.declared.keepers.Keepers.{Keepers}
+
+-- a range of a unit, and its place among the ranges that are kept
+pub record Copy : Type 0 where
+  pub unit : ℕ
+  pub place : ℕ
+  pub span : Span
+
+-- what a keeper announces, as the ranges of one of its units; at is the place of the first range
+unfoldable pub copies_of : ℕ → ℕ → ℕ → List (Owned Span) → List Copy
+copies_of unit keeper at [] = []
+copies_of unit keeper at (x ∷ kept) = if x.owner == keeper then record { unit = unit; place = at; span = x.item } ∷ copies_of unit keeper (suc at) kept else copies_of unit keeper (suc at) kept
+
+-- the ranges of the units from a number on, by their keepers
+unfoldable pub copies : List (Owned Span) → ℕ → List ℕ → List Copy
+copies kept unit [] = []
+copies kept unit (keeper ∷ keepers) = copies_of unit keeper 0 kept ++ copies kept (suc unit) keepers
+
+abbrev pub told : List Copy → List (Owned Span)
+told list = map (λ (c : Copy). record { item = c.span; owner = c.unit }) list
+
+-- all ranges of all units
+abbrev pub all_ranges : List (Owned Span) → List ℕ → List (Owned Span)
+all_ranges kept keepers = told (copies kept 0 keepers)
+
+-- what a keeper announces
+abbrev pub list_of : List (Owned Span) → ℕ → List Span
+list_of kept keeper = map (λ (c : Copy). c.span) (copies_of keeper keeper 0 kept)
+
+-- Keepers are their own, and stand at or before their units; ranges stand in the order of their keepers.
+pub record HaveKeepers (kept : List (Owned Span)) (keepers : List ℕ) : Type 0 where
+  pub before : (unit keeper : ℕ) → slice_get keepers unit ≡ Some keeper → keeper ≤ unit
+  pub own : (unit keeper : ℕ) → slice_get keepers unit ≡ Some keeper → slice_get keepers keeper ≡ Some keeper
+  pub ranges : (place : ℕ) (x : Owned Span) → slice_get kept place ≡ Some x → slice_get keepers x.owner ≡ Some x.owner
+  pub sorted : (place other : ℕ) (x y : Owned Span) → place ≤ other → slice_get kept place ≡ Some x → slice_get kept other ≡ Some y → x.owner ≤ y.owner
+
+-- For each unit where the ranges of the units up to it end.
+pub record AreEnds (kept : List (Owned Span)) (keepers ends : List ℕ) : Type 0 where
+  pub count : length ends ≡ length keepers
+  pub within : (unit end : ℕ) → slice_get ends unit ≡ Some end → end ≤ length kept
+  pub below : (unit end place : ℕ) (x : Owned Span) → slice_get ends unit ≡ Some end → slice_get kept place ≡ Some x → place < end → x.owner ≤ unit
+  pub above : (unit end place : ℕ) (x : Owned Span) → slice_get ends unit ≡ Some end → slice_get kept place ≡ Some x → end ≤ place → unit < x.owner
+
+-- where the ranges of a unit begin
+abbrev pub start_of : List ℕ → ℕ → ℕ
+start_of ends zero = 0
+start_of ends (suc unit) = unwrap_or (slice_get ends unit) 0
+
+-- All units that are not their own keepers, in their order.
+pub record AreRepeats (keepers repeats : List ℕ) : Type 0 where
+  pub rising : IsNonDecreasingBy (λ (n : ℕ). n) repeats
+  pub units : (at unit : ℕ) → slice_get repeats at ≡ Some unit → unit < length keepers
+  pub all : (unit keeper : ℕ) → slice_get keepers unit ≡ Some keeper → keeper < unit → (at : ℕ) × (slice_get repeats at ≡ Some unit)
+
+-- Up to a place no number of a list is above one, and from there on each is.
+pub record IsSplitAt (list : List ℕ) (n at : ℕ) : Type 0 where
+  pub within : at ≤ length list
+  pub above : (i x : ℕ) → at ≤ i → slice_get list i ≡ Some x → n < x
+  pub below : (i x : ℕ) → i < at → slice_get list i ≡ Some x → x ≤ n
+
+-- The keepers of units, with what is found by them.
+pub record AreKeepers (kept : List (Owned Span)) (k : Keepers) : Type 0 where
+  pub have : HaveKeepers kept k.of_units.items
+  pub ends : AreEnds kept k.of_units.items k.ends.items
+  pub repeats : AreRepeats k.of_units.items k.repeats.items
+
+-- ---- what is kept, as it is seen
+
+pub record Announced : Type 0 where
+  pub kept : OwnedRanges
+  pub keepers : List ℕ
+
+abbrev pub announced_copies : Announced → List Copy
+announced_copies a = copies a.kept.ranges 0 a.keepers
+
+-- what it stands for
+abbrev pub announced_all : Announced → OwnedRanges
+announced_all a = record { ranges = all_ranges a.kept.ranges a.keepers; ordered = a.kept.ordered }
+
+-- ---- while units are read
+
+pub record KeptRanges : Type 0 where
+  pub ranges : List (Owned Span)
+  pub keepers : List ℕ
+
+abbrev pub all_kept : KeptRanges → List (Owned Span)
+all_kept k = all_ranges k.ranges k.keepers
+
+-- What is kept while units are read: the ranges from a place on are those of one keeper.
+pub record AreKeptOnce (spans : List Span) (owners : List ℕ) (k : Keepers) (keeper from : ℕ) : Type 0 where
+  pub same : length spans ≡ length owners
+  pub are : AreKeepers (owned spans owners) k
+  pub within : from ≤ length spans
+  pub own : 0 < length k.of_units.items → slice_get k.of_units.items keeper ≡ Some keeper
+  pub list : list_of (owned spans owners) keeper ≡ drop from spans
+
+-- A unit announces some ranges if it has that keeper, and none without one.
+abbrev pub IsListOf : KeptRanges → List Span → Option ℕ → Type 0
+IsListOf k spans None = spans ≡ []
+IsListOf k spans (Some keeper) = (slice_get k.keepers keeper ≡ Some keeper) × (list_of k.ranges keeper ≡ spans)
+
+-- one unit more, which is its own keeper
+abbrev pub with_list : KeptRanges → List Span → KeptRanges
+with_list k spans = record { ranges = k.ranges ++ own_all (length k.keepers) spans; keepers = k.keepers ++ length k.keepers ∷ [] }
+
+-- One unit more, which announces a list; what the keepers of others announce stays.
+pub record IsWithUnit (old : KeptRanges) (spans : List Span) (new : KeptRanges) : Type 0 where
+  pub all : all_kept new ≡ all_kept old ++ own_all (length old.keepers) spans
+  pub count : length new.keepers ≡ length old.keepers + 1
+  pub others : (list : List Span) (keeper : Option ℕ) → IsListOf old list keeper → IsListOf new list keeper
+
+-- one unit more, which announces what one with a keeper does
+abbrev pub IsOnceMore : KeptRanges → Option ℕ → KeptRanges → Type 0
+IsOnceMore old keeper new = (spans : List Span) → IsListOf old spans keeper → IsWithUnit old spans new
+
+-- one unit more, with its keeper
+pub record IsWithKeeper (old : KeptRanges) (spans : List Span) (new : KeptRanges × Option ℕ) : Type 0 where
+  pub with_unit : IsWithUnit old spans new.0
+  pub list : IsListOf new.0 spans new.1
+
+-- ---- the ranges that cover an address, one after the other
+
+-- where a range of a unit stands among all
+unfoldable pub place_of_copy : List Copy → ℕ → ℕ → ℕ
+place_of_copy [] unit place = 0
+place_of_copy (c ∷ list) unit place = if c.unit == unit && c.place == place then 0 else suc (place_of_copy list unit place)
+
+abbrev pub full_place : List Copy → Place → ℕ
+full_place list at = place_of_copy list at.unit at.place
+
+-- A place among the ranges that cover an address.
+pub record IsPlaced (kept : List (Owned Span)) (keepers : List ℕ) (addr : ℕ) (at : Place) : Type 0 where
+  pub keeper : ℕ
+  pub span : Span
+  pub is : slice_get kept at.place ≡ Some (record { item = span; owner = keeper })
+  pub row : slice_get keepers at.unit ≡ Some keeper
+  pub reached : covers span addr ≡ true
+
+-- whether two numbers are there and the same
+abbrev pub same_number : Option ℕ → Option ℕ → Bool
+same_number None n = false
+same_number (Some m) None = false
+same_number (Some m) (Some n) = m == n
+
+abbrev pub begin_alike : Option Span → Option Span → Bool
+begin_alike None t = false
+begin_alike (Some s) None = false
+begin_alike (Some s) (Some t) = s.begin == t.begin
+
+-- whether two ranges are of one keeper and begin alike
+abbrev pub are_alike : List (Owned Span) → ℕ → ℕ → Bool
+are_alike kept place next = same_number (owner_at kept place) (owner_at kept next) && begin_alike (slice_get (items_of kept) place) (slice_get (items_of kept) next)
+
+abbrev pub goes_on : List (Owned Span) → ℕ → Option ℕ → Bool
+goes_on kept place None = false
+goes_on kept place (Some next) = are_alike kept place next
+
+-- the same unit at another place
+abbrev pub moved : Place → Option ℕ → Option Place
+moved at None = None
+moved at (Some place) = Some (record { place = place; unit = at.unit })
+
+-- a range as its keeper has it
+abbrev pub kept_at : Option ℕ → ℕ → Option Place
+kept_at None place = None
+kept_at (Some keeper) place = Some (record { place = place; unit = keeper })
+
+abbrev pub begun : List (Owned Span) → Option ℕ → Option Place
+begun kept None = None
+begun kept (Some place) = kept_at (owner_at kept place) place
+
+-- ---- the next unit with a range that begins alike
+
+-- No range of the keeper of a range comes after it that covers an address and begins at a number.
+abbrev pub IsLast : List (Owned Span) → ℕ → ℕ → ℕ → Type 0
+IsLast kept addr begin place = (keeper q : ℕ) (t : Span) → owner_at kept place ≡ Some keeper → slice_get kept q ≡ Some (record { item = t; owner = keeper }) → covers t addr ≡ true → t.begin ≡ begin → place < q → ⊥
+
+-- A range of a keeper that covers an address and begins at a number.
+pub record IsAlike (kept : List (Owned Span)) (keeper addr begin place : ℕ) : Type 0 where
+  pub span : Span
+  pub is : slice_get kept place ≡ Some (record { item = span; owner = keeper })
+  pub begins : span.begin ≡ begin
+  pub reached : covers span addr ≡ true
+
+-- the same as a test
+abbrev pub begins_at : ℕ → ℕ → Option Span → Bool
+begins_at addr begin None = false
+begins_at addr begin (Some s) = s.begin == begin && covers s addr
+
+abbrev pub is_alike : List (Owned Span) → ℕ → ℕ → ℕ → ℕ → Bool
+is_alike kept keeper addr begin place = same_number (owner_at kept place) (Some keeper) && begins_at addr begin (slice_get (items_of kept) place)
+
+-- the first of these
+abbrev pub IsFirstAlike : List (Owned Span) → ℕ → ℕ → ℕ → Option ℕ → Type 0
+IsFirstAlike kept keeper addr begin None = (q : ℕ) → IsAlike kept keeper addr begin q → ⊥
+IsFirstAlike kept keeper addr begin (Some place) = IsAlike kept keeper addr begin place × ((q : ℕ) → IsAlike kept keeper addr begin q → place ≤ q)
+
+-- The next unit that is not its own keeper and has such a range, at the first of these.
+pub record IsRepeat (kept : List (Owned Span)) (keepers : List ℕ) (unit addr begin : ℕ) (at : Place) : Type 0 where
+  pub keeper : ℕ
+  pub later : unit < at.unit
+  pub row : slice_get keepers at.unit ≡ Some keeper
+  pub first : IsFirstAlike kept keeper addr begin (Some at.place)
+  pub least : (other k q : ℕ) → unit < other → slice_get keepers other ≡ Some k → k < other → IsAlike kept k addr begin q → at.unit ≤ other
+
+abbrev pub IsNextRepeat : List (Owned Span) → List ℕ → ℕ → ℕ → ℕ → Option Place → Type 0
+IsNextRepeat kept keepers unit addr begin None = (other k q : ℕ) → unit < other → slice_get keepers other ≡ Some k → k < other → IsAlike kept k addr begin q → ⊥
+IsNextRepeat kept keepers unit addr begin (Some at) = IsRepeat kept keepers unit addr begin at
+
+-- a range that begins below a number, or there and is kept for a later unit
+abbrev pub IsLater : ℕ → ℕ → Owned Span → Type 0
+IsLater unit begin x = (x.item.begin < begin) ⊎ ((x.item.begin ≡ begin) × (unit < x.owner))
+
+-- The best of these that covers an address.
+pub record IsOwn (kept : List (Owned Span)) (unit addr begin place : ℕ) : Type 0 where
+  pub range : Owned Span
+  pub is : slice_get kept place ≡ Some range
+  pub reached : covers range.item addr ≡ true
+  pub later : IsLater unit begin range
+  pub first : (q : ℕ) (x : Owned Span) → slice_get kept q ≡ Some x → covers x.item addr ≡ true → IsLater unit begin x → NotAfter place range.item q x.item
+
+abbrev pub IsNextOwn : List (Owned Span) → ℕ → ℕ → ℕ → Option ℕ → Type 0
+IsNextOwn kept unit addr begin None = (q : ℕ) (x : Owned Span) → slice_get kept q ≡ Some x → covers x.item addr ≡ true → IsLater unit begin x → ⊥
+IsNextOwn kept unit addr begin (Some place) = IsOwn kept unit addr begin place
+
+abbrev pub no_longer : ℕ → Span
+no_longer begin = record { begin = begin; end = begin }
+
+abbrev pub is_below : ℕ → Option ℕ → Bool
+is_below unit None = false
+is_below unit (Some keeper) = nat_lt keeper unit
+
+-- whether a range begins at a number and is kept for a unit before another one
+abbrev pub comes_first : List (Owned Span) → ℕ → ℕ → Option ℕ → Bool
+comes_first kept begin unit None = false
+comes_first kept begin unit (Some place) = is_below unit (owner_at kept place) && begin_alike (slice_get (items_of kept) place) (Some (no_longer begin))
+
+-- a range, where it comes before those of a unit that begin at a number
+abbrev pub up_to : List (Owned Span) → ℕ → Option ℕ → Option ℕ → Option ℕ
+up_to kept begin None place = place
+up_to kept begin (Some unit) place = if comes_first kept begin unit place then place else None
+
+-- the next own one among those that are seen, up to a unit
+pub record IsOwnUpTo (seen kept : List (Owned Span)) (unit addr begin : ℕ) (before found : Option ℕ) : Type 0 where
+  pub own : Option ℕ
+  pub is : IsNextOwn seen unit addr begin own
+  pub up_to_it : found ≡ up_to kept begin before own
+
+-- a place that stands for one among all ranges
+pub record StandsFor (a : Announced) (addr : ℕ) (at : Option Place) (place : Option ℕ) : Type 0 where
+  pub is : option_map (full_place (announced_copies a)) at ≡ place
+  pub placed : IfSome at (IsPlaced a.kept.ranges a.keepers addr)
+
+-- what is next behind a place among all ranges
+abbrev pub IsBehind : Announced → ℕ → Place → Option Place → Type 0
+IsBehind a addr at found = StandsFor a addr found (next (items_of (announced_all a).ranges) addr (full_place (announced_copies a) at))

@@ -1,0 +1,57 @@
+-- What is seen of the ranges that are kept: all, or of each keeper the best alone that covers an address, so that no unit is
+-- told twice.
+use Rattle.std.specs.Prelude.{◌≡◌, ℕ, suc, Bool, true, false, List, [], ◌∷◌, map, Option, Some, None, ◌⊎◌, if◌then◌else◌}
+use Rattle.std.specs.List.{slice_get}
+use Rattle.blz_ranges.specs.declared.grouped.Grouped.{Grouped}
+use Rattle.blz_ranges.specs.declared.span.Span.{Span}
+use Rattle.blz_ranges.specs.Best.{no_span}
+use Rattle.blz_ranges.specs.Groups.{best_in, grouped}
+use Rattle.blz_ranges.specs.Owned.{Owned, items_of, owner_at, owners_of}
+use Rattle.blz_ranges.specs.Turns.{covering}
+use Rattle.blz_announced.specs.Announced.{Announcing}
+use Rattle.blz_announced.specs.Copies.{Announced, announced_all, same_number}
+use Rattle.blz_announced.specs.declared.announced.Asked.{Asked}
+
+-- the ranges in the groups of their keepers
+abbrev pub by_owner : List (Owned Span) → List Grouped
+by_owner kept = map (λ (x : Owned Span). grouped x.owner x.item) kept
+
+-- whether a range is the best of its keeper
+abbrev pub is_best_of : List (Owned Span) → ℕ → ℕ → Option ℕ → Bool
+is_best_of kept addr place None = false
+is_best_of kept addr place (Some keeper) = same_number (best_in (by_owner kept) keeper addr) (Some place)
+
+abbrev pub is_seen : Asked → List (Owned Span) → ℕ → Bool
+is_seen asked kept place = if asked.once then is_best_of kept asked.addr place (owner_at kept place) else true
+
+-- a range that covers nothing, in the place of one that is not seen
+abbrev pub hidden : Owned Span → Owned Span
+hidden x = record { item = no_span; owner = x.owner }
+
+unfoldable pub seen_from : Asked → List (Owned Span) → ℕ → List (Owned Span) → List (Owned Span)
+seen_from asked kept at [] = []
+seen_from asked kept at (x ∷ rest) = (if is_seen asked kept at then x else hidden x) ∷ seen_from asked kept (suc at) rest
+
+abbrev pub seen : Asked → List (Owned Span) → List (Owned Span)
+seen asked kept = seen_from asked kept 0 kept
+
+abbrev pub seen_by : Asked → Announced → Announced
+seen_by asked a = record { kept = record { ranges = seen asked a.kept.ranges; ordered = a.kept.ordered }; keepers = a.keepers }
+
+-- ---- lists without some items that stood before
+
+-- A number stands in a list.
+abbrev pub Holds : List ℕ → ℕ → Type 0
+Holds list n = (i : ℕ) × (slice_get list i ≡ Some n)
+
+-- A list without some of its items, each of which stands in another list or stood before it.
+abbrev pub LeavesOut : List ℕ → List ℕ → List ℕ → Type 0
+LeavesOut before [] few = few ≡ []
+LeavesOut before (n ∷ all) few = (Holds before n × LeavesOut before all few) ⊎ (rest : List ℕ) × (few ≡ n ∷ rest) × LeavesOut (n ∷ before) all rest
+
+-- the units that announce an address, before the first is asked for, without some that stand there again
+pub record IsOnce (a : Announced) (addr : ℕ) (units : Announcing) : Type 0 where
+  pub announced : units.announced ≡ announced_all a
+  pub address : units.address ≡ addr
+  pub fresh : units.fresh ≡ true
+  pub without : LeavesOut [] (owners_of (announced_all a).ranges (covering (items_of (announced_all a).ranges) addr)) units.left

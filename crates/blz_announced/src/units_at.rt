@@ -1,0 +1,115 @@
+//! The units that announce an address.
+ghost use Rattle.std.specs.Prelude.{◌≡◌, ◌≤◌, ◌*◌, ◌^◌, ◌-◌, ◌+◌, true, false, length, drop, Option};
+ghost use Rattle.std.specs.List.{slice_get};
+ghost use Rattle.blz_announced.specs.Announced.{is_first, left_at, places_left, turn_behind, IsTurn};
+ghost use Rattle.blz_announced.specs.Copies.{announced_all, StandsFor};
+ghost use Rattle.blz_announced.specs.Seen.{seen_by, IsOnce};
+ghost use Rattle.blz_ranges.specs.Groups.{AreApart};
+ghost use Rattle.blz_ranges.specs.Owned.{items_of};
+ghost use Rattle.blz_ranges.specs.Turns.{covering};
+ghost use Rattle.blz_ranges.specs.Owned.{owners_of};
+
+use crate::announced::{Announced, Asked, Place, unit_at};
+use blz_bytes::Steps;
+use std::marker::Model;
+use std::sync::ledger::Ledger;
+
+/// Which of the ranges that cover an address is next.
+#[derive(Clone, Copy)]
+enum Turn {
+    /// The best one.
+    First,
+    /// The one after the one at a place.
+    After(Place),
+    /// None.
+    Over,
+}
+
+/// The units that announce an address, from the next one on: by the ranges that cover it, those with the greatest begin
+/// first, then the earlier ones.
+#[derive(Drop)]
+pub struct UnitsAt<'u> {
+    announced: &'u Announced,
+    asked: Asked,
+    turn: Turn,
+}
+
+impl<'u> Model for UnitsAt<'u> {
+    ghost use Rattle.std.specs.Prelude.{◌≡◌};
+    ghost use Rattle.blz_announced.specs.Announced.{Announcing, is_first, units_left, IsTurn};
+    ghost use Rattle.blz_announced.specs.Copies.{announced_all};
+    ghost use Rattle.blz_announced.specs.Seen.{seen_by};
+
+    ghost Value = { Announcing };
+
+    ghost view = { λ u. record { announced = announced_all u.announced.now; address = u.asked.addr; left = units_left (seen_by u.asked u.announced.now) u.asked.addr u.turn; fresh = is_first u.turn } };
+
+    ghost invariant = { λ u. IsTurn (seen_by u.asked u.announced.now) u.asked.addr u.turn };
+}
+
+fn turn_behind(place: Option<Place>) -> Turn
+    ensures { result ≡ turn_behind place }
+{
+    match place {
+        Some(place) => Turn::After(place),
+        None => Turn::Over,
+    }
+}
+
+/// The place of the range whose turn it is.
+fn next_place<L: Ledger>(
+    announced: &Announced,
+    asked: Asked,
+    turn: Turn,
+    steps: &mut Steps<L>,
+) -> Option<Place>
+    requires { IsTurn (seen_by asked announced.now) asked.addr turn }
+    ensures place { StandsFor (seen_by asked announced.now) asked.addr result (slice_get (places_left (announced_all (seen_by asked announced.now)).ranges asked.addr (left_at (seen_by asked announced.now) turn)) 0) }
+    ensures cost { is_first turn ≡ true → announced.now.kept.ordered ≡ true → AreApart (items_of (announced_all announced.now).ranges) → 2 ^ (steps.new - steps.old) ≤ 4 * (2 * length (announced_all announced.now).ranges + 1) }
+    ensures later { steps.old ≤ steps.new }
+{
+    match turn {
+        Turn::First => announced.first(asked, steps),
+        Turn::After(place) => announced.after(asked, place, steps),
+        Turn::Over => None,
+    }
+}
+
+impl<'u> UnitsAt<'u> {
+    /// The units that announce an address.
+    pub fn new(announced: &'u Announced, addr: u64) -> UnitsAt<'u>
+        ensures { result ≡ record { announced = announced_all announced.now; address = addr; left = owners_of (announced_all announced.now).ranges (covering (items_of (announced_all announced.now).ranges) addr); fresh = true } }
+    {
+        let asked = Asked { addr, once: false };
+        UnitsAt {
+            announced,
+            asked,
+            turn: Turn::First,
+        }
+    }
+
+    /// The same, without some that were told before.
+    pub fn once(announced: &'u Announced, addr: u64) -> UnitsAt<'u>
+        ensures { IsOnce announced.now addr result }
+    {
+        let asked = Asked { addr, once: true };
+        UnitsAt {
+            announced,
+            asked,
+            turn: Turn::First,
+        }
+    }
+
+    /// The number of the next unit; None exactly where no further range covers the address. The bound of the looks holds
+    /// for the first unit that is asked for.
+    pub fn next_unit<L: Ledger>(&mut self, steps: &mut Steps<L>) -> Option<usize>
+        ensures unit { result ≡ slice_get self.old.left 0 }
+        ensures left { self.new ≡ record self.old { left = drop 1 self.old.left; fresh = false } }
+        ensures cost { self.old.fresh ≡ true → self.old.announced.ordered ≡ true → AreApart (items_of self.old.announced.ranges) → 2 ^ (steps.new - steps.old) ≤ 4 * (2 * length self.old.announced.ranges + 1) }
+        ensures later { steps.old ≤ steps.new }
+    {
+        let place = next_place(self.announced, self.asked, self.turn, steps);
+        self.turn = turn_behind(place);
+        unit_at(place)
+    }
+}
