@@ -3,6 +3,7 @@
 
 mod ending;
 mod lines;
+mod listed;
 mod outcome;
 mod program;
 mod reading;
@@ -12,6 +13,7 @@ mod words_given;
 
 pub use ending::{finish, write_all};
 pub use lines::first_line;
+pub use listed::Listed;
 pub use outcome::{LineFault, Outcome};
 pub use program::Program;
 pub use reading::read_file;
