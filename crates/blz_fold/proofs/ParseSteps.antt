@@ -1,18 +1,15 @@
 -- Reading stacks line by line, and addresses piece by piece.
-use Rattle.std.proofs.Common.{◌≡◌, ◌<◌, ◌≤◌, ◌+◌, ◌-◌, ◌^◌, ◌==◌, ℕ, zero, suc, Bool, true, false, nat_lt, List, [], ◌∷◌, ◌++◌, length, map, take, drop, slice_index, Option, Some, None, Result, Ok, Err, refl, sym, ap, ◌∙◌, if◌then◌else◌, arith, append_assoc}
-use Rattle.std.specs.Option.{option_map}
-use Rattle.std.specs.List.{sum_by}
+use Rattle.std.proofs.Common.{◌≡◌, ◌<◌, ◌≤◌, ◌+◌, ◌-◌, ◌^◌, ◌==◌, ℕ, zero, suc, Bool, true, false, nat_lt, List, [], ◌∷◌, ◌++◌, length, take, drop, Option, Some, None, Ok, Err, refl, sym, ap, ◌∙◌, if◌then◌else◌, arith, append_assoc}
 use Rattle.std.proofs.lemmas.Bool.Decides.{Decides-ltb}
 use Rattle.std.proofs.lemmas.List.{append-nil}
 use Rattle.std.proofs.lemmas.List.Sums.{sum_by-append, sum_by-cons}
 use Rattle.blz_error.specs.Texts.{Bytes}
 use Rattle.blz_program.specs.TextLines.{lines_of, with_first}
-use Rattle.blz_program.specs.Words.{address_of}
-use Rattle.blz_program.specs.declared.outcome.LineFault.{LineFault}
+use Rattle.blz_program.specs.Words.{address_of, each_address, joined_option}
 use Rattle.blz_program.specs.declared.outcome.LineFault.TheVariants.{BadForm, TooLarge}
 use Rattle.blz_program.proofs.Cuts.{EndsAt}
 use Rattle.blz_fold.specs.AddressStacks.{count_total}
-use Rattle.blz_fold.specs.StackLines.{Parsed, counted_in, cut_at_blank, each_address, joined_option, parsed_from, split, stack_of, with_front, with_stack}
+use Rattle.blz_fold.specs.StackLines.{Parsed, counted_in, cut_at_blank, parsed_from, split, stack_of, with_front, with_stack}
 use Rattle.blz_fold.specs.declared.stack_list.Stack.{Stack}
 
 test_false : (t : Bool) → ¬ (t ≡ true) → t ≡ false

@@ -1,8 +1,8 @@
 -- The text of stacks: a line for each, with its count, a blank, and its addresses joined by `;`, the outermost first.
-use Rattle.std.specs.Prelude.{◌≡◌, ℕ, ◌+◌, ◌-◌, ◌^◌, ◌==◌, nat_lt, ⊤, List, [], ◌∷◌, ◌++◌, Option, Some, None, Result, Ok, Err, if◌then◌else◌}
+use Rattle.std.specs.Prelude.{◌≡◌, ℕ, ◌+◌, ◌-◌, ◌^◌, ◌==◌, nat_lt, ⊤, List, [], ◌∷◌, Option, Some, None, Result, Ok, Err, if◌then◌else◌}
 use Rattle.blz_error.specs.Texts.{Bytes}
 use Rattle.blz_program.specs.TextLines.{lines_of, with_first}
-use Rattle.blz_program.specs.Words.{address_of, number_up_to}
+use Rattle.blz_program.specs.Words.{each_address, number_up_to}
 use Rattle.blz_program.specs.declared.outcome.LineFault.{LineFault}
 use Rattle.blz_program.specs.declared.outcome.LineFault.TheVariants.{BadForm, TooLarge}
 use Rattle.blz_fold.specs.declared.stack_list.Stack.{Stack}
@@ -22,16 +22,6 @@ cut_at_blank (b ∷ bs) = if b == 32 then Some ([], bs) else with_front b (cut_a
 abbrev pub split : Bytes → List Bytes
 split [] = [] ∷ []
 split (b ∷ bs) = if b == 59 then [] ∷ split bs else with_first b (split bs)
-
-abbrev pub joined_option : Option ℕ → Option (List ℕ) → Option (List ℕ)
-joined_option None rest = None
-joined_option (Some a) None = None
-joined_option (Some a) (Some rest) = Some (a ∷ rest)
-
--- the address of each piece, where each is one
-abbrev pub each_address : List Bytes → Option (List ℕ)
-each_address [] = Some []
-each_address (piece ∷ pieces) = joined_option (address_of piece) (each_address pieces)
 
 abbrev pub stack_with : Option ℕ → Option (List ℕ) → Option Stack
 stack_with None addresses = None

@@ -1,7 +1,8 @@
 //! The text of stacks.
-ghost use Rattle.std.specs.Prelude.{◌≡◌, ◌<◌, ◌^◌, ◌∷◌, [], IfErr, IfNone, IfOk, IfSome, MatchOption, Ok, Some, None, length, option_map};
+ghost use Rattle.std.specs.Prelude.{◌≡◌, ◌<◌, ◌^◌, ◌∷◌, [], IfErr, IfNone, IfOk, IfSome, Ok, length, option_map};
+ghost use Rattle.blz_program.specs.Words.{each_address};
 ghost use Rattle.blz_fold.specs.AddressStacks.{count_total};
-ghost use Rattle.blz_fold.specs.StackLines.{IsFault, cut_at_blank, each_address, parsed, split, stack_of};
+ghost use Rattle.blz_fold.specs.StackLines.{IsFault, cut_at_blank, parsed, split, stack_of};
 
 use crate::{Addresses, Stack, StackFault, Stacks};
 use blz_program::{address, first_line, number_up_to};

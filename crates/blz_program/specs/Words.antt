@@ -1,5 +1,5 @@
 -- Numbers as words.
-use Rattle.std.specs.Prelude.{ℕ, ◌+◌, ◌*◌, ◌-◌, ◌&&◌, nat_le, Bool, [], ◌∷◌, length, Option, Some, None, if◌then◌else◌, drop, nat_eq, codes}
+use Rattle.std.specs.Prelude.{ℕ, ◌+◌, ◌*◌, ◌-◌, ◌&&◌, nat_le, Bool, List, [], ◌∷◌, length, Option, Some, None, if◌then◌else◌, drop, nat_eq, codes}
 use Rattle.std.specs.List.{starts_with}
 use Rattle.blz_error.specs.Texts.{Bytes}
 
@@ -56,3 +56,13 @@ decimal_number (b ∷ bs) = if is_between 49 57 b then decimal_from (Some (b - 4
 -- a decimal number from 1 to the most, without leading zeros
 abbrev pub number_up_to : ℕ → Bytes → Option ℕ
 number_up_to most word = up_to most (decimal_number word)
+
+abbrev pub joined_option : Option ℕ → Option (List ℕ) → Option (List ℕ)
+joined_option None rest = None
+joined_option (Some addr) None = None
+joined_option (Some addr) (Some rest) = Some (addr ∷ rest)
+
+-- the address of each word, where each is one
+abbrev pub each_address : List Bytes → Option (List ℕ)
+each_address [] = Some []
+each_address (word ∷ words) = joined_option (address_of word) (each_address words)

@@ -9,7 +9,7 @@ use Rattle.blz_error.specs.Texts.{Bytes}
 use Rattle.blz_elf.specs.declared.opts.FindSymOpts.{FindSymOpts}
 use Rattle.blz_elf.specs.declared.opts.FindSymOpts.TheVariants.{Basic, CodeInfo, CodeInfoAndInlined}
 use Rattle.blz_program.specs.TextLines.{pieces_of}
-use Rattle.blz_program.specs.Words.{address_of, number_up_to}
+use Rattle.blz_program.specs.Words.{each_address, number_up_to}
 
 -- ---- the simple command
 
@@ -105,16 +105,6 @@ nonempty (part ∷ parts) = with_part part (nonempty parts)
 abbrev pub dirs_in : Bytes → List Bytes
 dirs_in text = nonempty (pieces_of 58 text)
 
-abbrev pub joined_option : Option ℕ → Option (List ℕ) → Option (List ℕ)
-joined_option None rest = None
-joined_option (Some addr) None = None
-joined_option (Some addr) (Some rest) = Some (addr ∷ rest)
-
--- the addresses, where each word is one
-abbrev pub addresses_of : List Bytes → Option (List ℕ)
-addresses_of [] = Some []
-addresses_of (word ∷ words) = joined_option (address_of word) (addresses_of words)
-
 abbrev pub asked_with : FindSymOpts → Option (List Bytes) → Bytes → Option (List ℕ) → Asked
 asked_with opts dirs path None = Malformed
 asked_with opts dirs path (Some addrs) = Resolve (record { opts = opts; dirs = dirs; path = path; addrs = addrs })
@@ -128,7 +118,7 @@ asked_demo None = Malformed
 asked_demo (Some n) = Demo n
 
 abbrev pub asked_by : Form → Asked
-asked_by (Lookup opts dirs path addrs) = asked_with opts (option_map dirs_in dirs) path (addresses_of addrs)
+asked_by (Lookup opts dirs path addrs) = asked_with opts (option_map dirs_in dirs) path (each_address addrs)
 asked_by (Sample number) = asked_demo (number_up_to most_functions number)
 asked_by NoForm = Malformed
 

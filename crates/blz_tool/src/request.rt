@@ -2,8 +2,8 @@
 ghost use Rattle.std.specs.Prelude.{◌≡◌, ◌⊎◌, ◌<◌, ◌∷◌, [], false, IfErr, IfOk, IfNone, IfSome, length, map, option_map, string_bytes};
 ghost use Rattle.clap.specs.Words.{takes};
 ghost use Rattle.blz_program.specs.TextLines.{pieces_of};
-ghost use Rattle.blz_tool.specs.CommandLine.{addresses_of, asked_by, asked_demo, asked_named, dirs_in, most_functions, tool_app};
-ghost use Rattle.blz_program.specs.Words.{number_up_to};
+ghost use Rattle.blz_tool.specs.CommandLine.{asked_by, asked_demo, asked_named, dirs_in, most_functions, tool_app};
+ghost use Rattle.blz_program.specs.Words.{each_address, number_up_to};
 ghost use Rattle.blz_tool.specs.Requests.{IsFew, form_view, request_view, words_in};
 
 use crate::command_line::{WordForm, form_in, matches_for};
@@ -103,7 +103,7 @@ fn demo_of<'a>(number: &str) -> Option<Request<'a>>
 
 // The address of each word, or None where a word is none.
 fn addresses(alloc: Global, words: Option<&[&str]>) -> Result<Option<Vec<u64>>, AllocError>
-    ensures { IfOk result (λ r. option_map (λ v. v.items) r ≡ addresses_of (words_in words.entry)) }
+    ensures { IfOk result (λ r. option_map (λ v. v.items) r ≡ each_address (words_in words.entry)) }
 {
     match words {
         Some(words) => addresses_in(alloc, words),
@@ -112,7 +112,7 @@ fn addresses(alloc: Global, words: Option<&[&str]>) -> Result<Option<Vec<u64>>, 
 }
 
 fn addresses_in(alloc: Global, words: &[&str]) -> Result<Option<Vec<u64>>, AllocError>
-    ensures { IfOk result (λ r. option_map (λ v. v.items) r ≡ addresses_of (map (λ w. w.now) words.now)) }
+    ensures { IfOk result (λ r. option_map (λ v. v.items) r ≡ each_address (map (λ w. w.now) words.now)) }
 {
     let mut addrs = Vec::with_capacity(alloc, words.len())?;
     for word in words {

@@ -1,5 +1,6 @@
 use Rattle.std.proofs.Common.{◌≡◌, length}
-use Rattle.blz_fold.specs.StackLines.{each_address, split}
+use Rattle.blz_program.specs.Words.{each_address}
+use Rattle.blz_fold.specs.StackLines.{split}
 use Rattle.blz_fold.proofs.ParseSteps.{behind_front}
 use Rattle.blz_fold.proofs.parsing.parse_addresses.Given as goal
 
