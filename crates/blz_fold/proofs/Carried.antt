@@ -1,7 +1,7 @@
 -- Names that stand for others, one for one: lines and nodes of the one are those of the other.
 use Rattle.std.proofs.Common.{◌≡◌, ℕ, zero, suc, Bool, true, false, ◌||◌, ◌&&◌, List, [], ◌∷◌, ◌++◌, map, length, take, refl, sym, ap, ◌∙◌, if◌then◌else◌, arith}
 use Rattle.std.specs.Cmp.Lexicographic.{pointwise}
-use Rattle.std.specs.List.{fold, flat_map, list_any, starts_with, sum_by, AllByRecursion}
+use Rattle.std.specs.List.{fold, flat_map, list_any, starts_with, AllByRecursion}
 use Rattle.std.proofs.lemmas.List.{map_push, map-append, length-map, take-map}
 use Rattle.std.proofs.lemmas.List.Sums.{sum_by-cons}
 use Rattle.blz_fold.specs.Counted.{Counted, Node, names_in, count_where, total_where, beginnings, with_new, distinct, line_of, lines_of, node_of, nodes_of}

@@ -1,5 +1,5 @@
 -- The count of a node is its own count and those of the nodes one name longer.
-use Rattle.std.proofs.Common.{◌≡◌, ◌≢◌, ◌<◌, ◌≤◌, ℕ, zero, suc, ◌+◌, min, nat_eq, Bool, true, false, not, ◌&&◌, ◌||◌, List, [], ◌∷◌, ◌++◌, map, length, take, refl, sym, ap, ◌∙◌, if◌then◌else◌, arith}
+use Rattle.std.proofs.Common.{◌≡◌, ◌≢◌, ◌<◌, ℕ, zero, suc, ◌+◌, min, nat_eq, Bool, true, false, not, ◌&&◌, ◌||◌, List, [], ◌∷◌, ◌++◌, map, length, take, refl, sym, ap, ◌∙◌, if◌then◌else◌, arith}
 use Rattle.std.specs.Bool.{Decides}
 use Rattle.std.specs.Cmp.Lexicographic.{pointwise}
 use Rattle.std.specs.List.{flat_map, list_any, starts_with, sum_by, AllByRecursion, IsDistinct}
@@ -7,7 +7,7 @@ use Rattle.std.proofs.lemmas.Bool.Decides.{Decides-eqb, Decides-and, Decides-not
 use Rattle.std.proofs.lemmas.List.{take_all, take-take, length-take}
 use Rattle.std.proofs.lemmas.List.Sums.{sum_by-cons}
 use Rattle.blz_fold.specs.Counted.{Counted, Node, names_in, count_where, total_where, beginnings, distinct, node_of, nodes_of, is_child, children_total, AddUp}
-use Rattle.blz_fold.proofs.Distinct.{same_swapped, any_distinct, distinct_apart, all_among, all_weaker}
+use Rattle.blz_fold.proofs.Distinct.{any_distinct, distinct_apart, all_among, all_weaker}
 use Rattle.blz_fold.proofs.Gathered.{names_match}
 use Rattle.blz_fold.proofs.Beginnings.{begins_with_itself}
 use Rattle.blz_fold.proofs.SumLemmas.{sum_same, sum_none, sum_map}

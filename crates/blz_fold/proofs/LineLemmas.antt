@@ -2,10 +2,10 @@
 use Rattle.std.proofs.Common.{◌≡◌, ℕ, ◌+◌, Bool, true, false, List, [], ◌∷◌, ◌++◌, map, refl, sym, ap, ◌∙◌, if◌then◌else◌, arith}
 use Rattle.std.specs.Bool.{Decides}
 use Rattle.std.specs.Cmp.Lexicographic.{pointwise}
-use Rattle.std.specs.List.{flat_map, starts_with, sum_by}
+use Rattle.std.specs.List.{flat_map, starts_with}
 use Rattle.std.proofs.lemmas.List.{map_push, append_assoc, append-nil}
 use Rattle.std.proofs.lemmas.List.Sums.{sum_by-cons}
-use Rattle.blz_fold.specs.Counted.{Counted, Node, names_in, count_in, count_where, total, total_where, beginnings, distinct, line_of, lines_of, node_of, nodes_of}
+use Rattle.blz_fold.specs.Counted.{Counted, Node, names_in, count_where, total, total_where, beginnings, distinct, line_of, lines_of, node_of, nodes_of}
 use Rattle.blz_fold.specs.Adding.{line_added, node_added}
 use Rattle.blz_fold.proofs.Distinct.{distinct_given}
 use Rattle.blz_fold.proofs.Gathered.{names_match, node_names, row, gathered, gathered_push}

@@ -1,14 +1,13 @@
 -- The beginnings of one line more, one after another.
-use Rattle.std.proofs.Common.{◌≡◌, ◌<◌, ◌≤◌, ◌+◌, ◌^◌, ℕ, zero, suc, nat_eq, Bool, true, false, min, List, [], ◌∷◌, ◌++◌, length, map, take, get_or, slice_get, Option, Some, refl, sym, ap, ◌∙◌, if◌then◌else◌, arith}
-use Rattle.std.specs.Bool.{Decides}
+use Rattle.std.proofs.Common.{◌≡◌, ◌<◌, ◌≤◌, ◌+◌, ◌^◌, ℕ, zero, suc, nat_eq, Bool, true, false, List, [], ◌∷◌, ◌++◌, length, map, take, get_or, slice_get, Option, Some, refl, sym, ap, ◌∙◌, if◌then◌else◌, arith}
 use Rattle.std.specs.Option.{unwrap_or}
 use Rattle.std.specs.Cmp.Lexicographic.{pointwise}
 use Rattle.std.specs.List.{AllByRecursion, flat_map, sum_by}
 use Rattle.std.proofs.lemmas.Bool.Decides.{Decides-eqb, Decides-like, same_from_decides}
 use Rattle.std.proofs.lemmas.List.{append-nil, append_assoc, get_or-map, length-map, length-take, take_all, take_more}
-use Rattle.std.proofs.lemmas.List.Sums.{sum_by-append, sum_by-cons, sum_by-take-le, sum_by_more_le, sum_by-le-sum_by}
+use Rattle.std.proofs.lemmas.List.Sums.{sum_by-append, sum_by-cons, sum_by-take-le, sum_by-le-sum_by}
 use Rattle.blz_fold.specs.Adding.{node_added}
-use Rattle.blz_fold.specs.Counted.{Counted, Node, beginnings, count_in, count_where, distinct, nodes_of, total}
+use Rattle.blz_fold.specs.Counted.{Counted, Node, beginnings, count_in, distinct, nodes_of, total}
 use Rattle.blz_fold.specs.Trees.{NodeFits, line_names, node_at}
 use Rattle.blz_fold.specs.declared.tree.Beginning.{Beginning}
 use Rattle.blz_fold.proofs.Beginnings.{begun, entries, entry_at, nodes_gathered, no_empty}

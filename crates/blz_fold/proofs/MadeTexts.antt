@@ -1,11 +1,11 @@
 -- What a run makes is what it finds.
-use Rattle.std.proofs.Common.{◌≡◌, ◌≢◌, ◌⊎◌, ℕ, Bool, true, false, List, Option, Some, None, Result, Ok, Err, refl, sym, ap, subst, ◌∙◌, inl, inr}
+use Rattle.std.proofs.Common.{◌≡◌, ◌≢◌, ◌⊎◌, ℕ, Bool, List, Option, Some, None, Result, Ok, Err, refl, sym, ap, subst, ◌∙◌, inl, inr}
 use Rattle.std.specs.FinMap as map
 use Rattle.std.specs.Str.{bytes_eq}
 use Rattle.blz_error.specs.Texts.{Bytes}
 use Rattle.blz_error.specs.declared.kind.ErrorKind.{ErrorKind}
 use Rattle.blz_error.specs.declared.kind.ErrorKind.TheVariants as kind
-use Rattle.blz_model.specs.Part.{Part, Good, Broken, ◌>>=◌}
+use Rattle.blz_model.specs.Part.{Good, Broken}
 use Rattle.blz_program.specs.Reading.{FindsNothing, Holds}
 use Rattle.std.specs.Result.{IfOk}
 use Rattle.std.specs.declared.vec.Vec.{Vec}
@@ -16,7 +16,7 @@ use Rattle.blz_program.proofs.Ends.{HasKindCause-format, HasKindCause-weaker, Is
 use Rattle.blz_resolver.specs.Contents.{Contents}
 use Rattle.blz_resolver.specs.FormatKinds.{IsFormatKind, IsMemoryOrFormat}
 use Rattle.blz_resolver.specs.Images.{ImageSet}
-use Rattle.blz_resolver.specs.Opening.{Opens, default_dirs, opened}
+use Rattle.blz_resolver.specs.Opening.{Opens, default_dirs}
 use Rattle.blz_resolver.specs.Outcomes.{HasKindCause}
 use Rattle.blz_fold.specs.Counted.{Counted, lines_of, nodes_of}
 use Rattle.blz_fold.specs.Naming.{FoldedNames, fold_of, folded_names, named_lines, named_stacks}

@@ -1,9 +1,9 @@
 -- Lists that are made item by item, and read by index.
-use Rattle.std.proofs.Common.{◌≡◌, ◌<◌, ◌≤◌, ◌+◌, ℕ, zero, suc, List, [], ◌∷◌, ◌++◌, length, map, take, get_or, slice_get, Option, Some, None, refl, sym, ap, ◌∙◌, arith, Bor}
+use Rattle.std.proofs.Common.{◌≡◌, ◌<◌, ◌+◌, ℕ, zero, suc, List, [], ◌∷◌, ◌++◌, length, map, take, get_or, slice_get, Option, Some, None, refl, sym, ap, ◌∙◌, arith, Bor}
 use Rattle.std.specs.Option.{option_map, unwrap_or}
 use Rattle.std.proofs.lemmas.List.{map_push, get_or-map, length-map, take-map}
 use Rattle.blz_error.specs.Texts.{Bytes}
-use Rattle.blz_fold.specs.Counted.{Counted, Node, names_in}
+use Rattle.blz_fold.specs.Counted.{Counted, names_in}
 use Rattle.blz_fold.specs.FoldedViews.{line_bytes}
 use Rattle.blz_fold.specs.Numbered.{name_at, spelled}
 use Rattle.blz_fold.specs.Trees.{line_names}

@@ -1,10 +1,8 @@
 -- Numbered stacks, and the stacks of names for which they stand.
-use Rattle.std.proofs.Common.{◌≡◌, ◌<◌, ◌+◌, ◌^◌, ℕ, zero, suc, nat_eq, Bool, true, false, List, [], ◌∷◌, ◌++◌, length, map, get_or, refl, sym, ap, subst, ◌∙◌, arith}
-use Rattle.std.specs.Bool.{Decides}
+use Rattle.std.proofs.Common.{◌≡◌, ◌<◌, ◌+◌, ◌^◌, ℕ, nat_eq, true, List, [], ◌∷◌, ◌++◌, length, map, refl, sym, ap, subst, ◌∙◌, arith}
 use Rattle.std.specs.Cmp.Lexicographic.{pointwise}
 use Rattle.std.specs.List.{AllByRecursion, AllZip, IsDistinct, flat_map, list_any}
 use Rattle.std.specs.Str.{bytes_eq}
-use Rattle.std.specs.declared.vec.Vec.{Vec}
 use Rattle.std.proofs.lemmas.Bool.Decides.{Decides-eqb, Decides-like, same_from_decides}
 use Rattle.std.proofs.lemmas.Slice.Eq.{bytes_eq-Decides}
 use Rattle.blz_error.specs.Texts.{Bytes}
@@ -17,7 +15,7 @@ use Rattle.blz_elf.specs.declared.opts.FindSymOpts.TheVariants.{CodeInfoAndInlin
 use Rattle.blz_resolver.specs.Images.{ImageSet}
 use Rattle.blz_resolver.specs.Scan.{scan_of}
 use Rattle.blz_fold.specs.AddressStacks.{addresses_in, count_total}
-use Rattle.blz_fold.specs.Counted.{AddUp, Counted, Node, count_in, distinct, line_of, lines_of, names_in, nodes_of, total}
+use Rattle.blz_fold.specs.Counted.{AddUp, Counted, count_in, distinct, line_of, lines_of, names_in, nodes_of, total}
 use Rattle.blz_fold.specs.Naming.{FoldedNames, answer_at, fold_of, folded_names, named, named_lines, named_stacks, names_from, names_of}
 use Rattle.blz_fold.specs.Numbered.{AreSpelled, IsPlaced, Spells, list_at, name_at, numbered, spelled, spelled_node}
 use Rattle.blz_fold.specs.declared.stack_list.Stack.{Stack}
@@ -25,7 +23,7 @@ use Rattle.blz_fold.proofs.Carried.{lines_carried, nodes_carried}
 use Rattle.blz_fold.proofs.Children.{nodes_add_up}
 use Rattle.blz_fold.proofs.Distinct.{all_among, all_distinct, all_weaker, any_distinct}
 use Rattle.blz_fold.proofs.LineLemmas.{nodes_of_lines, total_stays}
-use Rattle.blz_fold.proofs.Scanning.{address_spelled, answers_good, broken_lines, good_stacks, stacks_named}
+use Rattle.blz_fold.proofs.Scanning.{address_spelled, answers_good, good_stacks, stacks_named}
 use Rattle.blz_fold.proofs.Spelling.{spells_append, spells_names, spells_placed}
 use Rattle.blz_fold.proofs.SumLemmas.{sum_map}
 use Rattle.blz_fold.proofs.TreeSteps.{distinct_index}

@@ -1,5 +1,5 @@
 -- The names of an answer of the code.
-use Rattle.std.proofs.Common.{◌≡◌, ℕ, List, [], ◌∷◌, ◌++◌, map, refl, sym, ap, ◌∙◌, Result, Ok, Err, OnOk}
+use Rattle.std.proofs.Common.{◌≡◌, List, ◌∷◌, map, sym, ap, ◌∙◌, Result, Ok, Err, OnOk}
 use Rattle.blz_elf.specs.AnswerView.{answer_view}
 use Rattle.blz_elf.specs.CallViews.{inlined_view}
 use Rattle.blz_elf.specs.declared.answer.Answer.{Answer}

@@ -1,8 +1,8 @@
 -- A text that is made piece by piece.
-use Rattle.std.proofs.Common.{◌≡◌, ◌+◌, ◌<◌, ℕ, zero, suc, Bool, true, false, nat_lt, List, [], ◌∷◌, ◌++◌, length, map, take, slice_get, Some, refl, sym, ap, ◌∙◌, if◌then◌else◌, arith, append_assoc}
-use Rattle.std.specs.List.{flat_map, join_with_byte}
+use Rattle.std.proofs.Common.{◌≡◌, ◌+◌, ℕ, suc, List, [], ◌∷◌, ◌++◌, length, map, take, slice_get, Some, refl, sym, ap, ◌∙◌, if◌then◌else◌, arith, append_assoc}
+use Rattle.std.specs.List.{flat_map}
 use Rattle.std.proofs.lemmas.Bool.Decides.{Decides-ltb}
-use Rattle.std.proofs.lemmas.List.{append-nil, map_push, length_push}
+use Rattle.std.proofs.lemmas.List.{append-nil, map_push}
 use Rattle.blz_error.specs.Texts.{Bytes}
 use Rattle.blz_fold.specs.FoldTexts.{names_text, separator}
 use Rattle.blz_fold.proofs.Distinct.{flat_map-append}

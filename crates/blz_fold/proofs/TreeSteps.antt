@@ -1,18 +1,18 @@
 -- One step down the tree of beginnings.
-use Rattle.std.proofs.Common.{◌≡◌, ◌≢◌, ◌<◌, ◌≤◌, ◌+◌, ◌^◌, ℕ, zero, suc, nat_eq, Bool, true, false, not, ◌||◌, ◌&&◌, List, [], ◌∷◌, ◌++◌, length, map, get_or, Option, Some, None, refl, sym, ap, subst, ◌∙◌, cond, if◌then◌else◌, arith, Bor}
+use Rattle.std.proofs.Common.{◌≡◌, ◌≢◌, ◌<◌, ◌≤◌, ◌+◌, ◌^◌, ℕ, zero, suc, nat_eq, Bool, true, false, not, ◌||◌, ◌&&◌, List, [], ◌∷◌, ◌++◌, length, get_or, Option, Some, None, refl, sym, ap, subst, ◌∙◌, cond, if◌then◌else◌, arith, Bor}
 use Rattle.std.specs.Bool.{Decides, ⊤}
 use Rattle.std.specs.Option.{MatchOption, IfSome, option_copied}
 use Rattle.std.specs.Cmp.Lexicographic.{pointwise}
 use Rattle.std.specs.List.{AllByRecursion, AllZip, IsDistinct, list_any, position_or_len}
-use Rattle.std.specs.Map.{lookup, keys_of}
+use Rattle.std.specs.Map.{lookup}
 use Rattle.std.proofs.lemmas.Bool.Decides.{Decides-eqb, Decides-and, Decides-like, same_from_decides}
-use Rattle.std.proofs.lemmas.List.{get_or_append_left, get_or_at, get_or-map, length-map, length_push, same_from_push, map_push}
+use Rattle.std.proofs.lemmas.List.{get_or_append_left, get_or_at, length-map, length_push, same_from_push, map_push}
 use Rattle.indexmap.specs.IndexMap.{insert_entry}
 use Rattle.blz_fold.specs.Adding.{node_added}
 use Rattle.blz_fold.specs.Counted.{Counted, Node}
 use Rattle.blz_fold.specs.Trees.{AreLinked, FitsWith, IsLinked, IsTree, IsWithin, NodeFits, all_names, counted, keys_in, names_at, node_at, nodes_in}
 use Rattle.blz_fold.specs.declared.tree.Beginning.{Beginning}
-use Rattle.blz_fold.proofs.Distinct.{distinct_push, neither, same_swapped}
+use Rattle.blz_fold.proofs.Distinct.{distinct_push}
 use Rattle.blz_fold.proofs.Gathered.{names_match}
 
 abbrev alike : List ℕ → List ℕ → Bool

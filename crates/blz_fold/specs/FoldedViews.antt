@@ -1,5 +1,4 @@
 -- What folded lines and nodes stand for.
-use Rattle.std.specs.Prelude.{ℕ, List, map}
 use Rattle.blz_fold.specs.Counted.{Counted, Node}
 use Rattle.blz_fold.specs.declared.folded.FoldLine.{FoldLine}
 use Rattle.blz_fold.specs.declared.folded.FoldNode.{FoldNode}

@@ -1,10 +1,10 @@
 -- What a run of the folder finds by its words and files.
-use Rattle.std.specs.Prelude.{◌≡◌, ℕ, Bool, true, false, List, [], ◌∷◌, Option, Some, None, Result, Ok, Err, codes, if◌then◌else◌}
+use Rattle.std.specs.Prelude.{◌≡◌, Bool, true, false, List, [], ◌∷◌, Option, Some, None, Ok, Err, codes, if◌then◌else◌}
 use Rattle.std.specs.FinMap as map
 use Rattle.std.specs.Str.{bytes_eq}
 use Rattle.blz_error.specs.Texts.{Bytes}
 use Rattle.blz_error.specs.declared.kind.ErrorKind.TheVariants.{NotFound}
-use Rattle.blz_model.specs.Part.{Part, Good, Broken, ◌>>=◌}
+use Rattle.blz_model.specs.Part.{Part, Good, Broken}
 use Rattle.blz_program.specs.Outcomes.{ProgramTexts}
 use Rattle.blz_program.specs.Reading.{Holds}
 use Rattle.blz_program.specs.Runs.{Found, Mark, Text}

@@ -1,5 +1,5 @@
 //! Counting stacks whose addresses have lists of numbers.
-ghost use Rattle.std.specs.Prelude.{◌≡◌, ◌<◌, ◌^◌, ◌++◌, IfOk, OnOk, length, map, nat_eq};
+ghost use Rattle.std.specs.Prelude.{◌≡◌, ◌<◌, ◌^◌, ◌++◌, IfOk, OnOk, map, nat_eq};
 ghost use Rattle.std.specs.List.{flat_map};
 ghost use Rattle.blz_fold.specs.AddressStacks.{count_total};
 ghost use Rattle.blz_fold.specs.Counted.{lines_of};

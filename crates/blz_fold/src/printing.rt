@@ -3,7 +3,6 @@ ghost use Rattle.std.specs.Prelude.{◌≡◌, ◌++◌, IfOk, OnOk, map};
 ghost use Rattle.std.specs.List.{flat_map};
 ghost use Rattle.blz_fold.specs.FoldTexts.{line_text, names_text, node_text, separator};
 ghost use Rattle.blz_fold.specs.Numbered.{name_at, spelled, spelled_node};
-ghost use Rattle.blz_fold.specs.Trees.{IsWithin, node_at};
 
 use crate::lines::Lines;
 use crate::name_table::NameTable;

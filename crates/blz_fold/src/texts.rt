@@ -1,8 +1,7 @@
 //! Lines and nodes with the texts of their names.
 ghost use Rattle.std.specs.Prelude.{◌≡◌, IfOk, map};
-ghost use Rattle.std.specs.List.{AllByRecursion};
 ghost use Rattle.blz_fold.specs.FoldedViews.{line_bytes, node_bytes};
-ghost use Rattle.blz_fold.specs.Numbered.{IsPlaced, name_at, spelled, spelled_node};
+ghost use Rattle.blz_fold.specs.Numbered.{name_at, spelled, spelled_node};
 
 use crate::lines::Lines;
 use crate::name_table::NameTable;

@@ -1,6 +1,6 @@
 //! Numbers as words: addresses, and counts in decimal.
-ghost use Rattle.std.specs.Prelude.{◌≡◌, ◌<◌, ◌≤◌, ◌+◌, ◌*◌, Some, IfSome, length};
-ghost use Rattle.blz_program.specs.Words.{address_of, decimal_from, decimal_number, decimal_value, hex_from, hex_value, number_up_to, up_to, with_digit};
+ghost use Rattle.std.specs.Prelude.{◌≡◌, ◌<◌, ◌≤◌, Some, IfSome, length};
+ghost use Rattle.blz_program.specs.Words.{address_of, decimal_from, decimal_value, hex_from, hex_value, number_up_to, up_to, with_digit};
 
 /// An address: 1 to 16 hexadecimal digits of either case, with `0x` before them or not.
 pub fn address(word: &[u8]) -> Option<u64>

@@ -1,13 +1,13 @@
 -- From what was read to what is found.
-use Rattle.std.proofs.Common.{◌≡◌, ◌⊎◌, ◌≢◌, ℕ, Bool, true, false, List, Option, Some, Result, Err, Vec, refl, sym, ap, subst, inl, inr, ◌∙◌}
+use Rattle.std.proofs.Common.{◌≡◌, ◌⊎◌, ◌≢◌, ℕ, Bool, true, false, List, Option, Result, Err, Vec, refl, sym, ap, subst, inl, inr}
 use Rattle.clap.specs.Words.{takes}
 use Rattle.blz_error.specs.Texts.{Bytes}
 use Rattle.blz_error.specs.declared.kind.ErrorKind.{ErrorKind}
 use Rattle.blz_error.specs.declared.kind.ErrorKind.TheVariants as kind
-use Rattle.blz_model.specs.Part.{Part, Good, Broken, Fails, ◌>>=◌}
+use Rattle.blz_model.specs.Part.{Part, Good, Broken, Fails}
 use Rattle.blz_program.proofs.Ends.{HasKindCause-format, HasKindCause-weaker, IsMade-refusal, IsMade-weaker}
 use Rattle.blz_program.specs.Outcomes.{refusal_of}
-use Rattle.blz_program.specs.Runs.{Found, IsMade, Mark}
+use Rattle.blz_program.specs.Runs.{IsMade, Mark}
 use Rattle.blz_program.specs.Runs as run
 use Rattle.blz_program.specs.declared.outcome.Outcome.{Outcome}
 use Rattle.blz_program.specs.declared.outcome.Outcome.TheVariants.{OutOfMemory, Usage}

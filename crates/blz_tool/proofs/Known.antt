@@ -1,5 +1,5 @@
 -- Where it is known what the words and files give.
-use Rattle.std.proofs.Common.{◌≡◌, ◌⊎◌, ℕ, true, false, List, Option, Some, refl, sym, ap, subst, inl, inr, ◌∙◌}
+use Rattle.std.proofs.Common.{◌≡◌, ℕ, true, false, List, Option, Some, sym, ap, subst, inl, inr, ◌∙◌}
 use Rattle.std.proofs.lemmas.Bool.{false≢true}
 use Rattle.blz_error.specs.Texts.{Bytes}
 use Rattle.blz_model.specs.Part.{Part, ◌>>=◌}

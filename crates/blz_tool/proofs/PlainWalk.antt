@@ -8,7 +8,7 @@ use Rattle.std.proofs.lemmas.List.{append-nil, take_all}
 use Rattle.std.proofs.lemmas.List.Folds.{list_all-map}
 use Rattle.clap.specs.Lexer.{long_of, long_of_rest, short_of, short_of_rest, strip_byte}
 use Rattle.clap.specs.Simple.{built, matches_of, names_of}
-use Rattle.clap.specs.Walk.{Held, Names, Row, Rule, Step, Text, Walk, after_step, finished, idle, long_or_other, nothing_held, positional, settled, short_or_plain, trailing, value, walk, walk_from, walked, word_met}
+use Rattle.clap.specs.Walk.{Held, Names, Rule, Step, Text, Walk, after_step, finished, idle, long_or_other, nothing_held, positional, settled, short_or_plain, trailing, value, walk, walk_from, walked, word_met}
 use Rattle.blz_error.specs.Texts.{Bytes}
 use Rattle.blz_elf.specs.declared.opts.FindSymOpts.TheVariants.{CodeInfoAndInlined}
 use Rattle.blz_tool.specs.CommandLine.{Lookup, form_of, tool_app}

@@ -1,5 +1,5 @@
 -- The demo's addresses are asked one after the other.
-use Rattle.std.proofs.Common.{◌≡◌, ℕ, suc, ◌+◌, ◌-◌, ◌<◌, ◌≤◌, Bool, true, List, [], ◌∷◌, map, refl, sym, ap, ◌∙◌, arith}
+use Rattle.std.proofs.Common.{◌≡◌, ℕ, suc, ◌+◌, ◌-◌, ◌<◌, ◌≤◌, Bool, true, List, ◌∷◌, map, refl, sym, ap, ◌∙◌, arith}
 use Rattle.blz_error.specs.Texts.{Bytes}
 use Rattle.std.specs.List.{range_with_len}
 use Rattle.blz_error.specs.declared.kind.ErrorKind.{ErrorKind}

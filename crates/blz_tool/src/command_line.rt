@@ -1,5 +1,5 @@
 //! The words of the command line, read by `clap` as one simple command.
-ghost use Rattle.std.specs.Prelude.{◌≡◌, ◌⊎◌, IfOk, IfErr, map, codes, option_map, true, false};
+ghost use Rattle.std.specs.Prelude.{◌≡◌, ◌⊎◌, IfOk, IfErr, map, option_map, true, false};
 ghost use Rattle.clap.specs.Words.{all_of, app_of, first_of, found_of, kind_of, matches_of, rows_of, rule_of, takes, with_rule};
 ghost use Rattle.blz_tool.specs.CommandLine.{flag_rule, form_by, form_of, is_set, no_words, option_rule, opts_of, place_rule, places_rule, tool_app};
 ghost use Rattle.blz_tool.specs.Requests.{form_view, words_in};

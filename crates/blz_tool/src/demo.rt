@@ -1,5 +1,5 @@
 //! The demo: an image that is made in memory, prepared, and asked for all its functions.
-ghost use Rattle.std.specs.Prelude.{◌≡◌, ◌<◌, ◌≤◌, ◌++◌, ◌*◌, true, IfErr, IfOk, OnOk, map};
+ghost use Rattle.std.specs.Prelude.{◌≡◌, ◌<◌, ◌≤◌, ◌++◌, true, IfErr, IfOk, OnOk, map};
 ghost use Rattle.blz_elf.specs.declared.opts.FindSymOpts.TheVariants.{CodeInfo};
 ghost use Rattle.blz_model.specs.Part.{Exactly, Gives, all_good};
 ghost use Rattle.blz_resolver.specs.FormatKinds.{IsMemoryOrFormat};

@@ -1,5 +1,5 @@
 //! The image of the demo: ELF64 with one unit of debug information (DWARF 4).
-ghost use Rattle.std.specs.Prelude.{◌≡◌, ◌<◌, ◌≤◌, ◌+◌, ◌-◌, ◌*◌, ◌^◌, ◌++◌, IfOk, OnOk, length};
+ghost use Rattle.std.specs.Prelude.{◌≡◌, ◌<◌, ◌≤◌, ◌+◌, ◌^◌, ◌++◌, IfOk, OnOk, length};
 ghost use Rattle.blz_tool.specs.DemoImage.{demo, file_header, file_of, function_entries, function_entry, line_program, line_start, line_steps, section_header, section_headers, unit, unit_start, with_length};
 
 use crate::fields::Field::{U16, U32, U64};

@@ -8,7 +8,7 @@ ghost use Rattle.blz_resolver.specs.FormatKinds.{IsMemoryOrFormat};
 ghost use Rattle.blz_resolver.specs.Opening.{Opens};
 ghost use Rattle.blz_resolver.specs.Outcomes.{FilesStay, HasKindCause};
 ghost use Rattle.blz_tool.specs.CommandLine.{Demo, Malformed, asked, is_taken, named};
-ghost use Rattle.blz_tool.specs.Requests.{question_view, request_view};
+ghost use Rattle.blz_tool.specs.Requests.{question_view};
 ghost use Rattle.blz_tool.specs.Runs.{FailsNamed, FilesFail, Finds, FindsNamed, FindsPart, Prints, dirs_of, found_for, found_in, text_for, tool_texts};
 ghost use Rattle.blz_tool.specs.Summary.{summary};
 

@@ -1,5 +1,5 @@
 //! The printed text, made whole before any of it is written.
-ghost use Rattle.std.specs.Prelude.{◌≡◌, ◌<◌, ◌++◌, IfOk, OnOk, length, map};
+ghost use Rattle.std.specs.Prelude.{◌≡◌, ◌++◌, IfOk, OnOk, length, map};
 ghost use Rattle.std.specs.Option.{option_map};
 ghost use Rattle.blz_bytes.specs.Joined.{joined};
 ghost use Rattle.blz_elf.specs.AnswerView.{answer_view};

@@ -1,4 +1,4 @@
-use Rattle.std.proofs.Common.{◌≡◌, ◌∙◌, ◌++◌, ap, sym, map, take, get_or}
+use Rattle.std.proofs.Common.{◌∙◌, ◌++◌, ap, sym, map, take, get_or}
 use Rattle.std.specs.List.{flat_map}
 use Rattle.std.proofs.lemmas.List.{flat_map_more, take_more}
 use Rattle.blz_fold.specs.Numbered.{list_at}

@@ -1,4 +1,4 @@
-use Rattle.std.proofs.Common.{◌≡◌, ◌++◌, nat_eq, take}
+use Rattle.std.proofs.Common.{◌≡◌, nat_eq, take}
 use Rattle.std.specs.List.{fold}
 use Rattle.blz_fold.specs.AddressStacks.{addresses_in}
 use Rattle.blz_fold.specs.Counted.{distinct, with_new}

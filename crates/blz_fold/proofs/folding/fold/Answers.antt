@@ -1,4 +1,3 @@
-use Rattle.std.proofs.Common.{◌≡◌, ◌∙◌, ap, sym}
 use Rattle.blz_resolver.specs.BundleViews.{bundle_view}
 use Rattle.blz_fold.proofs.Named.{folded_adds_up, folded_good, folded_total}
 use Rattle.blz_fold.proofs.folding.fold.Goals as goal

@@ -1,5 +1,4 @@
 use Rattle.std.proofs.Common.{◌∙◌, ap, ◌++◌}
-use Rattle.blz_fold.specs.Counted.{Node}
 use Rattle.std.proofs.Common.{List, ℕ}
 use Rattle.blz_fold.specs.FoldTexts.{node_text}
 use Rattle.blz_fold.specs.Numbered.{spelled_node}

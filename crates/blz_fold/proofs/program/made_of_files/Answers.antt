@@ -1,5 +1,5 @@
-use Rattle.std.proofs.Common.{◌≡◌, ◌∙◌, ap, sym, subst, Global}
-use Rattle.blz_model.specs.Part.{Broken, Good}
+use Rattle.std.proofs.Common.{◌∙◌, ap, Global}
+use Rattle.blz_model.specs.Part.{Broken}
 use Rattle.blz_program.specs.Outcomes.{refusal_of}
 use Rattle.blz_resolver.specs.Counts.{Rose}
 use Rattle.blz_resolver.specs.Opening.{Opens, default_dirs}

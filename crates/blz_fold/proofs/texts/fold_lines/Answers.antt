@@ -1,4 +1,4 @@
-use Rattle.std.proofs.Common.{◌≡◌, ◌∙◌, ap}
+use Rattle.std.proofs.Common.{◌∙◌}
 use Rattle.blz_fold.specs.FoldedViews.{line_bytes}
 use Rattle.blz_fold.specs.LineViews.{line_read}
 use Rattle.blz_fold.specs.Numbered.{spelled}

@@ -1,7 +1,7 @@
-use Rattle.std.proofs.Common.{◌≡◌, ◌∙◌, ap, sym, subst, ◌≤◌, length, arith, map}
+use Rattle.std.proofs.Common.{◌∙◌, ap, length, arith}
 use Rattle.std.proofs.lemmas.List.{length-map}
 use Rattle.blz_error.specs.Texts.{Bytes}
-use Rattle.std.proofs.Common.{List, ℕ}
+use Rattle.std.proofs.Common.{List}
 use Rattle.blz_fold.specs.FoldedViews.{node_bytes}
 use Rattle.blz_fold.specs.Numbered.{name_at, spelled_node}
 use Rattle.blz_fold.specs.Trees.{line_names, node_at}

@@ -1,4 +1,4 @@
-use Rattle.std.proofs.Common.{◌≡◌, ◌∙◌, ◌++◌, ◌∷◌, [], ap, sym, refl, map, take, get_or}
+use Rattle.std.proofs.Common.{◌∙◌, ◌++◌, ◌∷◌, [], sym, refl, get_or}
 use Rattle.std.proofs.lemmas.List.{map_more}
 use Rattle.blz_fold.specs.Numbered.{name_at}
 use Rattle.blz_fold.proofs.MapSteps.{name_read}

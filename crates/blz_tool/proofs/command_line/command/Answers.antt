@@ -1,7 +1,6 @@
-use Rattle.std.proofs.Common.{rules, ◌≡◌, ◌∙◌, ap₂, codes, Some}
+use Rattle.std.proofs.Common.{◌∙◌, ap₂}
 use Rattle.std.proofs.lemmas.Result.{IfOk-weaker}
-use Rattle.clap.specs.Words.{App, Rule, app_of, with_rule}
-use Rattle.blz_tool.specs.CommandLine.{tool_app}
+use Rattle.clap.specs.Words.{with_rule}
 use Rattle.blz_tool.proofs.command_line.command.Goals as goal
 
 pub returns : goal.returns

@@ -1,4 +1,4 @@
-use Rattle.std.proofs.Common.{rules, ◌≡◌, ◌∙◌, ap, sym, codes, Some, None, Option, option_map, Bor, List, ℕ, false}
+use Rattle.std.proofs.Common.{◌≡◌, ◌∙◌, ap, codes, Some, None, Option, false}
 use Rattle.std.specs.Option.{option_map_or}
 use Rattle.std.specs.Str.{bytes_eq}
 use Rattle.clap.specs.Words.{Text, found_of, first_of, rows_of}

@@ -1,4 +1,3 @@
-use Rattle.std.proofs.Common.{rules}
 use Rattle.blz_tool.proofs.Tallied.{tallied-mark, tallied-read}
 use Rattle.blz_tool.proofs.demo.tally.Goals as goal
 

@@ -1,4 +1,4 @@
-use Rattle.std.proofs.Common.{subst, sym, ◌++◌, ◌∷◌, [], take, ◌+◌}
+use Rattle.std.proofs.Common.{subst, sym, take, ◌+◌}
 use Rattle.std.specs.List.{AllZip}
 use Rattle.blz_elf.specs.AnswerView.{answer_view}
 use Rattle.blz_fold.specs.Naming.{names_of}

@@ -1,6 +1,4 @@
 use Rattle.std.proofs.Common.{[], sym, subst}
-use Rattle.blz_elf.specs.AnswerView.{answer_view}
-use Rattle.blz_fold.specs.Naming.{names_of}
 use Rattle.blz_fold.specs.Numbered.{Spells}
 use Rattle.blz_fold.proofs.name_table.NameTable.numbers_of.Goals as goal
 

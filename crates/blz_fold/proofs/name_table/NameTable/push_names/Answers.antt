@@ -1,4 +1,4 @@
-use Rattle.std.proofs.Common.{◌≡◌, ◌∷◌, ◌++◌, [], ◌∙◌, ap, subst, map, append_assoc, List, ℕ}
+use Rattle.std.proofs.Common.{◌≡◌, ◌∷◌, ◌++◌, [], ◌∙◌, ap, subst, map, append_assoc}
 use Rattle.blz_elf.specs.AnswerView.{answer_view}
 use Rattle.blz_fold.specs.Naming.{names_of, shown}
 use Rattle.blz_fold.specs.Numbered.{Spells}

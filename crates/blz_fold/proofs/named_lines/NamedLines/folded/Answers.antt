@@ -1,7 +1,7 @@
-use Rattle.std.proofs.Common.{◌≡◌, ◌∙◌, ap, sym, map}
+use Rattle.std.proofs.Common.{◌∙◌, ap, sym, map}
 use Rattle.std.specs.Str.{bytes_eq}
 use Rattle.blz_fold.specs.Counted.{nodes_of}
-use Rattle.blz_fold.specs.Numbered.{spelled, spelled_node}
+use Rattle.blz_fold.specs.Numbered.{spelled_node}
 use Rattle.blz_fold.proofs.Named.{nodes_spelled}
 use Rattle.blz_fold.proofs.named_lines.NamedLines.folded.Goals as goal
 

@@ -1,4 +1,4 @@
-use Rattle.std.proofs.Common.{◌≡◌, ◌<◌, ◌≤◌, ◌+◌, ◌++◌, ◌∷◌, ◌∙◌, [], ap, sym, refl, subst, length, nat_eq, slice_get, get_or, Some, take, arith, List, ℕ}
+use Rattle.std.proofs.Common.{◌≡◌, ◌+◌, ◌++◌, ◌∷◌, ◌∙◌, [], ap, sym, refl, subst, length, nat_eq, slice_get, get_or, Some, take, arith, List, ℕ}
 use Rattle.std.proofs.lemmas.List.{take_more}
 use Rattle.blz_fold.specs.Adding.{node_added}
 use Rattle.blz_fold.specs.Counted.{Node}

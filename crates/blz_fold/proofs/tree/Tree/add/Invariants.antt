@@ -1,6 +1,5 @@
 use Rattle.std.proofs.Common.{◌≡◌, ◌≤◌, ◌++◌, length, nat_eq, take}
 use Rattle.std.specs.List.{flat_map}
-use Rattle.blz_fold.specs.Counted.{Counted}
 use Rattle.blz_fold.specs.Trees.{all_names, names_at}
 use Rattle.blz_fold.proofs.Beginnings.{entries}
 use Rattle.blz_fold.proofs.Gathered.{gathered}

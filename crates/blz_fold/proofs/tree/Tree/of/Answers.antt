@@ -1,4 +1,4 @@
-use Rattle.std.proofs.Common.{◌≡◌, arith, sym, subst, []}
+use Rattle.std.proofs.Common.{arith, sym, subst}
 use Rattle.std.specs.List.{IsDistinct}
 use Rattle.blz_fold.specs.Trees.{IsTree}
 use Rattle.blz_fold.proofs.tree.Tree.of.Goals as goal

@@ -4,7 +4,7 @@ use Rattle.std.specs.Option.{option_copied}
 use Rattle.indexmap.specs.IndexMap.{insert_entry}
 use Rattle.blz_fold.specs.Adding.{node_added}
 use Rattle.blz_fold.specs.TreeViews.{NodesOfLines}
-use Rattle.blz_fold.specs.Trees.{IsTree, IsWithin, NodeFits, all_names, counted, names_at, node_at, nodes_in}
+use Rattle.blz_fold.specs.Trees.{IsTree, IsWithin, NodeFits, all_names, names_at, node_at, nodes_in}
 use Rattle.blz_fold.proofs.TreeSteps.{lent_fits, same_key, step_counts, step_fits, step_place, step_tree}
 use Rattle.blz_fold.proofs.tree.Tree.step.Goals as goal
 
