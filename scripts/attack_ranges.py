@@ -120,14 +120,34 @@ def ranges_in_one_another_of_every_second_unit(n):
     return Attack(dwarf(shapes, (one + two) * (n // 2), rnglists=data), [BASE + n])
 
 
-@shape
-def ranges_in_one_another_each_of_a_unit_before_units_in_turn(n):
+def before_units_in_turn(n, ranges, again=0):
+    """A unit for each of some ranges, n units that announce one of two lists in turn, and the first units as often again."""
     shapes = {ROOT: root(RANGES, 0), OUTER: root(RANGE, 0)}
     lists = [pairs(1) + b"\0", pairs(2) + b"\0"]
     data, first = range_lists(b"".join(lists))
-    around = b"".join(unit(entry(shapes, OUTER, BASE + k, 2 * (n - k))) for k in range(n))
+    around = b"".join(unit(entry(shapes, OUTER, begin, size)) for begin, size in ranges)
     two, three = (unit(entry(shapes, ROOT, first + begin)) for begin in begins_of(lists))
-    return Attack(dwarf(shapes, around + (two + three) * (n // 2), rnglists=data), [BASE + n])
+    return Attack(dwarf(shapes, around + (two + three) * (n // 2) + around * again, rnglists=data), [BASE + n])
+
+
+@shape
+def ranges_in_one_another_each_of_a_unit_before_units_in_turn(n):
+    return before_units_in_turn(n, [(BASE + k, 2 * (n - k)) for k in range(n)])
+
+
+@shape
+def ranges_in_one_another_each_of_two_units_that_are_repeated_behind_units_in_turn(n):
+    return before_units_in_turn(n, [(BASE + k, 2 * (n - k) + end) for k in range(n) for end in range(2)], 1)
+
+
+@shape
+def ranges_that_begin_alike_each_of_a_unit_before_units_in_turn(n):
+    return before_units_in_turn(n, [(BASE, 2 * n + k) for k in range(n)])
+
+
+@shape
+def ranges_that_begin_alike_each_of_a_unit_that_is_repeated_behind_units_in_turn(n):
+    return before_units_in_turn(n, [(BASE, 2 * n + k) for k in range(n)], 1)
 
 
 # ---- lists that begin within one another

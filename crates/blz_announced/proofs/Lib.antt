@@ -5,6 +5,8 @@ pub mod RepeatSteps
 pub mod RowSteps
 pub mod SeenSteps
 pub mod SeenRanges
+pub mod BegunSteps
 pub mod BehindSteps
 pub mod LeftOver
 pub mod TurnSteps
+pub mod UnitsBefore

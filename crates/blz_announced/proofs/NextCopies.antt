@@ -10,7 +10,8 @@ use Rattle.blz_ranges.specs.Best.{best, covers, comes_after, next, next_after, n
 use Rattle.blz_ranges.specs.Owned.{Owned, items_of}
 use Rattle.blz_ranges.proofs.BestOf.{best_is, best_is_best}
 use Rattle.blz_announced.specs.declared.announced.Place.{Place}
-use Rattle.blz_announced.specs.Copies.{Copy, comes_first, full_place, told, HaveKeepers, IsAlike, IsLater, IsNextOwn, IsNextRepeat, IsOwn, IsPlaced, IsRepeat}
+use Rattle.blz_announced.specs.Copies.{Copy, comes_first, full_place, told, HaveKeepers, IsLater, IsNextOwn, IsOwn, IsPlaced}
+use Rattle.blz_announced.specs.Repeats.{IsAlike, IsNextRepeat, NoRepeatBefore, RepeatsAt}
 use Rattle.blz_announced.proofs.Copies.{copy_place, AreCopies}
 
 -- ---- ranges after another one
@@ -320,6 +321,16 @@ module _ (kept : List (Owned Span)) (keepers : List ℕ) (list : List Copy) (row
     alike : (r : ℕ) (t : Span) (x : IsRange r t) → covers t addr ≡ true → t.begin ≡ w.span.begin → IsAlike kept x.keeper addr w.span.begin x.copy.place
     alike r t x reached same = record { span = t; is = x.kept_is; begins = same; reached = reached }
 
+    abbrev Repeated : ℕ → ℕ → Type 0
+    Repeated other p = RepeatsAt kept keepers at.unit addr w.span.begin other p
+
+    repeated : (r : ℕ) (t : Span) (x : IsRange r t) → covers t addr ≡ true → t.begin ≡ w.span.begin → at.unit < x.copy.unit → x.keeper < x.copy.unit → Repeated x.copy.unit x.copy.place
+    repeated r t x reached same lt less = record {
+      keeper = x.keeper;
+      repeats = record { later = lt; row = x.row; differs = less };
+      alike = alike r t x reached same;
+    }
+
     -- nothing is next where neither is
 
     pub none_next : IsLastOne → IsNextOwn kept at.unit addr w.span.begin None → IsNextRepeat kept keepers at.unit addr w.span.begin None → IsNext all_spans addr full w.span None
@@ -330,7 +341,7 @@ module _ (kept : List (Owned Span)) (keepers : List ℕ) (list : List Copy) (row
         by r t x reached (inr h) =
             let lt = later_unit last r t x reached h.0 h.1 in
             elim (cases_lt x.keeper x.copy.unit) [
-              | inl less ↦ repeat x.copy.unit x.keeper x.copy.place lt x.row less (alike r t x reached h.0)
+              | inl less ↦ repeat x.copy.unit x.copy.place tt (repeated r t x reached h.0 lt less)
               | inr same ↦ own x.copy.place (record { item = t; owner = x.keeper }) x.kept_is reached (inr (h.0, omega arith))
             ]
 
@@ -338,7 +349,7 @@ module _ (kept : List (Owned Span)) (keepers : List ℕ) (list : List Copy) (row
 
     -- it precedes each unit that is not its own keeper
     abbrev pub Precedes : (q : ℕ) → IsOwn kept at.unit addr w.span.begin q → Type 0
-    Precedes q n = (other k p : ℕ) → at.unit < other → slice_get keepers other ≡ Some k → k < other → IsAlike kept k addr w.span.begin p → (n.range.item.begin ≡ w.span.begin) × (n.range.owner < other)
+    Precedes q n = (other p : ℕ) → Repeated other p → (n.range.item.begin ≡ w.span.begin) × (n.range.owner < other)
 
     pub own_next : IsLastOne → (q : ℕ) (n : IsOwn kept at.unit addr w.span.begin q) → Precedes q n → IsNextAt all_spans addr full w.span (full_place list (as_kept q n.range.owner))
     unfolding here
@@ -374,7 +385,7 @@ module _ (kept : List (Owned Span)) (keepers : List ℕ) (list : List Copy) (row
             let lt = later_unit last r t x reached h.0 h.1 in
             elim (cases_lt x.keeper x.copy.unit) [
               | inl less ↦
-                  let p = precedes x.copy.unit x.keeper x.copy.place lt x.row less (alike r t x reached h.0) in
+                  let p = precedes x.copy.unit x.copy.place (repeated r t x reached h.0 lt less) in
                   let begins = p.0 in
                   let before = p.1 in
                   let same = h.0 in
@@ -388,11 +399,11 @@ module _ (kept : List (Owned Span)) (keepers : List ℕ) (list : List Copy) (row
     comes_is : (q unit : ℕ) (x : Owned Span) → slice_get kept q ≡ Some x → comes_first kept w.span.begin unit (Some q) ≡ (nat_lt x.owner unit && eqb x.item.begin w.span.begin)
     comes_is q unit x is = rw (item_at kept q x is, ap (option_map (λ (y : Owned Span). y.owner)) is) refl
 
-    pub precedes_repeat : (q : ℕ) (n : IsOwn kept at.unit addr w.span.begin q) (r : Place) → IsRepeat kept keepers at.unit addr w.span.begin r → comes_first kept w.span.begin r.unit (Some q) ≡ true → Precedes q n
-    precedes_repeat q n r m e = λ other k p lt row less a.
-        let both = and_parts _ _ (sym (comes_is q r.unit n.range n.is) ∙ e) in
-        let before = ltb-true n.range.owner r.unit both.0 in
-        let least = m.least other k p lt row less a in
+    pub precedes_repeat : (q : ℕ) (n : IsOwn kept at.unit addr w.span.begin q) (bound : ℕ) → NoRepeatBefore kept keepers at.unit addr w.span.begin bound → comes_first kept w.span.begin bound (Some q) ≡ true → Precedes q n
+    precedes_repeat q n bound none e = λ other p a.
+        let both = and_parts _ _ (sym (comes_is q bound n.range n.is) ∙ e) in
+        let before = ltb-true n.range.owner bound both.0 in
+        let least = none other p a in
         (eqb-true n.range.item.begin w.span.begin both.1, omega arith)
 
     -- the next unit that is not its own keeper
@@ -410,15 +421,15 @@ module _ (kept : List (Owned Span)) (keepers : List ℕ) (list : List Copy) (row
         not_below (inl lt) le = absurd (omega arith)
         not_below (inr h) le = h.0
 
-    pub repeat_next : IsLastOne → (o : Option ℕ) → IsNextOwn kept at.unit addr w.span.begin o → (r : Place) (n : IsRepeat kept keepers at.unit addr w.span.begin r) → comes_first kept w.span.begin r.unit o ≡ false → IsNextAt all_spans addr full w.span (full_place list r)
+    pub repeat_next : IsLastOne → (o : Option ℕ) → IsNextOwn kept at.unit addr w.span.begin o → (r : Place) (n : IsNextRepeat kept keepers at.unit addr w.span.begin (Some r)) → comes_first kept w.span.begin r.unit o ≡ false → IsNextAt all_spans addr full w.span (full_place list r)
     unfolding here
     repeat_next last o own r n f =
-        let there = is_at r n.keeper n.first.0.span n.row n.first.0.is in
+        let there = is_at r n.keeper n.first.0.span n.repeats.row n.first.0.is in
         record {
           span = n.first.0.span;
           at = there.full;
           reached = n.first.0.reached;
-          behind = inr (n.first.0.begins, stands_before full (full_place list r) this (record { unit = r.unit; place = r.place; span = n.first.0.span }) here.copy there.copy (inl n.later));
+          behind = inr (n.first.0.begins, stands_before full (full_place list r) this (record { unit = r.unit; place = r.place; span = n.first.0.span }) here.copy there.copy (inl n.repeats.later));
           first = λ p t is_t reached after. not_after there p t (is_range p t is_t) reached after;
         }
       where
@@ -426,7 +437,7 @@ module _ (kept : List (Owned Span)) (keepers : List ℕ) (list : List Copy) (row
         no_unit p t x reached same lt less =
             let l = rows.before x.copy.unit x.keeper x.row in
             elim (cases_lt x.keeper x.copy.unit) [
-              | inl other ↦ let k = n.least x.copy.unit x.keeper x.copy.place lt x.row other (alike p t x reached same) in absurd (omega arith)
+              | inl other ↦ let k = n.least x.copy.unit x.copy.place tt (repeated p t x reached same lt other) in absurd (omega arith)
               | inr one ↦ none_first o own r.unit f x.copy.place (record { item = t; owner = x.keeper }) x.kept_is reached same (omega arith) (omega arith)
             ]
 
@@ -440,8 +451,8 @@ module _ (kept : List (Owned Span)) (keepers : List ℕ) (list : List Copy) (row
               below = omega arith;
               tie = λ e. not_before (full_place list r) p (record { unit = r.unit; place = r.place; span = n.first.0.span }) x.copy there.copy x.is
                   (λ less. no_unit p t x reached same lt less)
-                  (λ unit. n.first.1 x.copy.place (subst (λ (k : ℕ). IsAlike kept k addr w.span.begin x.copy.place) (same_keeper r.unit x.copy.unit n.keeper x.keeper unit n.row x.row) (alike p t x reached same)));
+                  (λ unit. n.first.1 x.copy.place (subst (λ (k : ℕ). IsAlike kept k addr w.span.begin x.copy.place) (same_keeper r.unit x.copy.unit n.keeper x.keeper unit n.repeats.row x.row) (alike p t x reached same)));
             }
 
-    pub repeat_placed : (r : Place) → IsRepeat kept keepers at.unit addr w.span.begin r → IsPlaced kept keepers addr r
-    repeat_placed r n = record { keeper = n.keeper; span = n.first.0.span; is = n.first.0.is; row = n.row; reached = n.first.0.reached }
+    pub repeat_placed : (r : Place) → IsNextRepeat kept keepers at.unit addr w.span.begin (Some r) → IsPlaced kept keepers addr r
+    repeat_placed r n = record { keeper = n.keeper; span = n.first.0.span; is = n.first.0.is; row = n.repeats.row; reached = n.first.0.reached }

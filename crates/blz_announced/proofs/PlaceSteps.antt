@@ -10,7 +10,8 @@ use Rattle.blz_ranges.specs.Groups.{AreApart}
 use Rattle.blz_ranges.specs.Owned.{Owned, items_of, owner_at}
 use Rattle.blz_ranges.proofs.BestOf.{best_is, best_is_best}
 use Rattle.blz_announced.specs.declared.announced.Place.{Place}
-use Rattle.blz_announced.specs.Copies.{Announced, Copy, announced_all, announced_copies, begun, comes_first, full_place, goes_on, moved, told, HaveKeepers, IsLast, IsNextOwn, IsNextRepeat, IsOwn, IsPlaced, IsRepeat, StandsFor}
+use Rattle.blz_announced.specs.Copies.{Announced, Copy, announced_all, announced_copies, begun, comes_first, full_place, goes_on, moved, told, HaveKeepers, IsNextOwn, IsOwn, IsPlaced, StandsFor}
+use Rattle.blz_announced.specs.Repeats.{IsLast, IsNextRepeat, NoRepeatBefore}
 use Rattle.blz_announced.proofs.Copies.{are_copies, within, AreCopies}
 use Rattle.blz_announced.proofs.NextCopies.{as_kept, best_none, best_some, has_item, is_at, is_next, item_at, moved_next, moved_placed, next_is, none_next, own_next, own_placed, placed_kept, precedes_repeat, repeat_next, repeat_placed, some_is, stands_before, IsAt, IsNext, Precedes}
 
@@ -130,13 +131,13 @@ module _ (a : Announced) (rows : HaveKeepers a.kept.ranges a.keepers) (addr : �
 
       own_stands : (o : Option ℕ) → IsNextOwn kept at.unit addr w.span.begin o → IsNextRepeat kept a.keepers at.unit addr w.span.begin None → Stands (begun kept o) (next all addr (full_place list at))
       own_stands None own repeat = record { is = is_full_next None (none_next kept a.keepers list rows are addr at w last_one own repeat); placed = tt }
-      own_stands (Some q) own repeat = own_by q own (λ other k p lt row less alike. absurd (repeat other k p lt row less alike))
+      own_stands (Some q) own repeat = own_by q own (λ other p a. absurd (repeat other p tt a))
 
-      own_first_stands : (o : Option ℕ) → IsNextOwn kept at.unit addr w.span.begin o → (r : Place) → IsRepeat kept a.keepers at.unit addr w.span.begin r → comes_first kept w.span.begin r.unit o ≡ true → Stands (begun kept o) (next all addr (full_place list at))
-      own_first_stands None own r repeat e = absurd cc
-      own_first_stands (Some q) own r repeat e = own_by q own (precedes_repeat kept a.keepers list rows are addr at w q own r repeat e)
+      own_first_stands : (o : Option ℕ) → IsNextOwn kept at.unit addr w.span.begin o → (bound : ℕ) → NoRepeatBefore kept a.keepers at.unit addr w.span.begin bound → comes_first kept w.span.begin bound o ≡ true → Stands (begun kept o) (next all addr (full_place list at))
+      own_first_stands None own bound none e = absurd cc
+      own_first_stands (Some q) own bound none e = own_by q own (precedes_repeat kept a.keepers list rows are addr at w q own bound none e)
 
-      repeat_stands : (o : Option ℕ) → IsNextOwn kept at.unit addr w.span.begin o → (r : Place) → IsRepeat kept a.keepers at.unit addr w.span.begin r → comes_first kept w.span.begin r.unit o ≡ false → Stands (Some r) (next all addr (full_place list at))
+      repeat_stands : (o : Option ℕ) → IsNextOwn kept at.unit addr w.span.begin o → (r : Place) → IsNextRepeat kept a.keepers at.unit addr w.span.begin (Some r) → comes_first kept w.span.begin r.unit o ≡ false → Stands (Some r) (next all addr (full_place list at))
       repeat_stands o own r repeat e = record {
         is = is_full_next (Some (full_place list r)) (repeat_next kept a.keepers list rows are addr at w last_one o own r repeat e);
         placed = repeat_placed kept a.keepers list rows are addr at w r repeat;
@@ -156,11 +157,11 @@ module _ (a : Announced) (rows : HaveKeepers a.kept.ranges a.keepers) (addr : �
       pub own_behind : IsLast kept addr begin at.place → (o : Option ℕ) → IsNextOwn kept at.unit addr begin o → IsNextRepeat kept a.keepers at.unit addr begin None → Stands (begun kept o) (next all addr (full_place list at))
       own_behind = subst (λ (b : ℕ). IsLast kept addr b at.place → (o : Option ℕ) → IsNextOwn kept at.unit addr b o → IsNextRepeat kept a.keepers at.unit addr b None → Stands (begun kept o) (next all addr (full_place list at))) is_begin (λ last o own repeat. own_stands last o own repeat)
 
-      pub own_first : IsLast kept addr begin at.place → (o : Option ℕ) → IsNextOwn kept at.unit addr begin o → (r : Place) → IsRepeat kept a.keepers at.unit addr begin r → comes_first kept begin r.unit o ≡ true → Stands (begun kept o) (next all addr (full_place list at))
-      own_first = subst (λ (b : ℕ). IsLast kept addr b at.place → (o : Option ℕ) → IsNextOwn kept at.unit addr b o → (r : Place) → IsRepeat kept a.keepers at.unit addr b r → comes_first kept b r.unit o ≡ true → Stands (begun kept o) (next all addr (full_place list at))) is_begin (λ last o own r repeat e. own_first_stands last o own r repeat e)
+      pub own_first : IsLast kept addr begin at.place → (o : Option ℕ) → IsNextOwn kept at.unit addr begin o → (bound : ℕ) → NoRepeatBefore kept a.keepers at.unit addr begin bound → comes_first kept begin bound o ≡ true → Stands (begun kept o) (next all addr (full_place list at))
+      own_first = subst (λ (b : ℕ). IsLast kept addr b at.place → (o : Option ℕ) → IsNextOwn kept at.unit addr b o → (bound : ℕ) → NoRepeatBefore kept a.keepers at.unit addr b bound → comes_first kept b bound o ≡ true → Stands (begun kept o) (next all addr (full_place list at))) is_begin (λ last o own bound none e. own_first_stands last o own bound none e)
 
-      pub repeat_first : IsLast kept addr begin at.place → (o : Option ℕ) → IsNextOwn kept at.unit addr begin o → (r : Place) → IsRepeat kept a.keepers at.unit addr begin r → comes_first kept begin r.unit o ≡ false → Stands (Some r) (next all addr (full_place list at))
-      repeat_first = subst (λ (b : ℕ). IsLast kept addr b at.place → (o : Option ℕ) → IsNextOwn kept at.unit addr b o → (r : Place) → IsRepeat kept a.keepers at.unit addr b r → comes_first kept b r.unit o ≡ false → Stands (Some r) (next all addr (full_place list at))) is_begin (λ last o own r repeat e. repeat_stands last o own r repeat e)
+      pub repeat_first : IsLast kept addr begin at.place → (o : Option ℕ) → IsNextOwn kept at.unit addr begin o → (r : Place) → IsNextRepeat kept a.keepers at.unit addr begin (Some r) → comes_first kept begin r.unit o ≡ false → Stands (Some r) (next all addr (full_place list at))
+      repeat_first = subst (λ (b : ℕ). IsLast kept addr b at.place → (o : Option ℕ) → IsNextOwn kept at.unit addr b o → (r : Place) → IsNextRepeat kept a.keepers at.unit addr b (Some r) → comes_first kept b r.unit o ≡ false → Stands (Some r) (next all addr (full_place list at))) is_begin (λ last o own r repeat e. repeat_stands last o own r repeat e)
 
 -- ---- looks
 

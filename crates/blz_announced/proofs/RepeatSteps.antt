@@ -1,5 +1,5 @@
--- The units that are not their own keepers, behind a unit, and the first range of each that begins alike.
-use Rattle.std.proofs.Common.{◌≡◌, ℕ, zero, suc, ◌+◌, ◌-◌, ◌<◌, ◌≤◌, eqb, true, false, leb, List, [], ◌∷◌, length, Option, Some, None, refl, sym, ap, subst, ◌∙◌, arith, inl, inr, ◌⊎◌}
+-- The units that are not their own keepers, asked one after the other for their first range that begins alike.
+use Rattle.std.proofs.Common.{◌≡◌, ℕ, zero, suc, ◌+◌, ◌-◌, ◌<◌, ◌≤◌, eqb, true, false, leb, List, [], ◌∷◌, length, Option, Some, None, refl, sym, ap, subst, ◌∙◌, arith, inl, inr}
 use Rattle.std.specs.Prelude.{◌&&◌, option_map, unwrap_or}
 use Rattle.std.specs.List.{slice_get}
 use Rattle.std.specs.List.Sorted.{IsPartitionPoint}
@@ -7,10 +7,11 @@ use Rattle.std.proofs.lemmas.Bool.{cases_lt, and_parts, and_from, eqb-true, eq-e
 use Rattle.std.proofs.lemmas.Option.{get_or_from_slice_get}
 use Rattle.blz_ranges.specs.declared.span.Span.{Span}
 use Rattle.blz_ranges.specs.Best.{covers}
-use Rattle.blz_ranges.specs.Owned.{Owned, items_of}
-use Rattle.blz_announced.specs.Copies.{is_alike, no_longer, same_number, start_of, AreEnds, AreRepeats, HaveKeepers, IsAlike, IsFirstAlike, IsLater, IsNextOwn, IsNextRepeat, IsRepeat, IsSplitAt}
+use Rattle.blz_ranges.specs.Owned.{Owned, items_of, owner_at}
+use Rattle.blz_announced.specs.Copies.{no_longer, same_number, start_of, AreEnds, AreRepeats, HaveKeepers, IsLater, IsNextOwn, IsSplitAt}
+use Rattle.blz_announced.specs.Repeats.{is_alike, IsAlike, IsBegunAt, IsFirstAlike, IsNextBegun, IsNextRepeat, NoRepeatBefore, RepeatsAt}
 use Rattle.blz_announced.proofs.Copies.{within}
-use Rattle.blz_announced.proofs.NextCopies.{has_item, item_at, some_is, After, IsNext, IsNextAt}
+use Rattle.blz_announced.proofs.NextCopies.{has_item, item_at, some_is, After, IsNext}
 
 -- ---- a range that begins alike, by a test
 
@@ -54,10 +55,13 @@ split_at list n at bound p = record {
 
 -- ---- the first of the ranges of a keeper that begin alike
 
-there_at : {A : Type 0} (xs : List A) (i : ℕ) → i < length xs → (x : A) × (slice_get xs i ≡ Some x)
+pub there_at : {A : Type 0} (xs : List A) (i : ℕ) → i < length xs → (x : A) × (slice_get xs i ≡ Some x)
 there_at [] i lt = absurd (omega arith)
 there_at (x ∷ xs) zero lt = (x, refl)
 there_at (x ∷ xs) (suc i) lt = there_at xs i (omega arith)
+
+past_end : {A : Type 0} (xs : List A) (i : ℕ) → slice_get xs i ≡ None → length xs ≤ i
+past_end xs i none = elim (cases_lt i (length xs)) [ inl lt ↦ absurd (let h = there_at xs i lt in let e = sym h.1 ∙ none in cc) | inr ge ↦ ge ]
 
 module _ (kept : List (Owned Span)) (keepers ends : List ℕ) (have : HaveKeepers kept keepers) (are : AreEnds kept keepers ends) where
   -- all ranges of a keeper stand from where they begin on
@@ -95,35 +99,23 @@ module _ (kept : List (Owned Span)) (keepers ends : List ℕ) (have : HaveKeeper
     pub first_at : is_alike kept keeper addr begin from ≡ true → IsFirstAlike kept keeper addr begin (Some from)
     first_at t = (alike_by kept keeper addr begin from t, alike_from)
 
-    pub first_none : is_alike kept keeper addr begin from ≡ false → (o : Option ℕ) → o ≡ None → IsNext (items_of kept) addr from (no_longer begin) o → IsFirstAlike kept keeper addr begin None
-    first_none f None e n = λ q a. n q a.span (item_at kept q (record { item = a.span; owner = keeper }) a.is) a.reached (inr (a.begins, behind_first f q a))
-    first_none f (Some r) e n = absurd cc
+    pub first_none : is_alike kept keeper addr begin from ≡ false → IsNextBegun kept addr begin from None → IsFirstAlike kept keeper addr begin None
+    first_none f n = λ q a. n keeper q a (behind_first f q a)
 
-    pub next_of : (o : Option ℕ) (r : ℕ) → o ≡ Some r → IsNext (items_of kept) addr from (no_longer begin) o → IsNextAt (items_of kept) addr from (no_longer begin) r
-    next_of o r e n = subst (IsNext (items_of kept) addr from (no_longer begin)) e n
+    same_owner : (r : ℕ) (n : IsBegunAt kept addr begin from r) → same_number (owner_at kept r) (Some keeper) ≡ eqb n.keeper keeper
+    same_owner r n = ap (λ (o : Option (Owned Span)). same_number (option_map (λ (y : Owned Span). y.owner) o) (Some keeper)) n.alike.is
 
-    pub first_next : is_alike kept keeper addr begin from ≡ false → (r : ℕ) → IsNextAt (items_of kept) addr from (no_longer begin) r → is_alike kept keeper addr begin r ≡ true → IsFirstAlike kept keeper addr begin (Some r)
+    pub first_next : is_alike kept keeper addr begin from ≡ false → (r : ℕ) → IsBegunAt kept addr begin from r → same_number (owner_at kept r) (Some keeper) ≡ true → IsFirstAlike kept keeper addr begin (Some r)
     first_next f r n t =
-        let b = alike_by kept keeper addr begin r t in
-        let same : n.span ≡ b.span = some_is n.span b.span (sym n.at ∙ item_at kept r (record { item = b.span; owner = keeper }) b.is) in
-        let begins : n.span.begin ≡ begin = ap (λ (s : Span). s.begin) same ∙ b.begins in
-        (b, λ q a. (n.first q a.span (item_at kept q (record { item = a.span; owner = keeper }) a.is) a.reached (inr (a.begins, behind_first f q a))).tie (a.begins ∙ sym begins))
+        let same : n.keeper ≡ keeper = eqb-true n.keeper keeper (sym (same_owner r n) ∙ t) in
+        (subst (λ (k : ℕ). IsAlike kept k addr begin r) same n.alike, λ q a. n.first keeper q a (behind_first f q a))
 
-    pub first_other : is_alike kept keeper addr begin from ≡ false → (r : ℕ) → IsNextAt (items_of kept) addr from (no_longer begin) r → is_alike kept keeper addr begin r ≡ false → IsFirstAlike kept keeper addr begin None
+    pub first_other : is_alike kept keeper addr begin from ≡ false → (r : ℕ) → IsBegunAt kept addr begin from r → same_number (owner_at kept r) (Some keeper) ≡ false → IsFirstAlike kept keeper addr begin None
     first_other f r n g = λ q a.
-        let k = n.first q a.span (item_at kept q (record { item = a.span; owner = keeper }) a.is) a.reached (inr (a.begins, behind_first f q a)) in
-        let begins = not_above n.behind (a.begins) k.below in
-        let le = k.tie (a.begins ∙ sym begins.0) in
-        let h = has_item kept r n.span n.at in
-        let up = have.sorted r q (record { item = n.span; owner = h.keeper }) (record { item = a.span; owner = keeper }) le h.is a.is in
-        let down = owner_from keeper r (record { item = n.span; owner = h.keeper }) lt h.is (let b = begins.1 in omega (arith, start)) in
-        let same : h.keeper ≡ keeper = omega arith in
-        let is = subst (λ (m : ℕ). slice_get kept r ≡ Some (record { item = n.span; owner = m })) same h.is in
-        false≢true (sym g ∙ alike_tests kept keeper addr begin r (record { span = n.span; is = is; begins = begins.0; reached = n.reached }))
-      where
-        not_above : {b : ℕ} → (n.span.begin < begin) ⊎ ((n.span.begin ≡ begin) × (from < r)) → b ≡ begin → b ≤ n.span.begin → (n.span.begin ≡ begin) × (from ≤ r)
-        not_above (inl less) e le = absurd (omega arith)
-        not_above (inr h) e le = (h.0, let l = h.1 in omega arith)
+        let le = n.first keeper q a (behind_first f q a) in
+        let up = have.sorted r q (record { item = n.alike.span; owner = n.keeper }) (record { item = a.span; owner = keeper }) le n.alike.is a.is in
+        let down = owner_from keeper r (record { item = n.alike.span; owner = n.keeper }) lt n.alike.is (let b = n.behind in omega (arith, start)) in
+        false≢true (sym g ∙ (same_owner r n ∙ eq-eqb n.keeper keeper (omega arith)))
 
   -- ---- the best that is kept for a later unit or begins below
 
@@ -173,41 +165,43 @@ module _ (kept : List (Owned Span)) (keepers ends : List ℕ) (have : HaveKeeper
 -- ---- the next of the units that are not their own keepers
 
 -- no such unit before a place has a range that begins alike
-abbrev pub NoneBefore : List (Owned Span) → List ℕ → List ℕ → ℕ → ℕ → ℕ → ℕ → Type 0
-NoneBefore kept keepers repeats unit addr begin at = (i other k q : ℕ) → i < at → slice_get repeats i ≡ Some other → unit < other → slice_get keepers other ≡ Some k → IsAlike kept k addr begin q → ⊥
+abbrev pub NoneAsked : List (Owned Span) → List ℕ → List ℕ → ℕ → ℕ → ℕ → ℕ → Type 0
+NoneAsked kept keepers repeats unit addr begin at = (i other q : ℕ) → i < at → slice_get repeats i ≡ Some other → RepeatsAt kept keepers unit addr begin other q → ⊥
 
 module _ (kept : List (Owned Span)) (keepers repeats : List ℕ) (are : AreRepeats keepers repeats) (unit addr begin from : ℕ) (split : IsSplitAt repeats unit from) where
-  pub none_from : NoneBefore kept keepers repeats unit addr begin from
-  none_from = λ i other k q lt is less row a. let le = split.below i other lt is in omega arith
+  pub none_from : NoneAsked kept keepers repeats unit addr begin from
+  none_from = λ i other q lt is a. let le = split.below i other lt is in let l = a.repeats.later in omega arith
 
-  pub none_more : (at r : ℕ) → NoneBefore kept keepers repeats unit addr begin at → slice_get repeats at ≡ Some r → ((keeper : ℕ) → slice_get keepers r ≡ Some keeper → IsFirstAlike kept keeper addr begin None) → NoneBefore kept keepers repeats unit addr begin (at + 1)
-  none_more at r none is first = λ i other k q lt at_i less row a. elim (cases_lt i at) [
-    | inl before ↦ none i other k q before at_i less row a
+  pub none_more : (at r : ℕ) → NoneAsked kept keepers repeats unit addr begin at → slice_get repeats at ≡ Some r → ((keeper : ℕ) → slice_get keepers r ≡ Some keeper → IsFirstAlike kept keeper addr begin None) → NoneAsked kept keepers repeats unit addr begin (at + 1)
+  none_more at r none is first = λ i other q lt at_i a. elim (cases_lt i at) [
+    | inl before ↦ none i other q before at_i a
     | inr here ↦
         let place : i ≡ at = omega arith in
         let same : other ≡ r = some_is other r (sym at_i ∙ subst (λ (n : ℕ). slice_get repeats n ≡ Some r) (sym place) is) in
-        first k (subst (λ (n : ℕ). slice_get keepers n ≡ Some k) same row) q a
+        first a.keeper (subst (λ (n : ℕ). slice_get keepers n ≡ Some a.keeper) same a.repeats.row) q a.alike
   ]
 
-  pub repeat_none : (at : ℕ) → length repeats ≤ at → NoneBefore kept keepers repeats unit addr begin at → IsNextRepeat kept keepers unit addr begin None
-  repeat_none at over none = λ other k q lt row less a. let e = are.all other k row less in none e.0 other k q (let l = within repeats e.0 other e.1 in omega arith) e.1 lt row a
+  pub none_left : (at : ℕ) → slice_get repeats at ≡ None → NoneAsked kept keepers repeats unit addr begin at → IsNextRepeat kept keepers unit addr begin None
+  none_left at over none = λ other q all a. let e = are.all other a.keeper a.repeats.row a.repeats.differs in none e.0 other q (let l = within repeats e.0 other e.1 in let k = past_end repeats at over in omega arith) e.1 a
 
-  pub repeat_found : (at r place : ℕ) → from ≤ at → NoneBefore kept keepers repeats unit addr begin at → slice_get repeats at ≡ Some r → ((keeper : ℕ) → slice_get keepers r ≡ Some keeper → IsFirstAlike kept keeper addr begin (Some place)) → IsRepeat kept keepers unit addr begin (record { place = place; unit = r })
+  pub none_before : (at r : ℕ) → NoneAsked kept keepers repeats unit addr begin at → slice_get repeats at ≡ Some r → NoRepeatBefore kept keepers unit addr begin r
+  none_before at r none is = λ other q a.
+      let e = are.all other a.keeper a.repeats.row a.repeats.differs in
+      elim (cases_lt e.0 at) [
+        | inl before ↦ absurd (none e.0 other q before e.1 a)
+        | inr more ↦
+            let up = are.rising at e.0 0 more (within repeats e.0 other e.1) in
+            let x = get_or_from_slice_get repeats at r 0 is in
+            let y = get_or_from_slice_get repeats e.0 other 0 e.1 in
+            omega arith
+      ]
+
+  pub repeat_found : (at r place : ℕ) → from ≤ at → NoneAsked kept keepers repeats unit addr begin at → slice_get repeats at ≡ Some r → ((keeper : ℕ) → slice_get keepers r ≡ Some keeper → IsFirstAlike kept keeper addr begin (Some place)) → IsNextRepeat kept keepers unit addr begin (Some (record { place = place; unit = r }))
   repeat_found at r place le none is first =
       let there = there_at keepers r (are.units at r is) in
       record {
         keeper = there.0;
-        later = split.above at r le is;
-        row = there.1;
+        repeats = record { later = split.above at r le is; row = there.1; differs = are.differ at r there.0 is there.1 };
         first = first there.0 there.1;
-        least = λ other k q lt row less a.
-            let e = are.all other k row less in
-            elim (cases_lt e.0 at) [
-              | inl before ↦ absurd (none e.0 other k q before e.1 lt row a)
-              | inr more ↦
-                  let up = are.rising at e.0 0 more (within repeats e.0 other e.1) in
-                  let x = get_or_from_slice_get repeats at r 0 is in
-                  let y = get_or_from_slice_get repeats e.0 other 0 e.1 in
-                  omega arith
-            ];
+        least = λ other q all a. none_before at r none is other q a;
       }

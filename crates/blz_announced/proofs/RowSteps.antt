@@ -172,8 +172,8 @@ module _ (kept : List (Owned Span)) (keepers : List ℕ) (have : HaveKeepers kep
 
   -- ---- the units that are not their own keepers
 
-  again_repeats : (repeats : List ℕ) (keeper : ℕ) → AreRepeats keepers repeats → AreRepeats (keepers ++ keeper ∷ []) (repeats ++ length keepers ∷ [])
-  again_repeats repeats keeper are = record {
+  again_repeats : (repeats : List ℕ) (keeper : ℕ) → slice_get keepers keeper ≡ Some keeper → AreRepeats keepers repeats → AreRepeats (keepers ++ keeper ∷ []) (repeats ++ length keepers ∷ [])
+  again_repeats repeats keeper is are = record {
     rising = IsNonDecreasingBy-push (λ (n : ℕ). n) repeats (length keepers) are.rising (λ d some.
         let at = slice_get-get_or repeats (length repeats - 1) d (omega arith) in
         let lt = are.units (length repeats - 1) (get_or repeats (length repeats - 1) d) at in
@@ -182,9 +182,16 @@ module _ (kept : List (Owned Span)) (keepers : List ℕ) (have : HaveKeepers kep
       | inl h ↦ let lt = are.units at unit h in omega arith
       | inr h ↦ let f = h.1 in omega arith
     ];
+    differ = λ at unit other has row. by_differ at unit other (last_or repeats (length keepers) at unit has) (last_or keepers keeper unit other row);
     all = λ unit other has lt. by_all unit other lt (last_or keepers keeper unit other has);
   }
     where
+      by_differ : (at unit other : ℕ) → (slice_get repeats at ≡ Some unit) ⊎ ((at ≡ length repeats) × (length keepers ≡ unit)) → (slice_get keepers unit ≡ Some other) ⊎ ((unit ≡ length keepers) × (keeper ≡ other)) → other < unit
+      by_differ at unit other (inl h) (inl k) = are.differ at unit other h k
+      by_differ at unit other (inl h) (inr k) = absurd (let lt = are.units at unit h in let e = k.0 in omega arith)
+      by_differ at unit other (inr h) (inl k) = absurd (let lt = within keepers unit other k in let e = h.1 in omega arith)
+      by_differ at unit other (inr h) (inr k) = let lt = within keepers keeper keeper is in let e = k.0 in let f = k.1 in omega arith
+
       by_all : (unit other : ℕ) → other < unit → (slice_get keepers unit ≡ Some other) ⊎ ((unit ≡ length keepers) × (keeper ≡ other)) → (at : ℕ) × (slice_get (repeats ++ length keepers ∷ []) at ≡ Some unit)
       by_all unit other lt (inl h) = let k = are.all unit other h lt in (k.0, in_front repeats (length keepers ∷ []) k.0 unit k.1)
       by_all unit other lt (inr h) = (length repeats, at_end repeats (length keepers) ∙ ap (λ (n : ℕ). Some n) (sym h.0))
@@ -193,6 +200,10 @@ module _ (kept : List (Owned Span)) (keepers : List ℕ) (have : HaveKeepers kep
   list_repeats repeats are = record {
     rising = are.rising;
     units = λ at unit has. let n = length-append keepers (length keepers ∷ []) in let lt = are.units at unit has in omega arith;
+    differ = λ at unit other has row. elim (last_or keepers (length keepers) unit other row) [
+      | inl h ↦ are.differ at unit other has h
+      | inr h ↦ absurd (let lt = are.units at unit has in let e = h.0 in omega arith)
+    ];
     all = λ unit other has lt. elim (last_or keepers (length keepers) unit other has) [
       | inl h ↦ are.all unit other h lt
       | inr h ↦ absurd (let e = h.0 in let f = h.1 in omega arith)
@@ -246,7 +257,7 @@ module _ (spans : List Span) (owners : List ℕ) (k new : Keepers) (last from ke
     are = record {
       have = rw units (again_have (owned spans owners) k.of_units.items once.are.have keeper is);
       ends = rw (units, ends) (again_ends (owned spans owners) k.of_units.items once.are.have k.ends.items keeper end once.are.ends (let e = length_owned spans owners once.same in omega arith));
-      repeats = rw (units, repeats, is_unit) (again_repeats (owned spans owners) k.of_units.items once.are.have k.repeats.items keeper once.are.repeats);
+      repeats = rw (units, repeats, is_unit) (again_repeats (owned spans owners) k.of_units.items once.are.have k.repeats.items keeper is once.are.repeats);
     };
     within = once.within;
     own = λ some. rw units (in_front k.of_units.items (keeper ∷ []) last last (once.own (let lt = within k.of_units.items keeper keeper is in omega arith)));
@@ -329,7 +340,7 @@ none_kept k units ends repeats = record {
   are = record {
     have = rw units (record { before = λ unit keeper is. absurd cc; own = λ unit keeper is. absurd cc; ranges = λ p x is. absurd cc; sorted = λ p q x y le is_p is_q. absurd cc });
     ends = rw (units, ends) (record { count = refl; within = λ unit end is. absurd cc; below = λ unit end p x has is lt. absurd cc; above = λ unit end p x has is le. absurd cc });
-    repeats = rw (units, repeats) (record { rising = IsNonDecreasingBy-short (λ (n : ℕ). n) [] (omega arith); units = λ at unit is. absurd cc; all = λ unit keeper is lt. absurd cc });
+    repeats = rw (units, repeats) (record { rising = IsNonDecreasingBy-short (λ (n : ℕ). n) [] (omega arith); units = λ at unit is. absurd cc; differ = λ at unit keeper is row. absurd cc; all = λ unit keeper is lt. absurd cc });
   };
   within = omega arith;
   own = λ some. absurd (let e = ap length units in omega arith);

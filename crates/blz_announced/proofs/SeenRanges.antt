@@ -9,7 +9,8 @@ use Rattle.blz_ranges.specs.Best.{best, covers, no_span, passes, NotAfter, IsBes
 use Rattle.blz_ranges.specs.Groups.{best_in, group_is, grouped, in_group, spans_of}
 use Rattle.blz_ranges.specs.Owned.{Owned, items_of, owner_at}
 use Rattle.blz_ranges.proofs.BestOf.{best_is, best_is_best}
-use Rattle.blz_announced.specs.Copies.{begin_alike, begun, comes_first, kept_at, no_longer, same_number, up_to, AreEnds, HaveKeepers, IsAlike, IsFirstAlike, IsLast, IsNextOwn, IsPlaced}
+use Rattle.blz_announced.specs.Copies.{begin_alike, begun, comes_first, kept_at, no_longer, same_number, up_to, AreEnds, HaveKeepers, IsNextOwn, IsPlaced}
+use Rattle.blz_announced.specs.Repeats.{IsAlike, IsFirstAlike, IsLast}
 use Rattle.blz_announced.specs.Seen.{by_owner, hidden, is_seen, seen, seen_from}
 use Rattle.blz_announced.specs.declared.announced.Asked.{Asked}
 use Rattle.blz_announced.specs.declared.announced.Place.{Place}

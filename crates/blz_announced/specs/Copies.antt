@@ -60,6 +60,7 @@ start_of ends (suc unit) = unwrap_or (slice_get ends unit) 0
 pub record AreRepeats (keepers repeats : List ℕ) : Type 0 where
   pub rising : IsNonDecreasingBy (λ (n : ℕ). n) repeats
   pub units : (at unit : ℕ) → slice_get repeats at ≡ Some unit → unit < length keepers
+  pub differ : (at unit keeper : ℕ) → slice_get repeats at ≡ Some unit → slice_get keepers unit ≡ Some keeper → keeper < unit
   pub all : (unit keeper : ℕ) → slice_get keepers unit ≡ Some keeper → keeper < unit → (at : ℕ) × (slice_get repeats at ≡ Some unit)
 
 -- Up to a place no number of a list is above one, and from there on each is.
@@ -179,43 +180,7 @@ abbrev pub begun : List (Owned Span) → Option ℕ → Option Place
 begun kept None = None
 begun kept (Some place) = kept_at (owner_at kept place) place
 
--- ---- the next unit with a range that begins alike
-
--- No range of the keeper of a range comes after it that covers an address and begins at a number.
-abbrev pub IsLast : List (Owned Span) → ℕ → ℕ → ℕ → Type 0
-IsLast kept addr begin place = (keeper q : ℕ) (t : Span) → owner_at kept place ≡ Some keeper → slice_get kept q ≡ Some (record { item = t; owner = keeper }) → covers t addr ≡ true → t.begin ≡ begin → place < q → ⊥
-
--- A range of a keeper that covers an address and begins at a number.
-pub record IsAlike (kept : List (Owned Span)) (keeper addr begin place : ℕ) : Type 0 where
-  pub span : Span
-  pub is : slice_get kept place ≡ Some (record { item = span; owner = keeper })
-  pub begins : span.begin ≡ begin
-  pub reached : covers span addr ≡ true
-
--- the same as a test
-abbrev pub begins_at : ℕ → ℕ → Option Span → Bool
-begins_at addr begin None = false
-begins_at addr begin (Some s) = s.begin == begin && covers s addr
-
-abbrev pub is_alike : List (Owned Span) → ℕ → ℕ → ℕ → ℕ → Bool
-is_alike kept keeper addr begin place = same_number (owner_at kept place) (Some keeper) && begins_at addr begin (slice_get (items_of kept) place)
-
--- the first of these
-abbrev pub IsFirstAlike : List (Owned Span) → ℕ → ℕ → ℕ → Option ℕ → Type 0
-IsFirstAlike kept keeper addr begin None = (q : ℕ) → IsAlike kept keeper addr begin q → ⊥
-IsFirstAlike kept keeper addr begin (Some place) = IsAlike kept keeper addr begin place × ((q : ℕ) → IsAlike kept keeper addr begin q → place ≤ q)
-
--- The next unit that is not its own keeper and has such a range, at the first of these.
-pub record IsRepeat (kept : List (Owned Span)) (keepers : List ℕ) (unit addr begin : ℕ) (at : Place) : Type 0 where
-  pub keeper : ℕ
-  pub later : unit < at.unit
-  pub row : slice_get keepers at.unit ≡ Some keeper
-  pub first : IsFirstAlike kept keeper addr begin (Some at.place)
-  pub least : (other k q : ℕ) → unit < other → slice_get keepers other ≡ Some k → k < other → IsAlike kept k addr begin q → at.unit ≤ other
-
-abbrev pub IsNextRepeat : List (Owned Span) → List ℕ → ℕ → ℕ → ℕ → Option Place → Type 0
-IsNextRepeat kept keepers unit addr begin None = (other k q : ℕ) → unit < other → slice_get keepers other ≡ Some k → k < other → IsAlike kept k addr begin q → ⊥
-IsNextRepeat kept keepers unit addr begin (Some at) = IsRepeat kept keepers unit addr begin at
+-- ---- the best range that comes later
 
 -- a range that begins below a number, or there and is kept for a later unit
 abbrev pub IsLater : ℕ → ℕ → Owned Span → Type 0

@@ -1,3 +1,4 @@
 pub mod Announced
 pub mod Copies
+pub mod Repeats
 pub mod Seen

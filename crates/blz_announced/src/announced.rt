@@ -7,10 +7,14 @@ ghost use Rattle.blz_ranges.specs.Keyed.{IsAccepted, begin_key};
 ghost use Rattle.blz_ranges.specs.Owned.{Owned, owned, items_of, owner_at};
 ghost use Rattle.blz_announced.specs.Seen.{by_owner, is_best_of, is_seen, seen, seen_by};
 ghost use Rattle.blz_ranges.specs.declared.span.Span.{Span};
-ghost use Rattle.blz_announced.specs.Copies.{announced_all, announced_copies, are_alike, begin_alike, begins_at, begun, comes_first, full_place, goes_on, is_alike, is_below, kept_at, moved, no_longer, same_number, up_to, AreKeepers, HaveKeepers, IsBehind, IsFirstAlike, IsLast, IsNextRepeat, IsOwnUpTo, IsPlaced, StandsFor};
+ghost use Rattle.blz_announced.specs.Copies.{announced_all, announced_copies, are_alike, begin_alike, begun, comes_first, full_place, goes_on, is_below, kept_at, moved, no_longer, same_number, up_to, AreKeepers, HaveKeepers, IsBehind, IsOwnUpTo, IsPlaced, StandsFor};
+ghost use Rattle.blz_announced.specs.Repeats.{begins_at, is_alike, IsFirstAlike, IsLast};
 ghost use Rattle.blz_announced.specs.Announced.{unit_at};
 
-use crate::comparing::{begin_alike, begins_at, behind, is_below, no_longer, same_number};
+mod repeats;
+
+use crate::announced::repeats::{Near, repeats_by_keeper, unit_near};
+use crate::comparing::{begin_alike, begins_at, begins_with, behind, is_below, same_number};
 use crate::keepers::Keepers;
 use blz_bytes::{Orders, Steps};
 use blz_ranges::{GroupIndex, Grouped, Placed, RangeIndex, Span, fitted, group_keys, number_at};
@@ -41,19 +45,22 @@ pub struct Announced {
     owners: Vec<usize>,
     by_keeper: GroupIndex,
     keepers: Keepers,
+    /// The units that are not their own keepers, each as the range of the units before it.
+    repeats: GroupIndex,
 }
 
 impl Model for Announced {
     ghost use Rattle.std.specs.Prelude.{◌≡◌, length};
     ghost use Rattle.blz_ranges.specs.Owned.{owned};
     ghost use Rattle.blz_announced.specs.Copies.{Announced, AreKeepers};
+    ghost use Rattle.blz_announced.specs.Repeats.{repeats_by_keeper};
     ghost use Rattle.blz_announced.specs.Seen.{by_owner};
 
     ghost Value = { Announced };
 
     ghost view = { λ a. record { kept = record { ranges = owned a.index.spans a.owners.items; ordered = a.index.ordered }; keepers = a.keepers.of_units.items } };
 
-    ghost invariant = { λ a. (length a.index.spans ≡ length a.owners.items) × (AreKeepers (owned a.index.spans a.owners.items) a.keepers × (a.by_keeper.list ≡ by_owner (owned a.index.spans a.owners.items))) };
+    ghost invariant = { λ a. (length a.index.spans ≡ length a.owners.items) × (AreKeepers (owned a.index.spans a.owners.items) a.keepers × (a.by_keeper.list ≡ by_owner (owned a.index.spans a.owners.items)) × (a.repeats.list ≡ repeats_by_keeper a.keepers.of_units.items a.keepers.repeats.items)) };
 }
 
 fn moved(at: Place, next: Option<usize>) -> Option<Place>
@@ -89,6 +96,18 @@ fn by_owner(alloc: Global, spans: &[Span], owners: &[usize]) -> Result<Vec<Group
     Ok(list)
 }
 
+/// An index of ranges in groups.
+fn index_of<O: Orders>(
+    alloc: Global,
+    orders: &mut O,
+    list: Vec<Grouped>,
+) -> Result<GroupIndex, AllocError>
+    ensures { IfOk result (λ x. x.list ≡ list.items) }
+{
+    let keys = group_keys(alloc, list.as_slice())?;
+    GroupIndex::build(alloc, orders, list, keys.as_slice())
+}
+
 /// The unit of a range.
 pub fn unit_at(place: Option<Place>) -> Option<usize>
     ensures { result ≡ unit_at place }
@@ -115,9 +134,9 @@ impl Announced {
         ensures accepted { IfOk result (λ a. IsAccepted O.pair_places (map begin_key (items_of a.kept.ranges)) a.kept.ordered) }
     {
         let list = by_owner(alloc, spans.as_slice(), owners.as_slice())?;
-        let keys = group_keys(alloc, list.as_slice())?;
-        let by_keeper = GroupIndex::build(alloc, orders, list, keys.as_slice())?;
+        let by_keeper = index_of(alloc, orders, list)?;
         let index = RangeIndex::build(alloc, orders, spans)?;
+        let repeats = index_of(alloc, orders, repeats_by_keeper(alloc, &keepers)?)?;
         let owners = fitted(owners);
         let keepers = keepers.fitted();
         Ok(Announced {
@@ -125,6 +144,7 @@ impl Announced {
             owners,
             by_keeper,
             keepers,
+            repeats,
         })
     }
 
@@ -185,7 +205,7 @@ impl Announced {
         if !is_below(unit, self.keeper(place)) {
             return false;
         }
-        begin_alike(self.index.span(place, steps), Some(no_longer(begin)))
+        begins_with(begin, self.index.span(place, steps))
     }
 
     /// A range, where it comes before the ranges of a unit that begin at a number.
@@ -288,10 +308,10 @@ impl Announced {
         if self.is_alike(keeper, addr, begin, from, steps) {
             return Some(from);
         }
-        let Some(next) = self.index.next_after(addr, behind(from, begin), steps) else {
+        let Some(next) = self.next_begun(addr, begin, from, steps) else {
             return None;
         };
-        if self.is_alike(keeper, addr, begin, next, steps) {
+        if same_number(self.keeper(next), Some(keeper)) {
             Some(next)
         } else {
             None
@@ -313,7 +333,7 @@ impl Announced {
         let Some(place) = self.by_keeper.best_in(keeper, asked.addr, steps) else {
             return None;
         };
-        if begin_alike(self.index.span(place, steps), Some(no_longer(begin))) {
+        if begins_with(begin, self.index.span(place, steps)) {
             Some(place)
         } else {
             None
@@ -355,30 +375,6 @@ impl Announced {
         self.first_seen(asked, keeper, begin, steps)
     }
 
-    /// The next unit that is not its own keeper and has such a range, at the first of these.
-    fn next_repeat<L: Ledger>(
-        &self,
-        asked: Asked,
-        unit: usize,
-        begin: u64,
-        steps: &mut Steps<L>,
-    ) -> Option<Place>
-        ensures next { IsNextRepeat (seen asked self.now.kept.ranges) self.now.keepers unit asked.addr begin result }
-        ensures later { steps.old ≤ steps.new }
-    {
-        let from = self.keepers.repeats_to(unit);
-        for at in from..self.keepers.repeats.len() {
-            let repeat = self.keepers.repeats[at];
-            if let Some(place) = self.first_of_unit(asked, repeat, begin, steps) {
-                return Some(Place {
-                    place,
-                    unit: repeat,
-                });
-            }
-        }
-        None
-    }
-
     /// Of the ranges that begin below a number, or there and are kept for a later unit, the best that is seen, where it
     /// comes before those of another unit that begin there.
     fn next_own<L: Ledger>(
@@ -401,8 +397,9 @@ impl Announced {
         self.next_seen(asked, behind(end - 1, begin), before, steps)
     }
 
-    /// Where no further range of its unit begins alike: the next unit with a range that does, or else the next range.
-    fn behind_unit<L: Ledger>(
+    /// Where the next units that are not their own keepers have no range that begins alike, and no further own range comes
+    /// before them.
+    fn behind_far<L: Ledger>(
         &self,
         asked: Asked,
         at: Place,
@@ -421,6 +418,33 @@ impl Announced {
         match own {
             Some(_) => self.begun(own),
             None => repeat,
+        }
+    }
+
+    /// Where no further range of its unit begins alike: the next unit with a range that does, or else the next range.
+    fn behind_unit<L: Ledger>(
+        &self,
+        asked: Asked,
+        at: Place,
+        begin: u64,
+        steps: &mut Steps<L>,
+    ) -> Option<Place>
+        requires have { HaveKeepers (seen asked self.now.kept.ranges) self.now.keepers }
+        requires placed { IsPlaced (seen asked self.now.kept.ranges) self.now.keepers asked.addr at }
+        requires begin { (x : Owned Span) → slice_get (seen asked self.now.kept.ranges) at.place ≡ Some x → x.item.begin ≡ begin }
+        requires last { IsLast (seen asked self.now.kept.ranges) asked.addr begin at.place }
+        ensures place { IsBehind (seen_by asked self.now) asked.addr at result }
+        ensures later { steps.old ≤ steps.new }
+    {
+        let near = self.near_repeat(asked, at.unit, begin, steps);
+        let own = self.next_own(asked, at.unit, begin, unit_near(near), steps);
+        if own.is_some() {
+            return self.begun(own);
+        }
+        match near {
+            Near::Found(repeat) => Some(repeat),
+            Near::NoneBefore(_) => self.behind_far(asked, at, begin, steps),
+            Near::NoneLeft => None,
         }
     }
 

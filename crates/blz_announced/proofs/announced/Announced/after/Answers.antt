@@ -3,7 +3,7 @@ use Rattle.std.specs.List.{slice_get}
 use Rattle.blz_ranges.specs.declared.span.Span.{Span}
 use Rattle.blz_ranges.specs.Owned.{items_of}
 use Rattle.blz_ranges.proofs.OwnedItems.{items_owned}
-use Rattle.blz_announced.specs.Copies.{IsLast}
+use Rattle.blz_announced.specs.Repeats.{IsLast}
 use Rattle.blz_announced.specs.Seen.{seen}
 use Rattle.blz_announced.proofs.NextCopies.{item_at, some_is}
 use Rattle.blz_announced.proofs.SeenRanges.{placed_kept, seen_keepers}

@@ -16,20 +16,20 @@ returns-in_default-clause-first g c =
     let best : best_in (by_owner kept) c.args.keeper c.args.asked.addr ≡ None = ap (λ (l : List Grouped). best_in l c.args.keeper c.args.asked.addr) (sym list) ∙ (sym c.best_in.ensures.best ∙ c.in_default.is) in
     alike_none c.args.asked kept c.requires c.args.keeper c.args.begin best
 
-pub returns-then-begin_alike-clause-first : goal.returns-then-begin_alike-clause-first
-returns-then-begin_alike-clause-first g c =
+pub returns-then-begins_with-clause-first : goal.returns-then-begins_with-clause-first
+returns-then-begins_with-clause-first g c =
     let kept = c.args.self.now.kept.ranges in
     let list : c.self.inside.by_keeper.list ≡ by_owner kept = rw (← c.self.view_is) c.self.invariant.1.1 in
     let items : c.self.inside.index.spans ≡ items_of kept = rw (← c.self.view_is) (sym (items_owned c.self.inside.index.spans c.self.inside.owners.items c.self.invariant.0)) in
     let best : best_in (by_owner kept) c.args.keeper c.args.asked.addr ≡ Some c.in-Some.place = ap (λ (l : List Grouped). best_in l c.args.keeper c.args.asked.addr) (sym list) ∙ (sym c.best_in.ensures.best ∙ c.in-Some.is) in
-    let alike : c.begin_alike.result ≡ begin_alike (slice_get (items_of kept) c.in-Some.place) (Some (no_longer c.args.begin)) = rw (← items, ← c.span.ensures.span, ← c.no_longer.ensures) c.begin_alike.ensures in
-    alike_here c.args.asked kept c.requires c.args.keeper c.args.begin c.in-Some.place best (sym alike ∙ c.if-begin_alike.true)
+    let alike : c.begins_with.result ≡ begin_alike (slice_get (items_of kept) c.in-Some.place) (Some (no_longer c.args.begin)) = rw (← items, ← c.span.ensures.span) c.begins_with.ensures in
+    alike_here c.args.asked kept c.requires c.args.keeper c.args.begin c.in-Some.place best (sym alike ∙ c.if-begins_with.true)
 
-pub returns-else-begin_alike-clause-first : goal.returns-else-begin_alike-clause-first
-returns-else-begin_alike-clause-first g c =
+pub returns-else-begins_with-clause-first : goal.returns-else-begins_with-clause-first
+returns-else-begins_with-clause-first g c =
     let kept = c.args.self.now.kept.ranges in
     let list : c.self.inside.by_keeper.list ≡ by_owner kept = rw (← c.self.view_is) c.self.invariant.1.1 in
     let items : c.self.inside.index.spans ≡ items_of kept = rw (← c.self.view_is) (sym (items_owned c.self.inside.index.spans c.self.inside.owners.items c.self.invariant.0)) in
     let best : best_in (by_owner kept) c.args.keeper c.args.asked.addr ≡ Some c.in-Some.place = ap (λ (l : List Grouped). best_in l c.args.keeper c.args.asked.addr) (sym list) ∙ (sym c.best_in.ensures.best ∙ c.in-Some.is) in
-    let alike : c.begin_alike.result ≡ begin_alike (slice_get (items_of kept) c.in-Some.place) (Some (no_longer c.args.begin)) = rw (← items, ← c.span.ensures.span, ← c.no_longer.ensures) c.begin_alike.ensures in
-    alike_other c.args.asked kept c.requires c.args.keeper c.args.begin c.in-Some.place best (sym alike ∙ c.if-begin_alike.false)
+    let alike : c.begins_with.result ≡ begin_alike (slice_get (items_of kept) c.in-Some.place) (Some (no_longer c.args.begin)) = rw (← items, ← c.span.ensures.span) c.begins_with.ensures in
+    alike_other c.args.asked kept c.requires c.args.keeper c.args.begin c.in-Some.place best (sym alike ∙ c.if-begins_with.false)

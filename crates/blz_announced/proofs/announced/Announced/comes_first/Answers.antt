@@ -16,5 +16,5 @@ returns-clause-is g c =
     let kept = c.args.self.now.kept.ranges in
     let items : c.self.inside.index.spans ≡ items_of kept = rw (← c.self.view_is) (sym (items_owned c.self.inside.index.spans c.self.inside.owners.items c.self.invariant.0)) in
     let same : is_below c.args.unit (owner_at kept c.in-Some.place) ≡ true = rw c.keeper.ensures at (sym c.is_below.ensures ∙ c.if-not-is_below.false) in
-    let alike : c.begin_alike.result ≡ begin_alike (slice_get (items_of kept) c.in-Some.place) (Some (no_longer c.args.begin)) = rw (← items, ← c.span.ensures.span, ← c.no_longer.ensures) c.begin_alike.ensures in
+    let alike : c.begins_with.result ≡ begin_alike (slice_get (items_of kept) c.in-Some.place) (Some (no_longer c.args.begin)) = rw (← items, ← c.span.ensures.span) c.begins_with.ensures in
     rw (c.in-Some.is, same) alike

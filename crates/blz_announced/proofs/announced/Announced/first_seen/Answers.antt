@@ -1,7 +1,7 @@
 use Rattle.std.proofs.Common.{List, sym, subst}
 use Rattle.blz_ranges.specs.declared.span.Span.{Span}
 use Rattle.blz_ranges.specs.Owned.{Owned}
-use Rattle.blz_announced.specs.Copies.{IsFirstAlike}
+use Rattle.blz_announced.specs.Repeats.{IsFirstAlike}
 use Rattle.blz_announced.proofs.SeenRanges.{all_seen}
 use Rattle.blz_announced.proofs.announced.Announced.first_seen.Goals as goal
 

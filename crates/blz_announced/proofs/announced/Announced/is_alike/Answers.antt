@@ -2,7 +2,8 @@ use Rattle.std.proofs.Common.{◌≡◌, ◌∙◌, Some, true, false, refl, sym
 use Rattle.std.specs.List.{slice_get}
 use Rattle.blz_ranges.specs.Owned.{items_of, owner_at}
 use Rattle.blz_ranges.proofs.OwnedItems.{items_owned}
-use Rattle.blz_announced.specs.Copies.{begins_at, same_number}
+use Rattle.blz_announced.specs.Copies.{same_number}
+use Rattle.blz_announced.specs.Repeats.{begins_at}
 use Rattle.blz_announced.proofs.announced.Announced.is_alike.Goals as goal
 
 pub returns-then-not-same_number-clause-is : goal.returns-then-not-same_number-clause-is

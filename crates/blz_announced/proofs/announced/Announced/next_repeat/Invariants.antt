@@ -1,11 +1,13 @@
-use Rattle.std.proofs.Common.{◌≤◌}
+use Rattle.std.proofs.Common.{◌≤◌, ◌+◌, ◌-◌, length}
+use Rattle.blz_announced.specs.Repeats.{IsRepeatBefore}
 use Rattle.blz_announced.specs.Seen.{seen}
-use Rattle.blz_announced.proofs.RepeatSteps.{NoneBefore}
 use Rattle.blz_announced.proofs.announced.Announced.next_repeat.Given as goal
 
-abbrev pub invariant-loop-at : goal.invariant-loop-at
-invariant-loop-at g l = record {
-  from : l.from ≤ l.at;
+abbrev pub invariant-loop-next : goal.invariant-loop-next
+invariant-loop-next g l = record {
+  first : IsRepeatBefore (seen l.asked l.self.kept.ranges) l.self.keepers l.unit l.asked.addr l.begin (l.place + 1) l.found;
   later : l.initial.steps ≤ l.steps;
-  none : NoneBefore (seen l.asked l.self.kept.ranges) l.self.keepers l.self-inside.keepers.repeats.items l.unit l.asked.addr l.begin l.at;
 }
+
+abbrev pub decreases-loop-next : goal.decreases-loop-next
+decreases-loop-next g l = length l.self.kept.ranges - l.place

@@ -1,0 +1,124 @@
+-- The units that are not their own keepers, behind a unit, and which of them has a range that begins alike.
+use Rattle.std.specs.Prelude.{◌≡◌, ℕ, ◌<◌, ◌≤◌, Bool, true, false, List, map, Option, Some, None, ◌&&◌, ◌==◌, nat_lt, if◌then◌else◌, unwrap_or}
+use Rattle.std.specs.List.{slice_get}
+use Rattle.blz_ranges.specs.declared.grouped.Grouped.{Grouped}
+use Rattle.blz_ranges.specs.declared.span.Span.{Span}
+use Rattle.blz_ranges.specs.Best.{covers}
+use Rattle.blz_ranges.specs.Groups.{grouped}
+use Rattle.blz_ranges.specs.Owned.{Owned, items_of, owner_at}
+use Rattle.blz_announced.specs.Copies.{same_number}
+use Rattle.blz_announced.specs.declared.announced.Place.{Place}
+use Rattle.blz_announced.specs.declared.announced.repeats.Near.{Near}
+use Rattle.blz_announced.specs.declared.announced.repeats.Near.TheVariants.{Found, NoneBefore, NoneLeft}
+
+-- ---- ranges that begin alike
+
+-- No range of the keeper of a range comes after it that covers an address and begins at a number.
+abbrev pub IsLast : List (Owned Span) → ℕ → ℕ → ℕ → Type 0
+IsLast kept addr begin place = (keeper q : ℕ) (t : Span) → owner_at kept place ≡ Some keeper → slice_get kept q ≡ Some (record { item = t; owner = keeper }) → covers t addr ≡ true → t.begin ≡ begin → place < q → ⊥
+
+-- A range of a keeper that covers an address and begins at a number.
+pub record IsAlike (kept : List (Owned Span)) (keeper addr begin place : ℕ) : Type 0 where
+  pub span : Span
+  pub is : slice_get kept place ≡ Some (record { item = span; owner = keeper })
+  pub begins : span.begin ≡ begin
+  pub reached : covers span addr ≡ true
+
+-- the same as a test
+abbrev pub begins_at : ℕ → ℕ → Option Span → Bool
+begins_at addr begin None = false
+begins_at addr begin (Some s) = s.begin == begin && covers s addr
+
+abbrev pub is_alike : List (Owned Span) → ℕ → ℕ → ℕ → ℕ → Bool
+is_alike kept keeper addr begin place = same_number (owner_at kept place) (Some keeper) && begins_at addr begin (slice_get (items_of kept) place)
+
+-- the first of these
+abbrev pub IsFirstAlike : List (Owned Span) → ℕ → ℕ → ℕ → Option ℕ → Type 0
+IsFirstAlike kept keeper addr begin None = (q : ℕ) → IsAlike kept keeper addr begin q → ⊥
+IsFirstAlike kept keeper addr begin (Some place) = IsAlike kept keeper addr begin place × ((q : ℕ) → IsAlike kept keeper addr begin q → place ≤ q)
+
+-- the keeper of a range, if that covers an address and begins at a number
+abbrev pub IsAlikeOf : List (Owned Span) → ℕ → ℕ → ℕ → Option ℕ → Type 0
+IsAlikeOf kept addr begin place None = (keeper : ℕ) → IsAlike kept keeper addr begin place → ⊥
+IsAlikeOf kept addr begin place (Some keeper) = IsAlike kept keeper addr begin place
+
+-- The next place with a range, of any keeper, that covers an address and begins at a number.
+pub record IsBegunAt (kept : List (Owned Span)) (addr begin place next : ℕ) : Type 0 where
+  pub keeper : ℕ
+  pub alike : IsAlike kept keeper addr begin next
+  pub behind : place < next
+  pub first : (k q : ℕ) → IsAlike kept k addr begin q → place < q → next ≤ q
+
+abbrev pub IsNextBegun : List (Owned Span) → ℕ → ℕ → ℕ → Option ℕ → Type 0
+IsNextBegun kept addr begin place None = (k q : ℕ) → IsAlike kept k addr begin q → place < q → ⊥
+IsNextBegun kept addr begin place (Some next) = IsBegunAt kept addr begin place next
+
+-- ---- units that are not their own keepers
+
+-- One that stands behind a unit, with its keeper.
+pub record IsRepeatOf (keepers : List ℕ) (keeper unit other : ℕ) : Type 0 where
+  pub later : unit < other
+  pub row : slice_get keepers other ≡ Some keeper
+  pub differs : keeper < other
+
+-- the first of a keeper
+abbrev pub IsNextOf : List ℕ → ℕ → ℕ → Option ℕ → Type 0
+IsNextOf keepers keeper unit None = (other : ℕ) → IsRepeatOf keepers keeper unit other → ⊥
+IsNextOf keepers keeper unit (Some next) = IsRepeatOf keepers keeper unit next × ((other : ℕ) → IsRepeatOf keepers keeper unit other → next ≤ other)
+
+-- It is found as a range: that of all units before it covers each unit that it stands behind.
+abbrev pub units_before : List ℕ → ℕ → Grouped
+units_before keepers repeat = grouped (unwrap_or (slice_get keepers repeat) repeat) (record { begin = 0; end = repeat })
+
+-- these ranges of all such units, in the groups of their keepers
+abbrev pub repeats_by_keeper : List ℕ → List ℕ → List Grouped
+repeats_by_keeper keepers repeats = map (units_before keepers) repeats
+
+-- ---- the next of them with a range that begins alike
+
+-- One with such a range.
+pub record RepeatsAt (kept : List (Owned Span)) (keepers : List ℕ) (unit addr begin other place : ℕ) : Type 0 where
+  pub keeper : ℕ
+  pub repeats : IsRepeatOf keepers keeper unit other
+  pub alike : IsAlike kept keeper addr begin place
+
+-- none stands before a unit
+abbrev pub NoRepeatBefore : List (Owned Span) → List ℕ → ℕ → ℕ → ℕ → ℕ → Type 0
+NoRepeatBefore kept keepers unit addr begin bound = (other q : ℕ) → RepeatsAt kept keepers unit addr begin other q → bound ≤ other
+
+-- The first of those with one of some ranges, at the first of its ranges.
+pub record IsRepeatAt (Among : ℕ → Type 0) (kept : List (Owned Span)) (keepers : List ℕ) (unit addr begin : ℕ) (at : Place) : Type 0 where
+  pub keeper : ℕ
+  pub repeats : IsRepeatOf keepers keeper unit at.unit
+  pub first : IsFirstAlike kept keeper addr begin (Some at.place)
+  pub least : (other q : ℕ) → Among q → RepeatsAt kept keepers unit addr begin other q → at.unit ≤ other
+
+abbrev pub IsFirstRepeat : (ℕ → Type 0) → List (Owned Span) → List ℕ → ℕ → ℕ → ℕ → Option Place → Type 0
+IsFirstRepeat Among kept keepers unit addr begin None = (other q : ℕ) → Among q → RepeatsAt kept keepers unit addr begin other q → ⊥
+IsFirstRepeat Among kept keepers unit addr begin (Some at) = IsRepeatAt Among kept keepers unit addr begin at
+
+-- of those with any range
+abbrev pub IsNextRepeat : List (Owned Span) → List ℕ → ℕ → ℕ → ℕ → Option Place → Type 0
+IsNextRepeat kept keepers unit addr begin found = IsFirstRepeat (λ _. Unit {0}) kept keepers unit addr begin found
+
+-- of those with a range before a place
+abbrev pub IsRepeatBefore : List (Owned Span) → List ℕ → ℕ → ℕ → ℕ → ℕ → Option Place → Type 0
+IsRepeatBefore kept keepers unit addr begin place found = IsFirstRepeat (λ q. q < place) kept keepers unit addr begin found
+
+-- of one that was found and a further unit with a range at a place, the one that stands first
+abbrev pub sooner : Option Place → ℕ → Option ℕ → Option Place
+sooner found place None = found
+sooner None place (Some unit) = Some (record { place = place; unit = unit })
+sooner (Some at) place (Some unit) = if nat_lt unit at.unit then Some (record { place = place; unit = unit }) else Some at
+
+-- what the units tell that were asked one after the other
+abbrev pub IsNear : List (Owned Span) → List ℕ → ℕ → ℕ → ℕ → Near → Type 0
+IsNear kept keepers unit addr begin (Found at) = IsNextRepeat kept keepers unit addr begin (Some at)
+IsNear kept keepers unit addr begin (NoneBefore bound) = NoRepeatBefore kept keepers unit addr begin bound
+IsNear kept keepers unit addr begin NoneLeft = IsNextRepeat kept keepers unit addr begin None
+
+-- the unit before which there is none
+abbrev pub unit_near : Near → Option ℕ
+unit_near (Found at) = Some at.unit
+unit_near (NoneBefore bound) = Some bound
+unit_near NoneLeft = None

@@ -1,0 +1,212 @@
+//! The next of the units that are not their own keepers with a range that begins alike.
+ghost use Rattle.std.specs.Prelude.{◌≡◌, ◌<◌, ◌≤◌, ◌+◌, length, map, Option, IfOk};
+ghost use Rattle.blz_ranges.specs.Owned.{items_of};
+ghost use Rattle.blz_announced.specs.Seen.{seen};
+ghost use Rattle.blz_announced.specs.Repeats.{repeats_by_keeper, sooner, unit_near, units_before, IsAlikeOf, IsFirstAlike, IsNear, IsNextBegun, IsNextOf, IsNextRepeat, IsRepeatBefore};
+
+use crate::announced::{Announced, Asked, Place};
+use crate::comparing::{begins_at, begins_with, behind};
+use crate::keepers::Keepers;
+use blz_bytes::Steps;
+use blz_ranges::{Grouped, Span, number_at};
+use std::alloc::{AllocError, Global};
+use std::sync::ledger::Ledger;
+
+/// What the next few units tell that are not their own keepers.
+#[derive(Clone, Copy)]
+pub enum Near {
+    /// This is the first that has a range that begins alike.
+    Found(Place),
+    /// None before this unit has one.
+    NoneBefore(usize),
+    /// No further one has.
+    NoneLeft,
+}
+
+/// The unit before which none has such a range.
+pub fn unit_near(near: Near) -> Option<usize>
+    ensures { result ≡ unit_near near }
+{
+    match near {
+        Near::Found(place) => Some(place.unit),
+        Near::NoneBefore(unit) => Some(unit),
+        Near::NoneLeft => None,
+    }
+}
+
+/// A unit that is not its own keeper, as the range of all units before it.
+fn units_before(keepers: &[usize], repeat: usize) -> Grouped
+    ensures { result ≡ units_before keepers.now repeat }
+{
+    let span = Span {
+        begin: 0,
+        end: repeat as u64,
+    };
+    match keepers.get(repeat) {
+        Some(keeper) => Grouped {
+            group: *keeper,
+            span,
+        },
+        None => Grouped {
+            group: repeat,
+            span,
+        },
+    }
+}
+
+/// All such units, in the groups of their keepers.
+pub fn repeats_by_keeper(alloc: Global, keepers: &Keepers) -> Result<Vec<Grouped>, AllocError>
+    ensures { IfOk result (λ v. v.items ≡ repeats_by_keeper keepers.now.of_units.items keepers.now.repeats.items) }
+{
+    let units = keepers.of_units.as_slice();
+    keepers
+        .repeats
+        .iter()
+        .map(|repeat| units_before(units, *repeat))
+        .collect(alloc)
+}
+
+/// Of a unit that was found and one with a range at a place the first.
+fn sooner(found: Option<Place>, place: usize, unit: Option<usize>) -> Option<Place>
+    ensures { result ≡ sooner found place unit }
+{
+    let Some(unit) = unit else {
+        return found;
+    };
+    match found {
+        Some(at) => if unit < at.unit {
+            Some(Place { place, unit })
+        } else {
+            Some(at)
+        },
+        None => Some(Place { place, unit }),
+    }
+}
+
+impl Announced {
+    /// The next range behind a place that covers an address and begins at a number.
+    pub fn next_begun<L: Ledger>(
+        &self,
+        addr: u64,
+        begin: u64,
+        place: usize,
+        steps: &mut Steps<L>,
+    ) -> Option<usize>
+        ensures next { IsNextBegun self.now.kept.ranges addr begin place result }
+        ensures later { steps.old ≤ steps.new }
+    {
+        let Some(next) = self.index.next_after(addr, behind(place, begin), steps) else {
+            return None;
+        };
+        if begins_with(begin, self.index.span(next, steps)) {
+            Some(next)
+        } else {
+            None
+        }
+    }
+
+    /// The keeper of a range, if that is seen, covers the address and begins at a number.
+    fn alike_of<L: Ledger>(
+        &self,
+        asked: Asked,
+        begin: u64,
+        place: usize,
+        steps: &mut Steps<L>,
+    ) -> Option<usize>
+        ensures keeper { IsAlikeOf (seen asked self.now.kept.ranges) asked.addr begin place result }
+        ensures later { steps.old ≤ steps.new }
+    {
+        if !begins_at(asked.addr, begin, self.index.span(place, steps)) {
+            return None;
+        }
+        if self.is_seen(asked, place, steps) {
+            self.keeper(place)
+        } else {
+            None
+        }
+    }
+
+    /// The first unit of a keeper behind a unit that is not its own keeper.
+    fn next_of<L: Ledger>(&self, keeper: usize, unit: usize, steps: &mut Steps<L>) -> Option<usize>
+        ensures next { IsNextOf self.now.keepers keeper unit result }
+        ensures later { steps.old ≤ steps.new }
+    {
+        match self.repeats.best_in(keeper, unit as u64, steps) {
+            Some(at) => number_at(self.keepers.repeats.as_slice(), at),
+            None => None,
+        }
+    }
+
+    /// The first of the units with one of the ranges up to a place, by the first of those with one before it.
+    fn repeat_with<L: Ledger>(
+        &self,
+        asked: Asked,
+        unit: usize,
+        begin: u64,
+        place: usize,
+        found: Option<Place>,
+        steps: &mut Steps<L>,
+    ) -> Option<Place>
+        requires { IsRepeatBefore (seen asked self.now.kept.ranges) self.now.keepers unit asked.addr begin place found }
+        ensures first { IsRepeatBefore (seen asked self.now.kept.ranges) self.now.keepers unit asked.addr begin (place + 1) result }
+        ensures later { steps.old ≤ steps.new }
+    {
+        let Some(keeper) = self.alike_of(asked, begin, place, steps) else {
+            return found;
+        };
+        sooner(found, place, self.next_of(keeper, unit, steps))
+    }
+
+    /// The next unit that is not its own keeper and has such a range, at the first of these. All ranges that begin there
+    /// are gone through, so that it does not matter how far the unit stands behind.
+    pub fn next_repeat<L: Ledger>(
+        &self,
+        asked: Asked,
+        unit: usize,
+        begin: u64,
+        steps: &mut Steps<L>,
+    ) -> Option<Place>
+        ensures next { IsNextRepeat (seen asked self.now.kept.ranges) self.now.keepers unit asked.addr begin result }
+        ensures later { steps.old ≤ steps.new }
+    {
+        let mut place = 0;
+        let mut found = self.repeat_with(asked, unit, begin, place, None, steps);
+        loop {
+            let Some(next) = self.next_begun(asked.addr, begin, place, steps) else {
+                return found;
+            };
+            place = next;
+            found = self.repeat_with(asked, unit, begin, place, found, steps);
+        }
+    }
+
+    /// Asks the next of these units one after the other. They are as many as the root of the number of all: of n units and
+    /// m ranges that begin alike, no more than the root of n times all m are gone through.
+    pub fn near_repeat<L: Ledger>(
+        &self,
+        asked: Asked,
+        unit: usize,
+        begin: u64,
+        steps: &mut Steps<L>,
+    ) -> Near
+        ensures near { IsNear (seen asked self.now.kept.ranges) self.now.keepers unit asked.addr begin result }
+        ensures later { steps.old ≤ steps.new }
+    {
+        let repeats = self.keepers.repeats.as_slice();
+        let from = self.keepers.repeats_to(unit);
+        let end = from + (repeats.len() - from).min(repeats.len().isqrt());
+        for at in from..end {
+            let repeat = repeats[at];
+            if let Some(place) = self.first_of_unit(asked, repeat, begin, steps) {
+                return Near::Found(Place {
+                    place,
+                    unit: repeat,
+                });
+            }
+        }
+        match number_at(repeats, end) {
+            Some(bound) => Near::NoneBefore(bound),
+            None => Near::NoneLeft,
+        }
+    }
+}
