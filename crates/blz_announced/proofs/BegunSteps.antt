@@ -5,13 +5,15 @@ use Rattle.std.specs.List.{slice_get}
 use Rattle.std.proofs.lemmas.Bool.{cases_Bool, cases_lt, and_parts, and_from, eqb-true, eq-eqb, ltb-true, ltb-false, false≢true}
 use Rattle.std.proofs.lemmas.Option.{slice_get-map}
 use Rattle.blz_ranges.specs.declared.span.Span.{Span}
+use Rattle.blz_ranges.specs.declared.placed.Placed.{Placed}
+use Rattle.blz_ranges.specs.Best.{next_after}
 use Rattle.blz_ranges.specs.Owned.{Owned, items_of, owner_at}
-use Rattle.blz_announced.specs.Copies.{begin_alike, no_longer}
+use Rattle.blz_announced.specs.Copies.{begin_alike, begins_in, no_longer}
 use Rattle.blz_announced.specs.Repeats.{begins_at, sooner, IsAlike, IsAlikeOf, IsFirstRepeat, IsNextBegun, IsNextOf, IsRepeatOf, RepeatsAt}
 use Rattle.blz_announced.specs.Seen.{is_seen, seen}
 use Rattle.blz_announced.specs.declared.announced.Asked.{Asked}
 use Rattle.blz_announced.specs.declared.announced.Place.{Place}
-use Rattle.blz_announced.proofs.NextCopies.{has_item, item_at, some_is, After, IsNext, IsNextAt}
+use Rattle.blz_announced.proofs.NextCopies.{after_is, has_item, item_at, some_is, After, IsNext, IsNextAt}
 use Rattle.blz_announced.proofs.SeenRanges.{seen_itself, seen_there}
 
 -- ---- the next range that begins alike
@@ -20,13 +22,17 @@ module _ (kept : List (Owned Span)) (addr begin place : ℕ) where
   alike_item : (k q : ℕ) (a : IsAlike kept k addr begin q) → slice_get (items_of kept) q ≡ Some a.span
   alike_item k q a = item_at kept q (record { item = a.span; owner = k }) a.is
 
+  -- what is found behind the place, among the same ranges
+  pub next_by : {spans : List Span} {b : Placed} {o : Option ℕ} → spans ≡ items_of kept → b ≡ record { place = place; span = no_longer begin } → o ≡ next_after spans addr b → IsNext (items_of kept) addr place (no_longer begin) o
+  next_by {spans = spans} {b = b} {o = o} same e is = after_is (items_of kept) addr place (no_longer begin) o (is ∙ (ap (λ (l : List Span). next_after l addr b) same ∙ ap (λ (c : Placed). next_after (items_of kept) addr c) e))
+
   pub begun_none : IsNext (items_of kept) addr place (no_longer begin) None → IsNextBegun kept addr begin place None
   begun_none n = λ k q a lt. n q a.span (alike_item k q a) a.reached (inr (a.begins, lt))
 
-  begins_is : (r : ℕ) (s : Span) → slice_get (items_of kept) r ≡ Some s → begin_alike (slice_get (items_of kept) r) (Some (no_longer begin)) ≡ eqb s.begin begin
+  begins_is : (r : ℕ) (s : Span) → slice_get (items_of kept) r ≡ Some s → begins_in kept begin r ≡ eqb s.begin begin
   begins_is r s is = ap (λ (o : Option Span). begin_alike o (Some (no_longer begin))) is
 
-  pub begun_here : (r : ℕ) (n : IsNextAt (items_of kept) addr place (no_longer begin) r) → begin_alike (slice_get (items_of kept) r) (Some (no_longer begin)) ≡ true → IsNextBegun kept addr begin place (Some r)
+  pub begun_here : (r : ℕ) (n : IsNextAt (items_of kept) addr place (no_longer begin) r) → begins_in kept begin r ≡ true → IsNextBegun kept addr begin place (Some r)
   begun_here r n t =
       let h = has_item kept r n.span n.at in
       let begins : n.span.begin ≡ begin = eqb-true n.span.begin begin (sym (begins_is r n.span n.at) ∙ t) in
@@ -41,7 +47,7 @@ module _ (kept : List (Owned Span)) (addr begin place : ℕ) where
       by e (inl less) = absurd (omega arith)
       by e (inr h) = h.1
 
-  pub begun_below : (r : ℕ) (n : IsNextAt (items_of kept) addr place (no_longer begin) r) → begin_alike (slice_get (items_of kept) r) (Some (no_longer begin)) ≡ false → IsNextBegun kept addr begin place None
+  pub begun_below : (r : ℕ) (n : IsNextAt (items_of kept) addr place (no_longer begin) r) → begins_in kept begin r ≡ false → IsNextBegun kept addr begin place None
   begun_below r n f = λ k q a lt.
       let below = (n.first q a.span (alike_item k q a) a.reached (inr (a.begins, lt))).below in
       let e = a.begins in

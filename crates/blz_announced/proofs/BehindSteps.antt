@@ -3,38 +3,42 @@ use Rattle.std.proofs.Common.{◌≡◌, ℕ, true, Option, Some, None, refl, sy
 use Rattle.std.specs.Prelude.{is_some}
 use Rattle.std.proofs.lemmas.Bool.{cases_Bool, false≢true}
 use Rattle.blz_announced.specs.Announced.{unit_at}
-use Rattle.blz_announced.specs.Copies.{begun, comes_first, Announced, HaveKeepers, IsBehind, IsOwnUpTo, IsPlaced}
-use Rattle.blz_announced.specs.Repeats.{unit_near, IsLast, IsNear, IsNextRepeat, NoRepeatBefore}
-use Rattle.blz_announced.specs.Seen.{seen, seen_by}
+use Rattle.blz_announced.specs.Asking.{ranges_seen, EndsUnit, FirstIsUpTo, HasNear, HasNextRepeat, IsNextPlace, IsOwnUpTo}
+use Rattle.blz_announced.specs.Copies.{begun, comes_first, Announced}
+use Rattle.blz_announced.specs.Repeats.{unit_near, NoRepeatBefore}
+use Rattle.blz_announced.specs.Seen.{seen_by}
 use Rattle.blz_announced.specs.declared.announced.Asked.{Asked}
 use Rattle.blz_announced.specs.declared.announced.Place.{Place}
 use Rattle.blz_announced.specs.declared.announced.repeats.Near.{Near}
 use Rattle.blz_announced.specs.declared.announced.repeats.Near.TheVariants.{Found, NoneBefore, NoneLeft}
-use Rattle.blz_announced.proofs.PlaceSteps.{own_behind, own_first, repeat_first}
+use Rattle.blz_announced.proofs.PlaceSteps.{first_owner, own_behind, own_first, repeat_first}
 use Rattle.blz_announced.proofs.SeenRanges.{begun_seen, comes_seen}
 
-module _ (asked : Asked) (a : Announced) (have : HaveKeepers (seen asked a.kept.ranges) a.keepers) (at : Place) (w : IsPlaced (seen asked a.kept.ranges) a.keepers asked.addr at) (begin : ℕ) (is_begin : w.span.begin ≡ begin) (last : IsLast (seen asked a.kept.ranges) asked.addr begin at.place) where
+module _ (asked : Asked) (a : Announced) (at : Place) (begin : ℕ) (ends : EndsUnit asked a at begin) where
+  pub first_up_to : FirstIsUpTo asked a at.unit
+  first_up_to = first_owner (seen_by asked a) ends.have asked.addr at ends.placed
+
   abbrev IsUpTo : Option ℕ → Option ℕ → Type 0
-  IsUpTo bound found = IsOwnUpTo (seen asked a.kept.ranges) a.kept.ranges at.unit asked.addr begin bound found
+  IsUpTo bound found = IsOwnUpTo asked a at.unit begin bound found
 
   abbrev Repeats : Option Place → Type 0
-  Repeats repeat = IsNextRepeat (seen asked a.kept.ranges) a.keepers at.unit asked.addr begin repeat
+  Repeats repeat = HasNextRepeat asked a at.unit begin repeat
 
   -- before a unit, or at all, there is no further one that is not its own keeper
   abbrev NoneUpTo : Option ℕ → Type 0
   NoneUpTo None = Repeats None
-  NoneUpTo (Some bound) = NoRepeatBefore (seen asked a.kept.ranges) a.keepers at.unit asked.addr begin bound
+  NoneUpTo (Some bound) = NoRepeatBefore (ranges_seen asked a) a.keepers at.unit asked.addr begin bound
 
   abbrev Behind : Option Place → Type 0
-  Behind found = IsBehind (seen_by asked a) asked.addr at found
+  Behind found = IsNextPlace asked a at found
 
-  as_begun : (o found : Option ℕ) → found ≡ o → Behind (begun (seen asked a.kept.ranges) o) → Behind (begun a.kept.ranges found)
+  as_begun : (o found : Option ℕ) → found ≡ o → Behind (begun (ranges_seen asked a) o) → Behind (begun a.kept.ranges found)
   as_begun o found e h = subst (λ (p : Option ℕ). Behind (begun a.kept.ranges p)) (sym e) (subst Behind (begun_seen asked a.kept.ranges o) h)
 
   own_up_to : (bound : Option ℕ) → NoneUpTo bound → (found : Option ℕ) (p : ℕ) → IsUpTo bound found → found ≡ Some p → Behind (begun a.kept.ranges found)
-  own_up_to None none found p u e = as_begun u.own found u.up_to_it (own_behind (seen_by asked a) have asked.addr at w begin is_begin last u.own u.is none)
+  own_up_to None none found p u e = as_begun u.own found u.up_to_it (own_behind (seen_by asked a) ends.have asked.addr at ends.placed begin ends.begins ends.last u.own u.is none)
   own_up_to (Some bound) none found p u e = elim (cases_Bool (comes_first a.kept.ranges begin bound u.own)) [
-    | inl t ↦ as_begun u.own found (rw t at u.up_to_it) (own_first (seen_by asked a) have asked.addr at w begin is_begin last u.own u.is bound none (comes_seen asked a.kept.ranges at.unit begin bound u.own u.is ∙ t))
+    | inl t ↦ as_begun u.own found (rw t at u.up_to_it) (own_first (seen_by asked a) ends.have asked.addr at ends.placed begin ends.begins ends.last u.own u.is bound none (comes_seen asked a.kept.ranges at.unit begin bound u.own u.is ∙ t))
     | inr f ↦ absurd (let k = sym (rw f at u.up_to_it) ∙ e in cc)
   ]
 
@@ -42,7 +46,7 @@ module _ (asked : Asked) (a : Announced) (have : HaveKeepers (seen asked a.kept.
   own_before None r found p u e = own_up_to None r found p u e
   own_before (Some repeat) r found p u e = own_up_to (Some repeat.unit) (λ other q b. r.least other q tt b) found p u e
 
-  pub own_near : (near : Near) → IsNear (seen asked a.kept.ranges) a.keepers at.unit asked.addr begin near → (found : Option ℕ) → IsUpTo (unit_near near) found → is_some found ≡ true → Behind (begun a.kept.ranges found)
+  pub own_near : (near : Near) → HasNear asked a at.unit begin near → (found : Option ℕ) → IsUpTo (unit_near near) found → is_some found ≡ true → Behind (begun a.kept.ranges found)
   own_near near n None u e = absurd cc
   own_near (Found repeat) n (Some p) u e = own_before (Some repeat) n (Some p) p u refl
   own_near (NoneBefore bound) n (Some p) u e = own_up_to (Some bound) n (Some p) p u refl
@@ -52,8 +56,8 @@ module _ (asked : Asked) (a : Announced) (have : HaveKeepers (seen asked a.kept.
   comes_there unit o t e = false≢true (sym (ap (comes_first a.kept.ranges begin unit) e) ∙ t)
 
   pub repeat_up_to : (repeat : Option Place) → Repeats repeat → (found : Option ℕ) → IsUpTo (unit_at repeat) found → found ≡ None → Behind repeat
-  repeat_up_to None r found u e = subst (λ (o : Option ℕ). Behind (begun (seen asked a.kept.ranges) o)) (sym u.up_to_it ∙ e) (own_behind (seen_by asked a) have asked.addr at w begin is_begin last u.own u.is r)
+  repeat_up_to None r found u e = subst (λ (o : Option ℕ). Behind (begun (ranges_seen asked a) o)) (sym u.up_to_it ∙ e) (own_behind (seen_by asked a) ends.have asked.addr at ends.placed begin ends.begins ends.last u.own u.is r)
   repeat_up_to (Some repeat) r found u e = elim (cases_Bool (comes_first a.kept.ranges begin repeat.unit u.own)) [
     | inl t ↦ absurd (comes_there repeat.unit u.own t (sym (rw t at u.up_to_it) ∙ e))
-    | inr f ↦ repeat_first (seen_by asked a) have asked.addr at w begin is_begin last u.own u.is repeat r (comes_seen asked a.kept.ranges at.unit begin repeat.unit u.own u.is ∙ f)
+    | inr f ↦ repeat_first (seen_by asked a) ends.have asked.addr at ends.placed begin ends.begins ends.last u.own u.is repeat r (comes_seen asked a.kept.ranges at.unit begin repeat.unit u.own u.is ∙ f)
   ]

@@ -8,5 +8,6 @@ pub mod SeenRanges
 pub mod BegunSteps
 pub mod BehindSteps
 pub mod LeftOver
+pub mod Parts
 pub mod TurnSteps
 pub mod UnitsBefore

@@ -104,7 +104,7 @@ module _ (a : Announced) (rows : HaveKeepers a.kept.ranges a.keepers) (addr : �
         behind_it e (inl less) = absurd (omega arith)
         behind_it e (inr h) = let k = h.1 in omega arith
 
-    is_last : (o : Option ℕ) → o ≡ next (items_of kept) addr at.place → goes_on kept at.place o ≡ false → IsLast kept addr w.span.begin at.place
+    pub is_last : (o : Option ℕ) → o ≡ next (items_of kept) addr at.place → goes_on kept at.place o ≡ false → IsLast kept addr w.span.begin at.place
     is_last o e goes = λ keeper q t own is reached same lt.
         let k : keeper ≡ w.keeper = some_is keeper w.keeper (sym own ∙ owner_is at.place w.keeper w.span w.is) in
         last_by o (is_kept_next o e) goes q t (subst (λ (n : ℕ). slice_get kept q ≡ Some (record { item = t; owner = n })) k is) reached same lt
@@ -112,9 +112,6 @@ module _ (a : Announced) (rows : HaveKeepers a.kept.ranges a.keepers) (addr : �
     pub moved_found : (o : Option ℕ) → o ≡ next (items_of kept) addr at.place → goes_on kept at.place o ≡ true → IfSome (moved at o) (λ _. Stands (moved at o) (next all addr (full_place list at)))
     moved_found None e goes = tt
     moved_found (Some q) e goes = moved_stands (Some q) e goes
-
-    pub is_last_at : (o : Option ℕ) → o ≡ next (items_of kept) addr at.place → goes_on kept at.place o ≡ false → (x : Owned Span) → slice_get kept at.place ≡ Some x → IsLast kept addr x.item.begin at.place
-    is_last_at o e goes x is = subst (λ (b : ℕ). IsLast kept addr b at.place) (ap (λ (y : Owned Span). y.item.begin) (some_is (record { item = w.span; owner = w.keeper }) x (sym w.is ∙ is))) (is_last o e goes)
 
     -- ---- behind its unit
 

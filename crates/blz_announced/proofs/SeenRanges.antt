@@ -9,7 +9,7 @@ use Rattle.blz_ranges.specs.Best.{best, covers, no_span, passes, NotAfter, IsBes
 use Rattle.blz_ranges.specs.Groups.{best_in, group_is, grouped, in_group, spans_of}
 use Rattle.blz_ranges.specs.Owned.{Owned, items_of, owner_at}
 use Rattle.blz_ranges.proofs.BestOf.{best_is, best_is_best}
-use Rattle.blz_announced.specs.Copies.{begin_alike, begun, comes_first, kept_at, no_longer, same_number, up_to, AreEnds, HaveKeepers, IsNextOwn, IsPlaced}
+use Rattle.blz_announced.specs.Copies.{begin_alike, begins_in, begun, comes_first, kept_at, no_longer, same_number, up_to, AreEnds, HaveKeepers, IsNextOwn, IsPlaced}
 use Rattle.blz_announced.specs.Repeats.{IsAlike, IsFirstAlike, IsLast}
 use Rattle.blz_announced.specs.Seen.{by_owner, hidden, is_seen, seen, seen_from}
 use Rattle.blz_announced.specs.declared.announced.Asked.{Asked}
@@ -219,22 +219,22 @@ module _ (asked : Asked) (kept : List (Owned Span)) (once : asked.once ≡ true)
   pub alike_none : (keeper begin : ℕ) → best_in (by_owner kept) keeper asked.addr ≡ None → IsFirstAlike (seen asked kept) keeper asked.addr begin None
   alike_none keeper begin e = λ q a. let k = sym e ∙ seen_alike keeper begin q a in absurd cc
 
-  begins_is : (p begin : ℕ) (x : Owned Span) → slice_get kept p ≡ Some x → begin_alike (slice_get (items_of kept) p) (Some (no_longer begin)) ≡ eqb x.item.begin begin
+  begins_is : (p begin : ℕ) (x : Owned Span) → slice_get kept p ≡ Some x → begins_in kept begin p ≡ eqb x.item.begin begin
   begins_is p begin x is = ap (λ (o : Option Span). begin_alike o (Some (no_longer begin))) (item_at kept p x is)
 
-  pub alike_here : (keeper begin p : ℕ) → best_in (by_owner kept) keeper asked.addr ≡ Some p → begin_alike (slice_get (items_of kept) p) (Some (no_longer begin)) ≡ true → IsFirstAlike (seen asked kept) keeper asked.addr begin (Some p)
+  pub alike_here : (keeper begin p : ℕ) → best_in (by_owner kept) keeper asked.addr ≡ Some p → begins_in kept begin p ≡ true → IsFirstAlike (seen asked kept) keeper asked.addr begin (Some p)
   alike_here keeper begin p e t =
       let b : IsBestOf kept keeper asked.addr p = best_of_keeper kept keeper asked.addr (Some p) e in
       let is = seen_itself asked kept p (record { item = b.span; owner = keeper }) b.own.is (best_seen p keeper b.span b.own.is e) in
       let begins : b.span.begin ≡ begin = eqb-true b.span.begin begin (sym (begins_is p begin (record { item = b.span; owner = keeper }) b.own.is) ∙ t) in
       (record { span = b.span; is = is; begins = begins; reached = b.own.reached }, λ q a. let same : p ≡ q = some_is p q (sym e ∙ seen_alike keeper begin q a) in omega arith)
 
-  pub alike_other : (keeper begin p : ℕ) → best_in (by_owner kept) keeper asked.addr ≡ Some p → begin_alike (slice_get (items_of kept) p) (Some (no_longer begin)) ≡ false → IsFirstAlike (seen asked kept) keeper asked.addr begin None
+  pub alike_other : (keeper begin p : ℕ) → best_in (by_owner kept) keeper asked.addr ≡ Some p → begins_in kept begin p ≡ false → IsFirstAlike (seen asked kept) keeper asked.addr begin None
   alike_other keeper begin p e f = λ q a.
       let h = seen_there asked kept asked.addr q (record { item = a.span; owner = keeper }) a.is a.reached in
       let same : q ≡ p = some_is q p (sym (seen_best q keeper a.span h.is h.seen) ∙ e) in
       let t = begins_is q begin (record { item = a.span; owner = keeper }) h.is ∙ eq-eqb a.span.begin begin a.begins in
-      false≢true (sym f ∙ subst (λ (n : ℕ). begin_alike (slice_get (items_of kept) n) (Some (no_longer begin)) ≡ true) same t)
+      false≢true (sym f ∙ subst (λ (n : ℕ). begins_in kept begin n ≡ true) same t)
 
 -- ---- the best of all is seen
 

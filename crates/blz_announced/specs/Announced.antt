@@ -17,6 +17,14 @@ pub record Announcing : Type 0 where
   pub left : List ℕ
   pub fresh : Bool
 
+-- the units of all ranges that cover an address
+abbrev pub units_covering : OwnedRanges → ℕ → List ℕ
+units_covering all addr = owners_of all.ranges (covering (items_of all.ranges) addr)
+
+-- all of them are still to come
+abbrev pub to_tell : OwnedRanges → ℕ → Announcing
+to_tell all addr = record { announced = all; address = addr; left = units_covering all addr; fresh = true }
+
 -- the places behind one
 abbrev pub behind : ℕ → List ℕ → List ℕ
 behind p [] = []

@@ -5,6 +5,8 @@ use Rattle.std.specs.List.{slice_get}
 use Rattle.std.specs.List.Sorted.{IsNonDecreasingBy}
 use Rattle.blz_ranges.specs.declared.span.Span.{Span}
 use Rattle.blz_ranges.specs.Best.{covers, next, NotAfter}
+use Rattle.blz_bytes.specs.declared.orders.Key.{Key}
+use Rattle.blz_ranges.specs.Keyed.{begin_key, IsAccepted}
 use Rattle.blz_ranges.specs.Owned.{Owned, items_of, own_all, owned, owner_at}
 use Rattle.blz_ranges.specs.Ranges.{OwnedRanges}
 use Rattle.blz_announced.specs.declared.announced.Place.{Place}
@@ -80,6 +82,14 @@ pub record AreKeepers (kept : List (Owned Span)) (k : Keepers) : Type 0 where
 pub record Announced : Type 0 where
   pub kept : OwnedRanges
   pub keepers : List ℕ
+
+-- the same by its parts
+abbrev pub announced_of : List Span → List ℕ → Bool → List ℕ → Announced
+announced_of spans owners ordered keepers = record { kept = record { ranges = owned spans owners; ordered = ordered }; keepers = keepers }
+
+-- whether the order of the ranges was accepted
+abbrev pub IsOrderedBy : Option (List Key → List ℕ) → Announced → Type 0
+IsOrderedBy told a = IsAccepted told (map begin_key (items_of a.kept.ranges)) a.kept.ordered
 
 abbrev pub announced_copies : Announced → List Copy
 announced_copies a = copies a.kept.ranges 0 a.keepers
@@ -201,6 +211,10 @@ IsNextOwn kept unit addr begin (Some place) = IsOwn kept unit addr begin place
 abbrev pub no_longer : ℕ → Span
 no_longer begin = record { begin = begin; end = begin }
 
+-- whether the range at a place begins at a number
+abbrev pub begins_in : List (Owned Span) → ℕ → ℕ → Bool
+begins_in kept begin place = begin_alike (slice_get (items_of kept) place) (Some (no_longer begin))
+
 abbrev pub is_below : ℕ → Option ℕ → Bool
 is_below unit None = false
 is_below unit (Some keeper) = nat_lt keeper unit
@@ -208,18 +222,12 @@ is_below unit (Some keeper) = nat_lt keeper unit
 -- whether a range begins at a number and is kept for a unit before another one
 abbrev pub comes_first : List (Owned Span) → ℕ → ℕ → Option ℕ → Bool
 comes_first kept begin unit None = false
-comes_first kept begin unit (Some place) = is_below unit (owner_at kept place) && begin_alike (slice_get (items_of kept) place) (Some (no_longer begin))
+comes_first kept begin unit (Some place) = is_below unit (owner_at kept place) && begins_in kept begin place
 
 -- a range, where it comes before those of a unit that begin at a number
 abbrev pub up_to : List (Owned Span) → ℕ → Option ℕ → Option ℕ → Option ℕ
 up_to kept begin None place = place
 up_to kept begin (Some unit) place = if comes_first kept begin unit place then place else None
-
--- the next own one among those that are seen, up to a unit
-pub record IsOwnUpTo (seen kept : List (Owned Span)) (unit addr begin : ℕ) (before found : Option ℕ) : Type 0 where
-  pub own : Option ℕ
-  pub is : IsNextOwn seen unit addr begin own
-  pub up_to_it : found ≡ up_to kept begin before own
 
 -- a place that stands for one among all ranges
 pub record StandsFor (a : Announced) (addr : ℕ) (at : Option Place) (place : Option ℕ) : Type 0 where

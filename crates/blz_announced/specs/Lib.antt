@@ -1,4 +1,5 @@
 pub mod Announced
+pub mod Asking
 pub mod Copies
 pub mod Repeats
 pub mod Seen

@@ -10,6 +10,7 @@ use Rattle.blz_announced.specs.Copies.{same_number}
 use Rattle.blz_announced.specs.declared.announced.Place.{Place}
 use Rattle.blz_announced.specs.declared.announced.repeats.Near.{Near}
 use Rattle.blz_announced.specs.declared.announced.repeats.Near.TheVariants.{Found, NoneBefore, NoneLeft}
+use Rattle.blz_announced.specs.declared.keepers.Keepers.{Keepers}
 
 -- ---- ranges that begin alike
 
@@ -73,6 +74,9 @@ units_before keepers repeat = grouped (unwrap_or (slice_get keepers repeat) repe
 -- these ranges of all such units, in the groups of their keepers
 abbrev pub repeats_by_keeper : List ℕ → List ℕ → List Grouped
 repeats_by_keeper keepers repeats = map (units_before keepers) repeats
+
+abbrev pub all_repeats : Keepers → List Grouped
+all_repeats k = repeats_by_keeper k.of_units.items k.repeats.items
 
 -- ---- the next of them with a range that begins alike
 

@@ -1,28 +1,39 @@
 -- What is seen of the ranges that are kept: all, or of each keeper the best alone that covers an address, so that no unit is
 -- told twice.
-use Rattle.std.specs.Prelude.{◌≡◌, ℕ, suc, Bool, true, false, List, [], ◌∷◌, map, Option, Some, None, ◌⊎◌, if◌then◌else◌}
+use Rattle.std.specs.Prelude.{◌≡◌, ℕ, suc, Bool, true, false, List, [], ◌∷◌, length, map, Option, Some, None, ◌⊎◌, if◌then◌else◌}
 use Rattle.std.specs.List.{slice_get}
 use Rattle.blz_ranges.specs.declared.grouped.Grouped.{Grouped}
 use Rattle.blz_ranges.specs.declared.span.Span.{Span}
 use Rattle.blz_ranges.specs.Best.{no_span}
 use Rattle.blz_ranges.specs.Groups.{best_in, grouped}
-use Rattle.blz_ranges.specs.Owned.{Owned, items_of, owner_at, owners_of}
-use Rattle.blz_ranges.specs.Turns.{covering}
-use Rattle.blz_announced.specs.Announced.{Announcing}
-use Rattle.blz_announced.specs.Copies.{Announced, announced_all, same_number}
+use Rattle.blz_ranges.specs.Owned.{Owned, owned, owner_at}
+use Rattle.blz_announced.specs.Announced.{units_covering, Announcing}
+use Rattle.blz_announced.specs.Copies.{Announced, announced_all, same_number, AreKeepers}
+use Rattle.blz_announced.specs.Repeats.{all_repeats}
 use Rattle.blz_announced.specs.declared.announced.Asked.{Asked}
+use Rattle.blz_announced.specs.declared.keepers.Keepers.{Keepers}
 
 -- the ranges in the groups of their keepers
 abbrev pub by_owner : List (Owned Span) → List Grouped
 by_owner kept = map (λ (x : Owned Span). grouped x.owner x.item) kept
+
+-- What is kept beside the ranges: their keepers, and what two more indexes are made of.
+pub record AreIndexed (spans : List Span) (owners : List ℕ) (k : Keepers) (ranges repeats : List Grouped) : Type 0 where
+  pub same : length spans ≡ length owners
+  pub are : AreKeepers (owned spans owners) k
+  pub by_keeper : ranges ≡ by_owner (owned spans owners)
+  pub by_repeat : repeats ≡ all_repeats k
 
 -- whether a range is the best of its keeper
 abbrev pub is_best_of : List (Owned Span) → ℕ → ℕ → Option ℕ → Bool
 is_best_of kept addr place None = false
 is_best_of kept addr place (Some keeper) = same_number (best_in (by_owner kept) keeper addr) (Some place)
 
+abbrev pub is_best_at : List (Owned Span) → ℕ → ℕ → Bool
+is_best_at kept addr place = is_best_of kept addr place (owner_at kept place)
+
 abbrev pub is_seen : Asked → List (Owned Span) → ℕ → Bool
-is_seen asked kept place = if asked.once then is_best_of kept asked.addr place (owner_at kept place) else true
+is_seen asked kept place = if asked.once then is_best_at kept asked.addr place else true
 
 -- a range that covers nothing, in the place of one that is not seen
 abbrev pub hidden : Owned Span → Owned Span
@@ -54,4 +65,4 @@ pub record IsOnce (a : Announced) (addr : ℕ) (units : Announcing) : Type 0 whe
   pub announced : units.announced ≡ announced_all a
   pub address : units.address ≡ addr
   pub fresh : units.fresh ≡ true
-  pub without : LeavesOut [] (owners_of (announced_all a).ranges (covering (items_of (announced_all a).ranges) addr)) units.left
+  pub without : LeavesOut [] (units_covering (announced_all a) addr) units.left

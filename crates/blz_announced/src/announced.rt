@@ -1,23 +1,21 @@
 //! The ranges that units announce. What several units announce is kept once.
-ghost use Rattle.std.specs.Prelude.{◌≡◌, ◌<◌, ◌≤◌, ◌*◌, ◌^◌, ◌-◌, ◌+◌, true, false, ℕ, length, map, Option, Some, None, IfOk, IfSome};
+ghost use Rattle.std.specs.Prelude.{◌≡◌, ◌<◌, ◌≤◌, ◌-◌, length, None, IfOk, IfSome};
 ghost use Rattle.std.specs.List.{slice_get};
-ghost use Rattle.blz_ranges.specs.Best.{best, next, next_after};
-ghost use Rattle.blz_ranges.specs.Groups.{AreApart};
-ghost use Rattle.blz_ranges.specs.Keyed.{IsAccepted, begin_key};
-ghost use Rattle.blz_ranges.specs.Owned.{Owned, owned, items_of, owner_at};
-ghost use Rattle.blz_announced.specs.Seen.{by_owner, is_best_of, is_seen, seen, seen_by};
-ghost use Rattle.blz_ranges.specs.declared.span.Span.{Span};
-ghost use Rattle.blz_announced.specs.Copies.{announced_all, announced_copies, are_alike, begin_alike, begun, comes_first, full_place, goes_on, is_below, kept_at, moved, no_longer, same_number, up_to, AreKeepers, HaveKeepers, IsBehind, IsOwnUpTo, IsPlaced, StandsFor};
-ghost use Rattle.blz_announced.specs.Repeats.{begins_at, is_alike, IsFirstAlike, IsLast};
+ghost use Rattle.blz_ranges.specs.Owned.{items_of, owned, owner_at};
 ghost use Rattle.blz_announced.specs.Announced.{unit_at};
+ghost use Rattle.blz_announced.specs.Asking.{EndsUnit, FirstIsUpTo, HasPlace, IsBestPlace, IsLastPlace, IsNextPlace, IsOwnUpTo, TakesFew};
+ghost use Rattle.blz_announced.specs.Copies.{announced_all, begins_in, begun, kept_at, moved, AreKeepers, IsOrderedBy};
+ghost use Rattle.blz_announced.specs.Seen.{by_owner};
 
+mod alike;
 mod repeats;
+mod seeing;
 
 use crate::announced::repeats::{Near, repeats_by_keeper, unit_near};
-use crate::comparing::{begin_alike, begins_at, begins_with, behind, is_below, same_number};
+use crate::comparing::{begin_alike, behind, no_longer};
 use crate::keepers::Keepers;
 use blz_bytes::{Orders, Steps};
-use blz_ranges::{GroupIndex, Grouped, Placed, RangeIndex, Span, fitted, group_keys, number_at};
+use blz_ranges::{GroupIndex, Grouped, RangeIndex, Span, fitted, group_keys, number_at};
 use std::alloc::{AllocError, Global};
 use std::marker::Model;
 use std::sync::ledger::Ledger;
@@ -50,17 +48,14 @@ pub struct Announced {
 }
 
 impl Model for Announced {
-    ghost use Rattle.std.specs.Prelude.{◌≡◌, length};
-    ghost use Rattle.blz_ranges.specs.Owned.{owned};
-    ghost use Rattle.blz_announced.specs.Copies.{Announced, AreKeepers};
-    ghost use Rattle.blz_announced.specs.Repeats.{repeats_by_keeper};
-    ghost use Rattle.blz_announced.specs.Seen.{by_owner};
+    ghost use Rattle.blz_announced.specs.Copies.{announced_of, Announced};
+    ghost use Rattle.blz_announced.specs.Seen.{AreIndexed};
 
     ghost Value = { Announced };
 
-    ghost view = { λ a. record { kept = record { ranges = owned a.index.spans a.owners.items; ordered = a.index.ordered }; keepers = a.keepers.of_units.items } };
+    ghost view = { λ a. announced_of a.index.spans a.owners.items a.index.ordered a.keepers.of_units.items };
 
-    ghost invariant = { λ a. (length a.index.spans ≡ length a.owners.items) × (AreKeepers (owned a.index.spans a.owners.items) a.keepers × (a.by_keeper.list ≡ by_owner (owned a.index.spans a.owners.items)) × (a.repeats.list ≡ repeats_by_keeper a.keepers.of_units.items a.keepers.repeats.items)) };
+    ghost invariant = { λ a. AreIndexed a.index.spans a.owners.items a.keepers a.by_keeper.list a.repeats.list };
 }
 
 fn moved(at: Place, next: Option<usize>) -> Option<Place>
@@ -131,7 +126,7 @@ impl Announced {
         requires are { AreKeepers (owned spans.items owners.items) keepers }
         ensures kept { IfOk result (λ a. a.kept.ranges ≡ owned spans.items owners.items) }
         ensures keepers { IfOk result (λ a. a.keepers ≡ keepers.of_units.items) }
-        ensures accepted { IfOk result (λ a. IsAccepted O.pair_places (map begin_key (items_of a.kept.ranges)) a.kept.ordered) }
+        ensures accepted { IfOk result (IsOrderedBy O.pair_places) }
     {
         let list = by_owner(alloc, spans.as_slice(), owners.as_slice())?;
         let by_keeper = index_of(alloc, orders, list)?;
@@ -155,6 +150,22 @@ impl Announced {
         number_at(self.owners.as_slice(), place)
     }
 
+    /// The range at a place, for one step.
+    fn span<L: Ledger>(&self, place: usize, steps: &mut Steps<L>) -> Option<Span>
+        ensures span { result ≡ slice_get (items_of self.now.kept.ranges) place }
+        ensures later { steps.old ≤ steps.new }
+    {
+        self.index.span(place, steps)
+    }
+
+    /// Whether the range at a place begins at a number.
+    fn begins<L: Ledger>(&self, begin: u64, place: usize, steps: &mut Steps<L>) -> bool
+        ensures is { result ≡ begins_in self.now.kept.ranges begin place }
+        ensures later { steps.old ≤ steps.new }
+    {
+        begin_alike(self.span(place, steps), Some(no_longer(begin)))
+    }
+
     /// A range as its keeper has it.
     fn begun(&self, next: Option<usize>) -> Option<Place>
         ensures { result ≡ begun self.now.kept.ranges next }
@@ -163,216 +174,6 @@ impl Announced {
             Some(place) => kept_at(self.keeper(place), place),
             None => None,
         }
-    }
-
-    /// Whether a range is the best of its keeper that covers an address.
-    fn is_best_of<L: Ledger>(&self, addr: u64, place: usize, steps: &mut Steps<L>) -> bool
-        ensures is { result ≡ is_best_of self.now.kept.ranges addr place (owner_at self.now.kept.ranges place) }
-        ensures later { steps.old ≤ steps.new }
-    {
-        let Some(keeper) = self.keeper(place) else {
-            return false;
-        };
-        let best = self.by_keeper.best_in(keeper, addr, steps);
-        same_number(best, Some(place))
-    }
-
-    fn is_seen<L: Ledger>(&self, asked: Asked, place: usize, steps: &mut Steps<L>) -> bool
-        ensures is { result ≡ is_seen asked self.now.kept.ranges place }
-        ensures later { steps.old ≤ steps.new }
-    {
-        if asked.once {
-            self.is_best_of(asked.addr, place, steps)
-        } else {
-            true
-        }
-    }
-
-    /// Whether a range begins at a number and is kept for a unit before another one.
-    fn comes_first<L: Ledger>(
-        &self,
-        begin: u64,
-        unit: usize,
-        own: Option<usize>,
-        steps: &mut Steps<L>,
-    ) -> bool
-        ensures is { result ≡ comes_first self.now.kept.ranges begin unit own }
-        ensures later { steps.old ≤ steps.new }
-    {
-        let Some(place) = own else {
-            return false;
-        };
-        if !is_below(unit, self.keeper(place)) {
-            return false;
-        }
-        begins_with(begin, self.index.span(place, steps))
-    }
-
-    /// A range, where it comes before the ranges of a unit that begin at a number.
-    fn up_to<L: Ledger>(
-        &self,
-        begin: u64,
-        before: Option<usize>,
-        next: Option<usize>,
-        steps: &mut Steps<L>,
-    ) -> Option<usize>
-        ensures is { result ≡ up_to self.now.kept.ranges begin before next }
-        ensures later { steps.old ≤ steps.new }
-    {
-        let Some(unit) = before else {
-            return next;
-        };
-        if self.comes_first(begin, unit, next, steps) {
-            next
-        } else {
-            None
-        }
-    }
-
-    /// The next range that is seen, after one that need not be of the list. Where the ranges of a unit that begin alike come
-    /// before it, those that are hidden behind them are not gone through.
-    fn next_seen<L: Ledger>(
-        &self,
-        asked: Asked,
-        after: Placed,
-        before: Option<usize>,
-        steps: &mut Steps<L>,
-    ) -> Option<usize>
-        ensures next { result ≡ up_to self.now.kept.ranges after.span.begin before (next_after (items_of (seen asked self.now.kept.ranges)) asked.addr after) }
-        ensures later { steps.old ≤ steps.new }
-    {
-        let mut next = self.index.next_after(asked.addr, after, steps);
-        loop {
-            let Some(place) = self.up_to(after.span.begin, before, next, steps) else {
-                return None;
-            };
-            if self.is_seen(asked, place, steps) {
-                return Some(place);
-            }
-            next = self.index.next_below(asked.addr, place, steps);
-        }
-    }
-
-    /// Whether two ranges are of one keeper and begin alike.
-    fn are_alike<L: Ledger>(&self, place: usize, next: usize, steps: &mut Steps<L>) -> bool
-        ensures is { result ≡ are_alike self.now.kept.ranges place next }
-        ensures later { steps.old ≤ steps.new }
-    {
-        if !same_number(self.keeper(place), self.keeper(next)) {
-            return false;
-        }
-        begin_alike(self.index.span(place, steps), self.index.span(next, steps))
-    }
-
-    fn goes_on<L: Ledger>(&self, place: usize, next: Option<usize>, steps: &mut Steps<L>) -> bool
-        ensures is { result ≡ goes_on self.now.kept.ranges place next }
-        ensures later { steps.old ≤ steps.new }
-    {
-        match next {
-            Some(next) => self.are_alike(place, next, steps),
-            None => false,
-        }
-    }
-
-    /// Whether a range is one of a keeper that covers an address and begins at a number.
-    fn is_alike<L: Ledger>(
-        &self,
-        keeper: usize,
-        addr: u64,
-        begin: u64,
-        place: usize,
-        steps: &mut Steps<L>,
-    ) -> bool
-        ensures is { result ≡ is_alike self.now.kept.ranges keeper addr begin place }
-        ensures later { steps.old ≤ steps.new }
-    {
-        if !same_number(self.keeper(place), Some(keeper)) {
-            return false;
-        }
-        begins_at(addr, begin, self.index.span(place, steps))
-    }
-
-    /// The first of these.
-    fn first_alike<L: Ledger>(
-        &self,
-        keeper: usize,
-        addr: u64,
-        begin: u64,
-        steps: &mut Steps<L>,
-    ) -> Option<usize>
-        requires { keeper < length self.now.keepers }
-        ensures first { IsFirstAlike self.now.kept.ranges keeper addr begin result }
-        ensures later { steps.old ≤ steps.new }
-    {
-        let from = self.keepers.start(keeper);
-        if self.is_alike(keeper, addr, begin, from, steps) {
-            return Some(from);
-        }
-        let Some(next) = self.next_begun(addr, begin, from, steps) else {
-            return None;
-        };
-        if same_number(self.keeper(next), Some(keeper)) {
-            Some(next)
-        } else {
-            None
-        }
-    }
-
-    /// The best range of a keeper, where it begins at a number.
-    fn best_alike<L: Ledger>(
-        &self,
-        asked: Asked,
-        keeper: usize,
-        begin: u64,
-        steps: &mut Steps<L>,
-    ) -> Option<usize>
-        requires { asked.once ≡ true }
-        ensures first { IsFirstAlike (seen asked self.now.kept.ranges) keeper asked.addr begin result }
-        ensures later { steps.old ≤ steps.new }
-    {
-        let Some(place) = self.by_keeper.best_in(keeper, asked.addr, steps) else {
-            return None;
-        };
-        if begins_with(begin, self.index.span(place, steps)) {
-            Some(place)
-        } else {
-            None
-        }
-    }
-
-    /// The first of the ranges of a keeper that are seen and begin at a number.
-    fn first_seen<L: Ledger>(
-        &self,
-        asked: Asked,
-        keeper: usize,
-        begin: u64,
-        steps: &mut Steps<L>,
-    ) -> Option<usize>
-        requires { keeper < length self.now.keepers }
-        ensures first { IsFirstAlike (seen asked self.now.kept.ranges) keeper asked.addr begin result }
-        ensures later { steps.old ≤ steps.new }
-    {
-        if asked.once {
-            self.best_alike(asked, keeper, begin, steps)
-        } else {
-            self.first_alike(keeper, asked.addr, begin, steps)
-        }
-    }
-
-    /// The first of the ranges of a unit that are seen and begin at a number.
-    fn first_of_unit<L: Ledger>(
-        &self,
-        asked: Asked,
-        unit: usize,
-        begin: u64,
-        steps: &mut Steps<L>,
-    ) -> Option<usize>
-        requires { unit < length self.now.keepers }
-        ensures first { (keeper : ℕ) → slice_get self.now.keepers unit ≡ Some keeper → IsFirstAlike (seen asked self.now.kept.ranges) keeper asked.addr begin result }
-        ensures later { steps.old ≤ steps.new }
-    {
-        let keeper = self.keepers.of_units[unit];
-        self.first_seen(asked, keeper, begin, steps)
     }
 
     /// Of the ranges that begin below a number, or there and are kept for a later unit, the best that is seen, where it
@@ -386,8 +187,8 @@ impl Announced {
         steps: &mut Steps<L>,
     ) -> Option<usize>
         requires unit { unit < length self.now.keepers }
-        requires some { (x : Owned Span) → slice_get (seen asked self.now.kept.ranges) 0 ≡ Some x → x.owner ≤ unit }
-        ensures next { IsOwnUpTo (seen asked self.now.kept.ranges) self.now.kept.ranges unit asked.addr begin before result }
+        requires some { FirstIsUpTo asked self.now unit }
+        ensures next { IsOwnUpTo asked self.now unit begin before result }
         ensures later { steps.old ≤ steps.new }
     {
         let end = self.keepers.start(unit + 1);
@@ -406,11 +207,8 @@ impl Announced {
         begin: u64,
         steps: &mut Steps<L>,
     ) -> Option<Place>
-        requires have { HaveKeepers (seen asked self.now.kept.ranges) self.now.keepers }
-        requires placed { IsPlaced (seen asked self.now.kept.ranges) self.now.keepers asked.addr at }
-        requires begin { (x : Owned Span) → slice_get (seen asked self.now.kept.ranges) at.place ≡ Some x → x.item.begin ≡ begin }
-        requires last { IsLast (seen asked self.now.kept.ranges) asked.addr begin at.place }
-        ensures place { IsBehind (seen_by asked self.now) asked.addr at result }
+        requires { EndsUnit asked self.now at begin }
+        ensures place { IsNextPlace asked self.now at result }
         ensures later { steps.old ≤ steps.new }
     {
         let repeat = self.next_repeat(asked, at.unit, begin, steps);
@@ -429,11 +227,8 @@ impl Announced {
         begin: u64,
         steps: &mut Steps<L>,
     ) -> Option<Place>
-        requires have { HaveKeepers (seen asked self.now.kept.ranges) self.now.keepers }
-        requires placed { IsPlaced (seen asked self.now.kept.ranges) self.now.keepers asked.addr at }
-        requires begin { (x : Owned Span) → slice_get (seen asked self.now.kept.ranges) at.place ≡ Some x → x.item.begin ≡ begin }
-        requires last { IsLast (seen asked self.now.kept.ranges) asked.addr begin at.place }
-        ensures place { IsBehind (seen_by asked self.now) asked.addr at result }
+        requires { EndsUnit asked self.now at begin }
+        ensures place { IsNextPlace asked self.now at result }
         ensures later { steps.old ≤ steps.new }
     {
         let near = self.near_repeat(asked, at.unit, begin, steps);
@@ -450,8 +245,8 @@ impl Announced {
 
     /// The best of the ranges that cover an address.
     pub fn first<L: Ledger>(&self, asked: Asked, steps: &mut Steps<L>) -> Option<Place>
-        ensures place { StandsFor (seen_by asked self.now) asked.addr result (best (items_of (announced_all (seen_by asked self.now)).ranges) asked.addr) }
-        ensures cost { self.now.kept.ordered ≡ true → AreApart (items_of (announced_all self.now).ranges) → 2 ^ (steps.new - steps.old) ≤ 4 * (2 * length (announced_all self.now).ranges + 1) }
+        ensures place { IsBestPlace asked self.now result }
+        ensures cost { TakesFew (announced_all self.now) (steps.new - steps.old) }
         ensures later { steps.old ≤ steps.new }
     {
         let best = self.index.best_at(asked.addr, steps);
@@ -465,9 +260,9 @@ impl Announced {
         at: Place,
         steps: &mut Steps<L>,
     ) -> Option<Place>
-        requires { IsPlaced (seen asked self.now.kept.ranges) self.now.keepers asked.addr at }
-        ensures next { IfSome result (λ _. IsBehind (seen_by asked self.now) asked.addr at result) }
-        ensures last { result ≡ None → (x : Owned Span) → slice_get (seen asked self.now.kept.ranges) at.place ≡ Some x → IsLast (seen asked self.now.kept.ranges) asked.addr x.item.begin at.place }
+        requires { HasPlace asked self.now at }
+        ensures next { IfSome result (λ _. IsNextPlace asked self.now at result) }
+        ensures last { result ≡ None → IsLastPlace asked self.now at }
         ensures later { steps.old ≤ steps.new }
     {
         if asked.once {
@@ -483,8 +278,8 @@ impl Announced {
 
     /// The next of the ranges that cover an address, after one of them.
     pub fn after<L: Ledger>(&self, asked: Asked, at: Place, steps: &mut Steps<L>) -> Option<Place>
-        requires { IsPlaced (seen asked self.now.kept.ranges) self.now.keepers asked.addr at }
-        ensures place { IsBehind (seen_by asked self.now) asked.addr at result }
+        requires { HasPlace asked self.now at }
+        ensures place { IsNextPlace asked self.now at result }
         ensures later { steps.old ≤ steps.new }
     {
         if let Some(next) = self.next_of_unit(asked, at, steps) {

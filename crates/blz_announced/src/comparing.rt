@@ -1,5 +1,5 @@
 //! What is compared of ranges that are kept, and of their keepers.
-ghost use Rattle.std.specs.Prelude.{◌≡◌, Some, Option};
+ghost use Rattle.std.specs.Prelude.{◌≡◌};
 ghost use Rattle.blz_announced.specs.Copies.{begin_alike, is_below, no_longer, same_number};
 ghost use Rattle.blz_announced.specs.Repeats.{begins_at};
 
@@ -28,13 +28,6 @@ pub fn begin_alike(left: Option<Span>, right: Option<Span>) -> bool
         },
         None => false,
     }
-}
-
-/// Whether a range begins at a number.
-pub fn begins_with(begin: u64, span: Option<Span>) -> bool
-    ensures { result ≡ begin_alike span (Some (no_longer begin)) }
-{
-    begin_alike(span, Some(no_longer(begin)))
 }
 
 pub fn no_longer(begin: u64) -> Span

@@ -1,13 +1,10 @@
 //! The units that announce an address.
-ghost use Rattle.std.specs.Prelude.{◌≡◌, ◌≤◌, ◌*◌, ◌^◌, ◌-◌, ◌+◌, true, false, length, drop, Option};
+ghost use Rattle.std.specs.Prelude.{◌≡◌, ◌≤◌, ◌-◌, true, false, drop};
 ghost use Rattle.std.specs.List.{slice_get};
-ghost use Rattle.blz_announced.specs.Announced.{is_first, left_at, places_left, turn_behind, IsTurn};
-ghost use Rattle.blz_announced.specs.Copies.{announced_all, StandsFor};
+ghost use Rattle.blz_announced.specs.Announced.{is_first, to_tell, turn_behind, IsTurn};
+ghost use Rattle.blz_announced.specs.Asking.{IsTurnPlace, TakesFew};
+ghost use Rattle.blz_announced.specs.Copies.{announced_all};
 ghost use Rattle.blz_announced.specs.Seen.{seen_by, IsOnce};
-ghost use Rattle.blz_ranges.specs.Groups.{AreApart};
-ghost use Rattle.blz_ranges.specs.Owned.{items_of};
-ghost use Rattle.blz_ranges.specs.Turns.{covering};
-ghost use Rattle.blz_ranges.specs.Owned.{owners_of};
 
 use crate::announced::{Announced, Asked, Place, unit_at};
 use blz_bytes::Steps;
@@ -35,14 +32,13 @@ pub struct UnitsAt<'u> {
 }
 
 impl<'u> Model for UnitsAt<'u> {
-    ghost use Rattle.std.specs.Prelude.{◌≡◌};
-    ghost use Rattle.blz_announced.specs.Announced.{Announcing, is_first, units_left, IsTurn};
-    ghost use Rattle.blz_announced.specs.Copies.{announced_all};
+    ghost use Rattle.blz_announced.specs.Announced.{Announcing, IsTurn};
+    ghost use Rattle.blz_announced.specs.Asking.{told_from};
     ghost use Rattle.blz_announced.specs.Seen.{seen_by};
 
     ghost Value = { Announcing };
 
-    ghost view = { λ u. record { announced = announced_all u.announced.now; address = u.asked.addr; left = units_left (seen_by u.asked u.announced.now) u.asked.addr u.turn; fresh = is_first u.turn } };
+    ghost view = { λ u. told_from u.asked u.announced.now u.turn };
 
     ghost invariant = { λ u. IsTurn (seen_by u.asked u.announced.now) u.asked.addr u.turn };
 }
@@ -64,8 +60,8 @@ fn next_place<L: Ledger>(
     steps: &mut Steps<L>,
 ) -> Option<Place>
     requires { IsTurn (seen_by asked announced.now) asked.addr turn }
-    ensures place { StandsFor (seen_by asked announced.now) asked.addr result (slice_get (places_left (announced_all (seen_by asked announced.now)).ranges asked.addr (left_at (seen_by asked announced.now) turn)) 0) }
-    ensures cost { is_first turn ≡ true → announced.now.kept.ordered ≡ true → AreApart (items_of (announced_all announced.now).ranges) → 2 ^ (steps.new - steps.old) ≤ 4 * (2 * length (announced_all announced.now).ranges + 1) }
+    ensures place { IsTurnPlace asked announced.now turn result }
+    ensures cost { is_first turn ≡ true → TakesFew (announced_all announced.now) (steps.new - steps.old) }
     ensures later { steps.old ≤ steps.new }
 {
     match turn {
@@ -78,7 +74,7 @@ fn next_place<L: Ledger>(
 impl<'u> UnitsAt<'u> {
     /// The units that announce an address.
     pub fn new(announced: &'u Announced, addr: u64) -> UnitsAt<'u>
-        ensures { result ≡ record { announced = announced_all announced.now; address = addr; left = owners_of (announced_all announced.now).ranges (covering (items_of (announced_all announced.now).ranges) addr); fresh = true } }
+        ensures { result ≡ to_tell (announced_all announced.now) addr }
     {
         let asked = Asked { addr, once: false };
         UnitsAt {
@@ -105,7 +101,7 @@ impl<'u> UnitsAt<'u> {
     pub fn next_unit<L: Ledger>(&mut self, steps: &mut Steps<L>) -> Option<usize>
         ensures unit { result ≡ slice_get self.old.left 0 }
         ensures left { self.new ≡ record self.old { left = drop 1 self.old.left; fresh = false } }
-        ensures cost { self.old.fresh ≡ true → self.old.announced.ordered ≡ true → AreApart (items_of self.old.announced.ranges) → 2 ^ (steps.new - steps.old) ≤ 4 * (2 * length self.old.announced.ranges + 1) }
+        ensures cost { self.old.fresh ≡ true → TakesFew self.old.announced (steps.new - steps.old) }
         ensures later { steps.old ≤ steps.new }
     {
         let place = next_place(self.announced, self.asked, self.turn, steps);

@@ -1,11 +1,10 @@
 //! The next of the units that are not their own keepers with a range that begins alike.
-ghost use Rattle.std.specs.Prelude.{◌≡◌, ◌<◌, ◌≤◌, ◌+◌, length, map, Option, IfOk};
-ghost use Rattle.blz_ranges.specs.Owned.{items_of};
-ghost use Rattle.blz_announced.specs.Seen.{seen};
-ghost use Rattle.blz_announced.specs.Repeats.{repeats_by_keeper, sooner, unit_near, units_before, IsAlikeOf, IsFirstAlike, IsNear, IsNextBegun, IsNextOf, IsNextRepeat, IsRepeatBefore};
+ghost use Rattle.std.specs.Prelude.{◌≡◌, ◌≤◌, ◌+◌, IfOk};
+ghost use Rattle.blz_announced.specs.Asking.{HasNear, HasNextRepeat, HasRepeatBefore, IsKeeperAt};
+ghost use Rattle.blz_announced.specs.Repeats.{all_repeats, sooner, unit_near, units_before, IsNextOf};
 
 use crate::announced::{Announced, Asked, Place};
-use crate::comparing::{begins_at, begins_with, behind};
+use crate::comparing::begins_at;
 use crate::keepers::Keepers;
 use blz_bytes::Steps;
 use blz_ranges::{Grouped, Span, number_at};
@@ -56,7 +55,7 @@ fn units_before(keepers: &[usize], repeat: usize) -> Grouped
 
 /// All such units, in the groups of their keepers.
 pub fn repeats_by_keeper(alloc: Global, keepers: &Keepers) -> Result<Vec<Grouped>, AllocError>
-    ensures { IfOk result (λ v. v.items ≡ repeats_by_keeper keepers.now.of_units.items keepers.now.repeats.items) }
+    ensures { IfOk result (λ v. v.items ≡ all_repeats keepers.now) }
 {
     let units = keepers.of_units.as_slice();
     keepers
@@ -84,27 +83,6 @@ fn sooner(found: Option<Place>, place: usize, unit: Option<usize>) -> Option<Pla
 }
 
 impl Announced {
-    /// The next range behind a place that covers an address and begins at a number.
-    pub fn next_begun<L: Ledger>(
-        &self,
-        addr: u64,
-        begin: u64,
-        place: usize,
-        steps: &mut Steps<L>,
-    ) -> Option<usize>
-        ensures next { IsNextBegun self.now.kept.ranges addr begin place result }
-        ensures later { steps.old ≤ steps.new }
-    {
-        let Some(next) = self.index.next_after(addr, behind(place, begin), steps) else {
-            return None;
-        };
-        if begins_with(begin, self.index.span(next, steps)) {
-            Some(next)
-        } else {
-            None
-        }
-    }
-
     /// The keeper of a range, if that is seen, covers the address and begins at a number.
     fn alike_of<L: Ledger>(
         &self,
@@ -113,10 +91,10 @@ impl Announced {
         place: usize,
         steps: &mut Steps<L>,
     ) -> Option<usize>
-        ensures keeper { IsAlikeOf (seen asked self.now.kept.ranges) asked.addr begin place result }
+        ensures keeper { IsKeeperAt asked self.now begin place result }
         ensures later { steps.old ≤ steps.new }
     {
-        if !begins_at(asked.addr, begin, self.index.span(place, steps)) {
+        if !begins_at(asked.addr, begin, self.span(place, steps)) {
             return None;
         }
         if self.is_seen(asked, place, steps) {
@@ -147,8 +125,8 @@ impl Announced {
         found: Option<Place>,
         steps: &mut Steps<L>,
     ) -> Option<Place>
-        requires { IsRepeatBefore (seen asked self.now.kept.ranges) self.now.keepers unit asked.addr begin place found }
-        ensures first { IsRepeatBefore (seen asked self.now.kept.ranges) self.now.keepers unit asked.addr begin (place + 1) result }
+        requires { HasRepeatBefore asked self.now unit begin place found }
+        ensures first { HasRepeatBefore asked self.now unit begin (place + 1) result }
         ensures later { steps.old ≤ steps.new }
     {
         let Some(keeper) = self.alike_of(asked, begin, place, steps) else {
@@ -159,14 +137,14 @@ impl Announced {
 
     /// The next unit that is not its own keeper and has such a range, at the first of these. All ranges that begin there
     /// are gone through, so that it does not matter how far the unit stands behind.
-    pub fn next_repeat<L: Ledger>(
+    pub(crate) fn next_repeat<L: Ledger>(
         &self,
         asked: Asked,
         unit: usize,
         begin: u64,
         steps: &mut Steps<L>,
     ) -> Option<Place>
-        ensures next { IsNextRepeat (seen asked self.now.kept.ranges) self.now.keepers unit asked.addr begin result }
+        ensures next { HasNextRepeat asked self.now unit begin result }
         ensures later { steps.old ≤ steps.new }
     {
         let mut place = 0;
@@ -182,14 +160,14 @@ impl Announced {
 
     /// Asks the next of these units one after the other. They are as many as the root of the number of all: of n units and
     /// m ranges that begin alike, no more than the root of n times all m are gone through.
-    pub fn near_repeat<L: Ledger>(
+    pub(crate) fn near_repeat<L: Ledger>(
         &self,
         asked: Asked,
         unit: usize,
         begin: u64,
         steps: &mut Steps<L>,
     ) -> Near
-        ensures near { IsNear (seen asked self.now.kept.ranges) self.now.keepers unit asked.addr begin result }
+        ensures near { HasNear asked self.now unit begin result }
         ensures later { steps.old ≤ steps.new }
     {
         let repeats = self.keepers.repeats.as_slice();

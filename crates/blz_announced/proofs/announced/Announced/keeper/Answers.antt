@@ -4,4 +4,4 @@ use Rattle.blz_ranges.proofs.OwnedItems.{owner_owned}
 use Rattle.blz_announced.proofs.announced.Announced.keeper.Goals as goal
 
 pub returns : goal.returns
-returns c = rw (← c.self.view_is) (c.number_at.ensures ∙ (ap (λ (l : List ℕ). slice_get l c.args.place) c.as_slice.ensures.value ∙ sym (owner_owned c.self.inside.index.spans c.self.inside.owners.items c.args.place c.self.invariant.0)))
+returns c = rw (← c.self.view_is) (c.number_at.ensures ∙ (ap (λ (l : List ℕ). slice_get l c.args.place) c.as_slice.ensures.value ∙ sym (owner_owned c.self.inside.index.spans c.self.inside.owners.items c.args.place c.self.invariant.same)))

@@ -1,12 +1,11 @@
-use Rattle.std.proofs.Common.{◌≡◌, ◌∙◌, List, Some, sym, ap, refl, arith}
-use Rattle.blz_ranges.specs.declared.span.Span.{Span}
+use Rattle.std.proofs.Common.{◌≡◌, ◌∙◌, Some, sym, ap, refl, arith}
 use Rattle.blz_ranges.specs.Best.{next, next_after}
 use Rattle.blz_ranges.specs.Owned.{items_of}
-use Rattle.blz_ranges.proofs.OwnedItems.{items_owned}
 use Rattle.std.proofs.lemmas.Option.{slice_get_within}
-use Rattle.blz_announced.specs.Copies.{up_to, HaveKeepers}
+use Rattle.blz_announced.specs.Copies.{up_to}
 use Rattle.blz_announced.specs.Seen.{seen}
 use Rattle.blz_announced.proofs.NextCopies.{after_is, next_is}
+use Rattle.blz_announced.proofs.Parts.{parts}
 use Rattle.blz_announced.proofs.SeenRanges.{among_kept, is_hidden, low_next, over_up_to, stays_seen, up_to_some, IsLow}
 use Rattle.blz_announced.proofs.SeenSteps.{fewer_come, first_from, from_here, from_next, IsFrom}
 use Rattle.blz_announced.proofs.announced.Announced.next_seen.Goals as goal
@@ -15,8 +14,8 @@ pub loop-place-init : goal.loop-place-init
 loop-place-init g c =
     let kept = c.args.self.now.kept.ranges in
     let asked = c.args.asked in
-    let items : c.self.inside.index.spans ≡ items_of kept = rw (← c.self.view_is) (sym (items_owned c.self.inside.index.spans c.self.inside.owners.items c.self.invariant.0)) in
-    let found : c.next_after-next.result ≡ next_after (items_of kept) asked.addr c.args.after = c.next_after-next.ensures.next ∙ ap (λ (l : List Span). next_after l asked.addr c.args.after) items in
+    let p = parts c.self.invariant c.self.view_is in
+    let found : c.next_after-next.result ≡ next_after (items_of kept) asked.addr c.args.after = rw (← p.items) c.next_after-next.ensures.next in
     let target = next_after (items_of (seen asked kept)) asked.addr c.args.after in
     let on = after_is (items_of kept) asked.addr c.args.after.place c.args.after.span c.next_after-next.result found in
     record {
@@ -28,8 +27,8 @@ loop-place-init g c =
 pub returns-in_default-clause-next : goal.returns-in_default-clause-next
 returns-in_default-clause-next g c =
     let kept = c.args.self.now.kept.ranges in
-    let have : HaveKeepers kept c.args.self.now.keepers = rw (← c.self.view_is) c.self.invariant.1.0.have in
-    sym (over_up_to c.args.asked kept c.args.self.now.keepers have c.args.after.span.begin c.args.before c.loop-place.next _ c.loop-place.invariant.first c.loop-place.invariant.low (sym c.up_to.ensures.is ∙ c.in_default.is))
+    let p = parts c.self.invariant c.self.view_is in
+    sym (over_up_to c.args.asked kept c.args.self.now.keepers p.have c.args.after.span.begin c.args.before c.loop-place.next _ c.loop-place.invariant.first c.loop-place.invariant.low (sym c.up_to.ensures.is ∙ c.in_default.is))
 
 pub returns-then-is_seen-clause-next : goal.returns-then-is_seen-clause-next
 returns-then-is_seen-clause-next g c =
@@ -45,30 +44,30 @@ pub next_below-next-requires : goal.next_below-next-requires
 next_below-next-requires g c =
     let kept = c.args.self.now.kept.ranges in
     let asked = c.args.asked in
-    let items : c.self.inside.index.spans ≡ items_of kept = rw (← c.self.view_is) (sym (items_owned c.self.inside.index.spans c.self.inside.owners.items c.self.invariant.0)) in
+    let p = parts c.self.invariant c.self.view_is in
     let next_here = up_to_some kept c.args.after.span.begin c.in-Some.place c.args.before c.loop-place.next (sym c.up_to.ensures.is ∙ c.in-Some.is) in
     let h : IsFrom (items_of kept) (items_of (seen asked kept)) asked.addr c.in-Some.place (next_after (items_of (seen asked kept)) asked.addr c.args.after) = rw next_here at c.loop-place.invariant.first in
-    rw items (slice_get_within (items_of kept) c.in-Some.place h.span h.at)
+    rw p.items (slice_get_within (items_of kept) c.in-Some.place h.span h.at)
 
 pub loop-place-smaller : goal.loop-place-smaller
 loop-place-smaller g c =
     let kept = c.args.self.now.kept.ranges in
     let asked = c.args.asked in
-    let items : c.self.inside.index.spans ≡ items_of kept = rw (← c.self.view_is) (sym (items_owned c.self.inside.index.spans c.self.inside.owners.items c.self.invariant.0)) in
+    let p = parts c.self.invariant c.self.view_is in
     let next_here = up_to_some kept c.args.after.span.begin c.in-Some.place c.args.before c.loop-place.next (sym c.up_to.ensures.is ∙ c.in-Some.is) in
     let h : IsFrom (items_of kept) (items_of (seen asked kept)) asked.addr c.in-Some.place (next_after (items_of (seen asked kept)) asked.addr c.args.after) = rw next_here at c.loop-place.invariant.first in
-    let found : c.next_below-next.result ≡ next (items_of kept) asked.addr c.in-Some.place = c.next_below-next.ensures.next ∙ ap (λ (l : List Span). next l asked.addr c.in-Some.place) items in
+    let found : c.next_below-next.result ≡ next (items_of kept) asked.addr c.in-Some.place = rw (← p.items) c.next_below-next.ensures.next in
     rw next_here (fewer_come (items_of kept) asked.addr c.in-Some.place h.span c.next_below-next.result h.at (next_is (items_of kept) asked.addr c.in-Some.place h.span c.next_below-next.result h.at (sym found)))
 
 pub loop-place-preserved : goal.loop-place-preserved
 loop-place-preserved g c =
     let kept = c.args.self.now.kept.ranges in
     let asked = c.args.asked in
-    let items : c.self.inside.index.spans ≡ items_of kept = rw (← c.self.view_is) (sym (items_owned c.self.inside.index.spans c.self.inside.owners.items c.self.invariant.0)) in
+    let p = parts c.self.invariant c.self.view_is in
     let next_here = up_to_some kept c.args.after.span.begin c.in-Some.place c.args.before c.loop-place.next (sym c.up_to.ensures.is ∙ c.in-Some.is) in
     let h : IsFrom (items_of kept) (items_of (seen asked kept)) asked.addr c.in-Some.place (next_after (items_of (seen asked kept)) asked.addr c.args.after) = rw next_here at c.loop-place.invariant.first in
     let low : IsLow kept c.args.after.span.begin (Some c.in-Some.place) = rw next_here at c.loop-place.invariant.low in
-    let found : c.next_below-next.result ≡ next (items_of kept) asked.addr c.in-Some.place = c.next_below-next.ensures.next ∙ ap (λ (l : List Span). next l asked.addr c.in-Some.place) items in
+    let found : c.next_below-next.result ≡ next (items_of kept) asked.addr c.in-Some.place = rw (← p.items) c.next_below-next.ensures.next in
     let on = next_is (items_of kept) asked.addr c.in-Some.place h.span c.next_below-next.result h.at (sym found) in
     record {
       first = from_next (items_of kept) (items_of (seen asked kept)) asked.addr (among_kept asked kept) c.in-Some.place _ h (is_hidden asked kept c.in-Some.place (sym c.is_seen.ensures.is ∙ c.if-is_seen.false)) c.next_below-next.result on;

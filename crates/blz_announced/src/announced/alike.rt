@@ -1,0 +1,165 @@
+//! The ranges that begin alike.
+ghost use Rattle.std.specs.Prelude.{◌≡◌, ◌<◌, ◌≤◌, true, length};
+ghost use Rattle.blz_announced.specs.Asking.{IsFirstOf, IsFirstOfUnit};
+ghost use Rattle.blz_announced.specs.Copies.{are_alike, goes_on};
+ghost use Rattle.blz_announced.specs.Repeats.{is_alike, IsFirstAlike, IsNextBegun};
+
+use crate::announced::{Announced, Asked};
+use crate::comparing::{begin_alike, begins_at, behind, same_number};
+use blz_bytes::Steps;
+use std::sync::ledger::Ledger;
+
+impl Announced {
+    /// Whether two ranges are of one keeper and begin alike.
+    pub(crate) fn are_alike<L: Ledger>(
+        &self,
+        place: usize,
+        next: usize,
+        steps: &mut Steps<L>,
+    ) -> bool
+        ensures is { result ≡ are_alike self.now.kept.ranges place next }
+        ensures later { steps.old ≤ steps.new }
+    {
+        if !same_number(self.keeper(place), self.keeper(next)) {
+            return false;
+        }
+        begin_alike(self.span(place, steps), self.span(next, steps))
+    }
+
+    pub(crate) fn goes_on<L: Ledger>(
+        &self,
+        place: usize,
+        next: Option<usize>,
+        steps: &mut Steps<L>,
+    ) -> bool
+        ensures is { result ≡ goes_on self.now.kept.ranges place next }
+        ensures later { steps.old ≤ steps.new }
+    {
+        match next {
+            Some(next) => self.are_alike(place, next, steps),
+            None => false,
+        }
+    }
+
+    /// The next range behind a place that covers an address and begins at a number.
+    pub(crate) fn next_begun<L: Ledger>(
+        &self,
+        addr: u64,
+        begin: u64,
+        place: usize,
+        steps: &mut Steps<L>,
+    ) -> Option<usize>
+        ensures next { IsNextBegun self.now.kept.ranges addr begin place result }
+        ensures later { steps.old ≤ steps.new }
+    {
+        let Some(next) = self.index.next_after(addr, behind(place, begin), steps) else {
+            return None;
+        };
+        if self.begins(begin, next, steps) {
+            Some(next)
+        } else {
+            None
+        }
+    }
+
+    /// Whether a range is one of a keeper that covers an address and begins at a number.
+    pub(crate) fn is_alike<L: Ledger>(
+        &self,
+        keeper: usize,
+        addr: u64,
+        begin: u64,
+        place: usize,
+        steps: &mut Steps<L>,
+    ) -> bool
+        ensures is { result ≡ is_alike self.now.kept.ranges keeper addr begin place }
+        ensures later { steps.old ≤ steps.new }
+    {
+        if !same_number(self.keeper(place), Some(keeper)) {
+            return false;
+        }
+        begins_at(addr, begin, self.span(place, steps))
+    }
+
+    /// The first of these.
+    pub(crate) fn first_alike<L: Ledger>(
+        &self,
+        keeper: usize,
+        addr: u64,
+        begin: u64,
+        steps: &mut Steps<L>,
+    ) -> Option<usize>
+        requires { keeper < length self.now.keepers }
+        ensures first { IsFirstAlike self.now.kept.ranges keeper addr begin result }
+        ensures later { steps.old ≤ steps.new }
+    {
+        let from = self.keepers.start(keeper);
+        if self.is_alike(keeper, addr, begin, from, steps) {
+            return Some(from);
+        }
+        let Some(next) = self.next_begun(addr, begin, from, steps) else {
+            return None;
+        };
+        if same_number(self.keeper(next), Some(keeper)) {
+            Some(next)
+        } else {
+            None
+        }
+    }
+
+    /// The best range of a keeper, where it begins at a number.
+    pub(crate) fn best_alike<L: Ledger>(
+        &self,
+        asked: Asked,
+        keeper: usize,
+        begin: u64,
+        steps: &mut Steps<L>,
+    ) -> Option<usize>
+        requires { asked.once ≡ true }
+        ensures first { IsFirstOf asked self.now keeper begin result }
+        ensures later { steps.old ≤ steps.new }
+    {
+        let Some(place) = self.by_keeper.best_in(keeper, asked.addr, steps) else {
+            return None;
+        };
+        if self.begins(begin, place, steps) {
+            Some(place)
+        } else {
+            None
+        }
+    }
+
+    /// The first of the ranges of a keeper that are seen and begin at a number.
+    pub(crate) fn first_seen<L: Ledger>(
+        &self,
+        asked: Asked,
+        keeper: usize,
+        begin: u64,
+        steps: &mut Steps<L>,
+    ) -> Option<usize>
+        requires { keeper < length self.now.keepers }
+        ensures first { IsFirstOf asked self.now keeper begin result }
+        ensures later { steps.old ≤ steps.new }
+    {
+        if asked.once {
+            self.best_alike(asked, keeper, begin, steps)
+        } else {
+            self.first_alike(keeper, asked.addr, begin, steps)
+        }
+    }
+
+    /// The first of the ranges of a unit that are seen and begin at a number.
+    pub(crate) fn first_of_unit<L: Ledger>(
+        &self,
+        asked: Asked,
+        unit: usize,
+        begin: u64,
+        steps: &mut Steps<L>,
+    ) -> Option<usize>
+        requires { unit < length self.now.keepers }
+        ensures first { IsFirstOfUnit asked self.now unit begin result }
+        ensures later { steps.old ≤ steps.new }
+    {
+        let keeper = self.keepers.of_units[unit];
+        self.first_seen(asked, keeper, begin, steps)
+    }
+}
