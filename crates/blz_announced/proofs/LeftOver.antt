@@ -16,9 +16,9 @@ use Rattle.blz_announced.specs.Copies.{announced_all, announced_copies, copies, 
 use Rattle.blz_announced.specs.Seen.{by_owner, is_seen, seen, seen_by, seen_from, Holds, LeavesOut}
 use Rattle.blz_announced.specs.declared.announced.Asked.{Asked}
 use Rattle.blz_announced.proofs.Copies.{are_copies}
-use Rattle.blz_announced.proofs.NextCopies.{has_item, item_at, next_is, some_is, After, IsNext}
+use Rattle.blz_announced.proofs.NextCopies.{has_item, item_at, next_is, some_is, After, IsFirst, IsNext}
 use Rattle.blz_announced.proofs.SeenRanges.{best_of_keeper, no_cover, seen_by_best, seen_not_once, there_mapped, IsBestOr}
-use Rattle.blz_announced.proofs.SeenSteps.{first_from, from_here, from_next, other_after, AreAmong, FirstFrom, IsFirst, IsFrom}
+use Rattle.blz_announced.proofs.SeenSteps.{first_from, from_here, from_next, other_after, AreAmong, FirstFrom, IsFrom}
 
 -- ---- lists of places, each with the next behind it
 
@@ -140,7 +140,7 @@ module _ (xs ys : List (Owned Span)) (addr : ℕ) where
     first_best None (Some q) b m = absurd (b q m.span (among q m.span m.at m.passes) m.passes)
     first_best (Some p) found b m = record { span = b.span; at = b.at; reached = b.passes; first = by found m }
       where
-        by : (found : Option ℕ) → IsBest (λ at s. covers s addr) few found → IsFirst few addr p b.span found
+        by : (found : Option ℕ) → IsBest (λ at s. covers s addr) few found → IsFirst (NotAfter p b.span) few addr found
         by None m = λ q t is reached not. m q t is reached
         by (Some q) m = record {
           span = m.span;

@@ -19,17 +19,24 @@ use Rattle.blz_announced.proofs.Copies.{copy_place, AreCopies}
 abbrev pub After : ℕ → Span → ℕ → Span → Type 0
 After p s q t = (t.begin < s.begin) ⊎ ((t.begin ≡ s.begin) × (p < q))
 
--- what is next, by ranges and places
-pub record IsNextAt (spans : List Span) (addr p : ℕ) (s : Span) (q : ℕ) : Type 0 where
+-- the first of those that cover an address and come later
+pub record IsFirstAt (Later : ℕ → Span → Type 0) (spans : List Span) (addr q : ℕ) : Type 0 where
   pub span : Span
   pub at : slice_get spans q ≡ Some span
   pub reached : covers span addr ≡ true
-  pub behind : After p s q span
-  pub first : (r : ℕ) (t : Span) → slice_get spans r ≡ Some t → covers t addr ≡ true → After p s r t → NotAfter q span r t
+  pub behind : Later q span
+  pub first : (r : ℕ) (t : Span) → slice_get spans r ≡ Some t → covers t addr ≡ true → Later r t → NotAfter q span r t
+
+abbrev pub IsFirst : (ℕ → Span → Type 0) → List Span → ℕ → Option ℕ → Type 0
+IsFirst Later spans addr None = (r : ℕ) (t : Span) → slice_get spans r ≡ Some t → covers t addr ≡ true → Later r t → ⊥
+IsFirst Later spans addr (Some q) = IsFirstAt Later spans addr q
+
+-- what is next, by ranges and places
+abbrev pub IsNextAt : List Span → ℕ → ℕ → Span → ℕ → Type 0
+IsNextAt spans addr p s q = IsFirstAt (After p s) spans addr q
 
 abbrev pub IsNext : List Span → ℕ → ℕ → Span → Option ℕ → Type 0
-IsNext spans addr p s None = (r : ℕ) (t : Span) → slice_get spans r ≡ Some t → covers t addr ≡ true → After p s r t → ⊥
-IsNext spans addr p s (Some q) = IsNextAt spans addr p s q
+IsNext spans addr p s o = IsFirst (After p s) spans addr o
 
 item : ℕ → Span → Placed
 item p s = record { place = p; span = s }
@@ -83,6 +90,10 @@ after_is spans addr p s o e = next_by spans addr p s o (subst (λ (r : Option �
 pub next_is : (spans : List Span) (addr p : ℕ) (s : Span) (o : Option ℕ) → slice_get spans p ≡ Some s → next spans addr p ≡ o → IsNext spans addr p s o
 next_is spans addr p s o at e =
     next_by spans addr p s o (subst (λ (b : Placed). IsBest (later addr b) spans o) (placed_is spans p s at) (subst (λ (r : Option ℕ). IsBest (later addr (placed spans p)) spans r) e (best_is_best (later addr (placed spans p)) spans)))
+
+-- the same among ranges that are kept elsewhere
+pub next_on : {kept : List Span} {s : Span} {o : Option ℕ} (spans : List Span) (addr p : ℕ) → kept ≡ spans → slice_get spans p ≡ Some s → o ≡ next kept addr p → IsNext spans addr p s o
+next_on {s = s} {o = o} spans addr p same at e = next_is spans addr p s o at (sym (e ∙ ap (λ (l : List Span). next l addr p) same))
 
 -- ---- the items of both lists
 
@@ -308,7 +319,10 @@ module _ (kept : List (Owned Span)) (keepers : List ℕ) (list : List Copy) (row
 
     -- no range of the keeper that begins alike comes after it
     abbrev pub IsLastOne : Type 0
-    IsLastOne = (q : ℕ) (t : Span) → slice_get kept q ≡ Some (record { item = t; owner = w.keeper }) → covers t addr ≡ true → t.begin ≡ w.span.begin → at.place < q → ⊥
+    IsLastOne = (q : ℕ) → IsAlike kept w.keeper addr w.span.begin q → at.place < q → ⊥
+
+    alike : (r : ℕ) (t : Span) (x : IsRange r t) → covers t addr ≡ true → t.begin ≡ w.span.begin → IsAlike kept x.keeper addr w.span.begin x.copy.place
+    alike r t x reached same = record { span = t; is = x.kept_is; begins = same; reached = reached }
 
     later_unit : IsLastOne → (r : ℕ) (t : Span) (x : IsRange r t) → covers t addr ≡ true → t.begin ≡ w.span.begin → full < r → at.unit < x.copy.unit
     unfolding here
@@ -316,10 +330,7 @@ module _ (kept : List (Owned Span)) (keepers : List ℕ) (list : List Copy) (row
       where
         by : (at.unit < x.copy.unit) ⊎ ((at.unit ≡ x.copy.unit) × (at.place < x.copy.place)) → at.unit < x.copy.unit
         by (inl a) = a
-        by (inr a) = absurd (last x.copy.place t (subst (λ (n : ℕ). slice_get kept x.copy.place ≡ Some (record { item = t; owner = n })) (same_keeper at.unit x.copy.unit w.keeper x.keeper a.0 w.row x.row) x.kept_is) reached same a.1)
-
-    alike : (r : ℕ) (t : Span) (x : IsRange r t) → covers t addr ≡ true → t.begin ≡ w.span.begin → IsAlike kept x.keeper addr w.span.begin x.copy.place
-    alike r t x reached same = record { span = t; is = x.kept_is; begins = same; reached = reached }
+        by (inr a) = absurd (last x.copy.place (subst (λ (n : ℕ). IsAlike kept n addr w.span.begin x.copy.place) (same_keeper at.unit x.copy.unit w.keeper x.keeper a.0 w.row x.row) (alike r t x reached same)) a.1)
 
     abbrev Repeated : ℕ → ℕ → Type 0
     Repeated other p = RepeatsAt kept keepers at.unit addr w.span.begin other p

@@ -10,8 +10,8 @@ use Rattle.blz_ranges.specs.Groups.{AreApart}
 use Rattle.blz_ranges.specs.Owned.{Owned, items_of, owner_at}
 use Rattle.blz_ranges.proofs.BestOf.{best_is, best_is_best}
 use Rattle.blz_announced.specs.declared.announced.Place.{Place}
-use Rattle.blz_announced.specs.Copies.{Announced, Copy, announced_all, announced_copies, begun, comes_first, full_place, goes_on, moved, told, HaveKeepers, IsNextOwn, IsOwn, IsPlaced, StandsFor}
-use Rattle.blz_announced.specs.Repeats.{IsLast, IsNextRepeat, NoRepeatBefore}
+use Rattle.blz_announced.specs.Copies.{Announced, Copy, all_spans, announced_all, announced_copies, begun, comes_first, full_place, goes_on, moved, told, HaveKeepers, IsNextOwn, IsOwn, IsPlaced, StandsFor}
+use Rattle.blz_announced.specs.Repeats.{IsAlike, IsLast, IsNextRepeat, NoRepeatBefore}
 use Rattle.blz_announced.proofs.Copies.{are_copies, within, AreCopies}
 use Rattle.blz_announced.proofs.NextCopies.{as_kept, best_none, best_some, has_item, is_at, is_next, item_at, moved_next, moved_placed, next_is, none_next, own_next, own_placed, placed_kept, precedes_repeat, repeat_next, repeat_placed, some_is, stands_before, IsAt, IsNext, Precedes}
 
@@ -26,7 +26,7 @@ module _ (a : Announced) (rows : HaveKeepers a.kept.ranges a.keepers) (addr : �
   are = are_copies kept a.keepers
 
   abbrev all : List Span
-  all = items_of (announced_all a).ranges
+  all = all_spans a
 
   abbrev Stands : Option Place → Option ℕ → Type 0
   Stands at place = StandsFor a addr at place
@@ -84,19 +84,20 @@ module _ (a : Announced) (rows : HaveKeepers a.kept.ranges a.keepers) (addr : �
 
     -- no range of its keeper that begins alike is next
 
-    last_by : (o : Option ℕ) → IsKeptNext o → goes_on kept at.place o ≡ false → (q : ℕ) (t : Span) → slice_get kept q ≡ Some (record { item = t; owner = w.keeper }) → covers t addr ≡ true → t.begin ≡ w.span.begin → at.place < q → ⊥
-    last_by None n goes q t is reached same lt = n q t (item_at kept q (record { item = t; owner = w.keeper }) is) reached (inr (same, lt))
-    last_by (Some r) n goes q t is reached same lt =
+    last_by : (o : Option ℕ) → IsKeptNext o → goes_on kept at.place o ≡ false → (q : ℕ) → IsAlike kept w.keeper addr w.span.begin q → at.place < q → ⊥
+    last_by None n goes q a lt = n q a.span (item_at kept q (record { item = a.span; owner = w.keeper }) a.is) a.reached (inr (a.begins, lt))
+    last_by (Some r) n goes q a lt =
         let h = has_item kept r n.span n.at in
-        let k = n.first q t (item_at kept q (record { item = t; owner = w.keeper }) is) reached (inr (same, lt)) in
-        let begin : n.span.begin ≡ w.span.begin = not_above k.below n.behind in
-        let le = k.tie (same ∙ sym begin) in
+        let k = n.first q a.span (item_at kept q (record { item = a.span; owner = w.keeper }) a.is) a.reached (inr (a.begins, lt)) in
+        let same = a.begins in
+        let begin : n.span.begin ≡ w.span.begin = not_above (omega arith) n.behind in
+        let le = k.tie (a.begins ∙ sym begin) in
         let lower = rows.sorted at.place r (record { item = w.span; owner = w.keeper }) (record { item = n.span; owner = h.keeper }) (behind_it begin n.behind) w.is h.is in
-        let upper = rows.sorted r q (record { item = n.span; owner = h.keeper }) (record { item = t; owner = w.keeper }) le h.is is in
+        let upper = rows.sorted r q (record { item = n.span; owner = h.keeper }) (record { item = a.span; owner = w.keeper }) le h.is a.is in
         let keeper : w.keeper ≡ h.keeper = omega arith in
         false≢true (sym goes ∙ (goes_is r h.keeper n.span h.is ∙ and_from _ _ (eq-eqb w.keeper h.keeper keeper) (eq-eqb w.span.begin n.span.begin (sym begin))))
       where
-        not_above : t.begin ≤ n.span.begin → (n.span.begin < w.span.begin) ⊎ ((n.span.begin ≡ w.span.begin) × (at.place < r)) → n.span.begin ≡ w.span.begin
+        not_above : w.span.begin ≤ n.span.begin → (n.span.begin < w.span.begin) ⊎ ((n.span.begin ≡ w.span.begin) × (at.place < r)) → n.span.begin ≡ w.span.begin
         not_above le (inl less) = absurd (omega arith)
         not_above le (inr h) = h.0
 
@@ -105,9 +106,9 @@ module _ (a : Announced) (rows : HaveKeepers a.kept.ranges a.keepers) (addr : �
         behind_it e (inr h) = let k = h.1 in omega arith
 
     pub is_last : (o : Option ℕ) → o ≡ next (items_of kept) addr at.place → goes_on kept at.place o ≡ false → IsLast kept addr w.span.begin at.place
-    is_last o e goes = λ keeper q t own is reached same lt.
+    is_last o e goes = λ keeper q own a lt.
         let k : keeper ≡ w.keeper = some_is keeper w.keeper (sym own ∙ owner_is at.place w.keeper w.span w.is) in
-        last_by o (is_kept_next o e) goes q t (subst (λ (n : ℕ). slice_get kept q ≡ Some (record { item = t; owner = n })) k is) reached same lt
+        last_by o (is_kept_next o e) goes q (subst (λ (n : ℕ). IsAlike kept n addr w.span.begin q) k a) lt
 
     pub moved_found : (o : Option ℕ) → o ≡ next (items_of kept) addr at.place → goes_on kept at.place o ≡ true → IfSome (moved at o) (λ _. Stands (moved at o) (next all addr (full_place list at)))
     moved_found None e goes = tt
@@ -116,8 +117,8 @@ module _ (a : Announced) (rows : HaveKeepers a.kept.ranges a.keepers) (addr : �
     -- ---- behind its unit
 
     module _ (last : IsLast kept addr w.span.begin at.place) where
-      last_one : (q : ℕ) (t : Span) → slice_get kept q ≡ Some (record { item = t; owner = w.keeper }) → covers t addr ≡ true → t.begin ≡ w.span.begin → at.place < q → ⊥
-      last_one q t is reached same lt = last w.keeper q t (owner_is at.place w.keeper w.span w.is) is reached same lt
+      last_one : (q : ℕ) → IsAlike kept w.keeper addr w.span.begin q → at.place < q → ⊥
+      last_one q a lt = last w.keeper q (owner_is at.place w.keeper w.span w.is) a lt
 
       own_by : (q : ℕ) (n : IsOwn kept at.unit addr w.span.begin q) → Precedes kept a.keepers list rows are addr at w q n → Stands (begun kept (Some q)) (next all addr (full_place list at))
       own_by q n precedes =

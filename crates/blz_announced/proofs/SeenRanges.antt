@@ -1,5 +1,5 @@
 -- What is seen of the ranges that are kept, and the best range of a keeper.
-use Rattle.std.proofs.Common.{◌≡◌, ℕ, zero, suc, ◌+◌, ◌≤◌, Bool, true, false, eqb, List, [], ◌∷◌, length, Option, Some, None, refl, sym, ap, subst, ◌∙◌, arith, inl, inr}
+use Rattle.std.proofs.Common.{◌≡◌, ℕ, zero, suc, ◌+◌, ◌<◌, ◌≤◌, Bool, true, false, eqb, List, [], ◌∷◌, length, Option, Some, None, refl, sym, ap, subst, ◌∙◌, arith, inl, inr}
 use Rattle.std.specs.Prelude.{◌&&◌, nat_lt, option_map, if◌then◌else◌}
 use Rattle.std.specs.List.{slice_get}
 use Rattle.std.proofs.lemmas.Bool.{cases_Bool, and_parts, and_from, eqb-true, eq-eqb, lt-ltb, ltb-true, false≢true}
@@ -124,7 +124,7 @@ seen_is asked kept p y is =
     }
 
 pub no_cover : (addr : ℕ) → covers no_span addr ≡ true → ⊥
-no_cover addr t = let k = and_parts _ _ t in let l = ltb-true addr 0 k.1 in omega arith
+no_cover addr t = let l : addr < 0 = ltb-true addr 0 (and_parts _ _ t).1 in omega arith
 
 -- what covers an address there is kept as it is seen
 pub record IsThere (asked : Asked) (kept : List (Owned Span)) (p : ℕ) (y : Owned Span) : Type 0 where
@@ -302,10 +302,10 @@ is_hidden asked kept p f t is reached =
 
 -- the last that begins alike, where units are told once
 pub last_once : (asked : Asked) (kept : List (Owned Span)) (keepers : List ℕ) (at : Place) → asked.once ≡ true → (w : IsPlaced (seen asked kept) keepers asked.addr at) (begin : ℕ) → IsLast (seen asked kept) asked.addr begin at.place
-last_once asked kept keepers at once w begin = λ keeper q t own is reached same lt.
+last_once asked kept keepers at once w begin = λ keeper q own a lt.
     let k : w.keeper ≡ keeper = some_is w.keeper keeper (sym (ap (option_map (λ (x : Owned Span). x.owner)) w.is) ∙ own) in
     let here = w.is ∙ ap (λ (n : ℕ). Some (record { item = w.span; owner = n })) k in
-    let e = one_alone asked kept once at.place q keeper w.span t here w.reached is reached in
+    let e = one_alone asked kept once at.place q keeper w.span a.span here w.reached a.is a.reached in
     omega arith
 
 -- ---- up to a unit
@@ -317,6 +317,10 @@ up_to_nothing kept begin (Some unit) = refl
 pub up_to_some : (kept : List (Owned Span)) (begin p : ℕ) (before o : Option ℕ) → up_to kept begin before o ≡ Some p → o ≡ Some p
 up_to_some kept begin p None o e = e
 up_to_some kept begin p (Some unit) o e = elim (cases_Bool (comes_first kept begin unit o)) [ inl t ↦ rw t at e | inr f ↦ absurd (let k = rw f at e in cc) ]
+
+-- a range that is not over
+pub on_up_to : {ys : List Span} {addr : ℕ} {target : Option ℕ} (kept : List (Owned Span)) (begin p : ℕ) (before o : Option ℕ) → up_to kept begin before o ≡ Some p → FirstFrom (items_of kept) ys addr o target → IsFrom (items_of kept) ys addr p target
+on_up_to kept begin p before o e first = rw (up_to_some kept begin p before o e) at first
 
 -- no range begins above a number
 abbrev pub IsLow : List (Owned Span) → ℕ → Option ℕ → Type 0

@@ -6,7 +6,7 @@ use Rattle.std.proofs.lemmas.Bool.{cases_lt}
 use Rattle.std.proofs.lemmas.Option.{get_or_from_slice_get, slice_get_within}
 use Rattle.blz_ranges.specs.declared.span.Span.{Span}
 use Rattle.blz_ranges.specs.Best.{covers, no_span, placed, NotAfter}
-use Rattle.blz_announced.proofs.NextCopies.{After, IsNext, IsNextAt}
+use Rattle.blz_announced.proofs.NextCopies.{After, IsFirst, IsNext, IsNextAt}
 
 -- ---- ranges after one another
 
@@ -47,24 +47,12 @@ both_first p q s t h k =
 
 -- ---- the first of some ranges, from one on
 
--- the first that covers an address and does not come before a range
-pub record IsFirstAt (ys : List Span) (addr p : ℕ) (s : Span) (q : ℕ) : Type 0 where
-  pub span : Span
-  pub at : slice_get ys q ≡ Some span
-  pub reached : covers span addr ≡ true
-  pub behind : NotAfter p s q span
-  pub first : (r : ℕ) (t : Span) → slice_get ys r ≡ Some t → covers t addr ≡ true → NotAfter p s r t → NotAfter q span r t
-
-abbrev pub IsFirst : List Span → ℕ → ℕ → Span → Option ℕ → Type 0
-IsFirst ys addr p s None = (r : ℕ) (t : Span) → slice_get ys r ≡ Some t → covers t addr ≡ true → NotAfter p s r t → ⊥
-IsFirst ys addr p s (Some q) = IsFirstAt ys addr p s q
-
--- the same, from a range of a list on
+-- the first that covers an address, from a range of a list on
 pub record IsFrom (xs ys : List Span) (addr p : ℕ) (o : Option ℕ) : Type 0 where
   pub span : Span
   pub at : slice_get xs p ≡ Some span
   pub reached : covers span addr ≡ true
-  pub first : IsFirst ys addr p span o
+  pub first : IsFirst (NotAfter p span) ys addr o
 
 abbrev pub FirstFrom : List Span → List Span → ℕ → Option ℕ → Option ℕ → Type 0
 FirstFrom xs ys addr None o = o ≡ None
@@ -80,7 +68,7 @@ module _ (xs ys : List Span) (addr : ℕ) (among : AreAmong xs ys addr) where
   first_from p s None (Some q) n m = absurd (n q m.span (among q m.span m.at m.reached) m.reached m.behind)
   first_from p s (Some r) found n m = record { span = n.span; at = n.at; reached = n.reached; first = by found m }
     where
-      by : (found : Option ℕ) → IsNext ys addr p s found → IsFirst ys addr r n.span found
+      by : (found : Option ℕ) → IsNext ys addr p s found → IsFirst (NotAfter r n.span) ys addr found
       by None m = λ q t is reached not. m q t is reached (after_both p r q s n.span t n.behind not)
       by (Some q) m = record {
         span = m.span;
@@ -107,7 +95,7 @@ module _ (xs ys : List Span) (addr : ℕ) (among : AreAmong xs ys addr) where
       later : (q : ℕ) (t : Span) → slice_get ys q ≡ Some t → covers t addr ≡ true → NotAfter p h.span q t → After p h.span q t
       later q t is reached not = other_after p q h.span t (other q t is reached) not
 
-      by_next : (found : Option ℕ) → IsFirst ys addr p h.span found → (r : ℕ) (n : IsNextAt xs addr p h.span r) → IsFirst ys addr r n.span found
+      by_next : (found : Option ℕ) → IsFirst (NotAfter p h.span) ys addr found → (r : ℕ) (n : IsNextAt xs addr p h.span r) → IsFirst (NotAfter r n.span) ys addr found
       by_next None f r n = λ q t is reached not. f q t is reached (after_not p q h.span t (after_both p r q h.span n.span t n.behind not))
       by_next (Some q) f r n = record {
         span = f.span;
@@ -117,7 +105,7 @@ module _ (xs ys : List Span) (addr : ℕ) (among : AreAmong xs ys addr) where
         first = λ m t is reached not. f.first m t is reached (after_not p m h.span t (after_both p r m h.span n.span t n.behind not));
       }
 
-      by : (found : Option ℕ) → IsFirst ys addr p h.span found → (o : Option ℕ) → IsNext xs addr p h.span o → FirstFrom xs ys addr o found
+      by : (found : Option ℕ) → IsFirst (NotAfter p h.span) ys addr found → (o : Option ℕ) → IsNext xs addr p h.span o → FirstFrom xs ys addr o found
       by None f None n = refl
       by (Some q) f None n = absurd (n q f.span (among q f.span f.at f.reached) f.reached (later q f.span f.at f.reached f.behind))
       by found f (Some r) n = record { span = n.span; at = n.at; reached = n.reached; first = by_next found f r n }

@@ -8,7 +8,7 @@ use Rattle.blz_announced.specs.declared.announced.Place.{Place}
 use Rattle.blz_announced.specs.declared.units_at.Turn.{Turn}
 use Rattle.blz_announced.specs.Copies.{Announced, Copy, announced_all, announced_copies, full_place, told, IsPlaced, StandsFor}
 use Rattle.blz_announced.proofs.Copies.{are_copies, copy_place}
-use Rattle.blz_announced.specs.Announced.{Announcing, Left, All, Behind, Nothing, behind, left_behind, is_first, left_at, places_left, turn_behind, unit_at, units_left, IsCovering, IsLeft, IsPlacedTurn, IsTurn}
+use Rattle.blz_announced.specs.Announced.{Announcing, Left, All, Behind, Nothing, behind, left_behind, is_first, left_at, places_left, turn_behind, turn_place, unit_at, units_left, IsCovering, IsLeft, IsPlacedTurn, IsTurn}
 use Rattle.blz_ranges.specs.Best.{best, next}
 use Rattle.blz_ranges.specs.Owned.{Owned, items_of, owner_at}
 use Rattle.blz_ranges.specs.Ranges.{OwnedRanges, owner_of}
@@ -156,7 +156,7 @@ placed_turn a addr (Some at) p = p
 
 module _ (a : Announced) (addr : ℕ) (turn : Turn) (t : IsTurn a addr turn) (at : Option Place) where
   abbrev next_left : Option ℕ
-  next_left = slice_get (places_left (announced_all a).ranges addr (left_at a turn)) 0
+  next_left = turn_place a addr turn
 
   pub turn_at_kept : StandsFor a addr at next_left → IsTurn a addr (turn_behind at)
   turn_at_kept s = record {

@@ -1,5 +1,5 @@
 -- The first unit of a keeper behind a unit, by the best of the ranges of units before those that are not their own keepers.
-use Rattle.std.proofs.Common.{◌≡◌, ℕ, ◌≤◌, Bool, true, List, Option, Some, None, sym, ap, subst, ◌∙◌, arith}
+use Rattle.std.proofs.Common.{◌≡◌, ℕ, ◌<◌, ◌≤◌, Bool, true, List, Option, Some, None, sym, ap, subst, ◌∙◌, arith}
 use Rattle.std.specs.Prelude.{option_map, unwrap_or}
 use Rattle.std.specs.List.{slice_get}
 use Rattle.std.proofs.lemmas.Bool.{and_parts, and_from, eqb-true, eq-eqb, le-leb, lt-ltb, ltb-true}
@@ -52,7 +52,7 @@ module _ (keepers repeats : List ℕ) (are : AreRepeats keepers repeats) (keeper
       let k = there_at keepers r.0 (are.units at r.0 r.1) in
       let own : k.0 ≡ keeper = sym (keeper_is r.0 k.0 k.1) ∙ eqb-true (units_before keepers r.0).group keeper (sym (test_is at r.0 r.1) ∙ both.0) in
       let end : r.0 ≡ s.end = ap (λ (x : Grouped). x.span.end) r.2 ∙ ap (λ (x : Span). x.end) g.2 in
-      let below = ltb-true unit s.end (and_parts _ _ both.1).1 in
+      let below : unit < s.end = ltb-true unit s.end (and_parts _ _ both.1).1 in
       let row = k.1 ∙ ap (λ (n : ℕ). Some n) own in
       record { other = r.0; is = r.1; repeat = record { later = omega arith; row = row; differs = are.differ at r.0 keeper r.1 row } }
 

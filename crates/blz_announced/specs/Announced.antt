@@ -73,7 +73,12 @@ is_first Over = false
 
 -- the units that are still to come
 abbrev pub units_left : Announced → ℕ → Turn → List ℕ
-units_left a addr turn = owners_of (announced_all a).ranges (places_left (announced_all a).ranges addr (left_at a turn))
+units_left a addr turn =
+    owners_of (announced_all a).ranges (places_left (announced_all a).ranges addr (left_at a turn))
+
+-- the place whose turn it is, among all ranges
+abbrev pub turn_place : Announced → ℕ → Turn → Option ℕ
+turn_place a addr turn = slice_get (places_left (announced_all a).ranges addr (left_at a turn)) 0
 
 -- the turn behind a place that was found
 abbrev pub turn_behind : Option Place → Turn

@@ -3,12 +3,12 @@ use Rattle.std.specs.Prelude.{◌≡◌, ℕ, ◌≤◌, ◌+◌, ◌*◌, ◌^�
 use Rattle.std.specs.List.{slice_get}
 use Rattle.blz_ranges.specs.declared.placed.Placed.{Placed}
 use Rattle.blz_ranges.specs.declared.span.Span.{Span}
-use Rattle.blz_ranges.specs.Best.{best, next_after}
+use Rattle.blz_ranges.specs.Best.{next_after}
 use Rattle.blz_ranges.specs.Groups.{AreApart}
 use Rattle.blz_ranges.specs.Owned.{Owned, items_of}
 use Rattle.blz_ranges.specs.Ranges.{OwnedRanges}
-use Rattle.blz_announced.specs.Announced.{is_first, left_at, places_left, units_left, Announcing}
-use Rattle.blz_announced.specs.Copies.{announced_all, up_to, Announced, HaveKeepers, IsBehind, IsNextOwn, IsPlaced, StandsFor}
+use Rattle.blz_announced.specs.Announced.{is_first, turn_place, units_left, Announcing}
+use Rattle.blz_announced.specs.Copies.{announced_all, up_to, Announced, HaveKeepers, IsBehind, IsBestOfAll, IsNextOwn, IsPlaced, StandsFor}
 use Rattle.blz_announced.specs.Repeats.{IsAlikeOf, IsFirstAlike, IsLast, IsNear, IsNextRepeat, IsRepeatBefore}
 use Rattle.blz_announced.specs.Seen.{seen, seen_by}
 use Rattle.blz_announced.specs.declared.announced.Asked.{Asked}
@@ -27,7 +27,7 @@ HasPlace asked a at = IsPlaced (ranges_seen asked a) a.keepers asked.addr at
 
 -- the place of the best of all ranges
 abbrev pub IsBestPlace : Asked → Announced → Option Place → Type 0
-IsBestPlace asked a found = StandsFor (seen_by asked a) asked.addr found (best (items_of (announced_all (seen_by asked a)).ranges) asked.addr)
+IsBestPlace asked a found = IsBestOfAll (seen_by asked a) asked.addr found
 
 -- the place of the range behind one
 abbrev pub IsNextPlace : Asked → Announced → Place → Option Place → Type 0
@@ -35,13 +35,15 @@ IsNextPlace asked a at found = IsBehind (seen_by asked a) asked.addr at found
 
 -- the place of the range whose turn it is
 abbrev pub IsTurnPlace : Asked → Announced → Turn → Option Place → Type 0
-IsTurnPlace asked a turn found = StandsFor (seen_by asked a) asked.addr found (slice_get (places_left (announced_all (seen_by asked a)).ranges asked.addr (left_at (seen_by asked a) turn)) 0)
+IsTurnPlace asked a turn found =
+    StandsFor (seen_by asked a) asked.addr found (turn_place (seen_by asked a) asked.addr turn)
 
 -- ---- the next one behind a range
 
 -- the next one by begin and place, where it comes before the ranges of a unit
 abbrev pub next_up_to : Asked → Announced → Placed → Option ℕ → Option ℕ
-next_up_to asked a after before = up_to a.kept.ranges after.span.begin before (next_after (items_of (ranges_seen asked a)) asked.addr after)
+next_up_to asked a after before =
+    up_to a.kept.ranges after.span.begin before (next_after (items_of (ranges_seen asked a)) asked.addr after)
 
 -- the first range of a keeper that begins at a number
 abbrev pub IsFirstOf : Asked → Announced → ℕ → ℕ → Option ℕ → Type 0
@@ -49,7 +51,8 @@ IsFirstOf asked a keeper begin found = IsFirstAlike (ranges_seen asked a) keeper
 
 -- the same of the keeper of a unit
 abbrev pub IsFirstOfUnit : Asked → Announced → ℕ → ℕ → Option ℕ → Type 0
-IsFirstOfUnit asked a unit begin found = (keeper : ℕ) → slice_get a.keepers unit ≡ Some keeper → IsFirstOf asked a keeper begin found
+IsFirstOfUnit asked a unit begin found =
+    (keeper : ℕ) → slice_get a.keepers unit ≡ Some keeper → IsFirstOf asked a keeper begin found
 
 -- the keeper of a range that begins at a number
 abbrev pub IsKeeperAt : Asked → Announced → ℕ → ℕ → Option ℕ → Type 0
@@ -67,7 +70,8 @@ pub record IsOwnUpTo (asked : Asked) (a : Announced) (unit begin : ℕ) (before 
 
 -- none of its unit that begins alike comes behind a place
 abbrev pub IsLastPlace : Asked → Announced → Place → Type 0
-IsLastPlace asked a at = (w : HasPlace asked a at) → IsLast (ranges_seen asked a) asked.addr w.span.begin at.place
+IsLastPlace asked a at =
+    (w : HasPlace asked a at) → IsLast (ranges_seen asked a) asked.addr w.span.begin at.place
 
 -- the same by the begin
 pub record EndsUnit (asked : Asked) (a : Announced) (at : Place) (begin : ℕ) : Type 0 where
@@ -79,10 +83,12 @@ pub record EndsUnit (asked : Asked) (a : Announced) (at : Place) (begin : ℕ) :
 -- ---- the next unit that is not its own keeper
 
 abbrev pub HasNextRepeat : Asked → Announced → ℕ → ℕ → Option Place → Type 0
-HasNextRepeat asked a unit begin found = IsNextRepeat (ranges_seen asked a) a.keepers unit asked.addr begin found
+HasNextRepeat asked a unit begin found =
+    IsNextRepeat (ranges_seen asked a) a.keepers unit asked.addr begin found
 
 abbrev pub HasRepeatBefore : Asked → Announced → ℕ → ℕ → ℕ → Option Place → Type 0
-HasRepeatBefore asked a unit begin place found = IsRepeatBefore (ranges_seen asked a) a.keepers unit asked.addr begin place found
+HasRepeatBefore asked a unit begin place found =
+    IsRepeatBefore (ranges_seen asked a) a.keepers unit asked.addr begin place found
 
 abbrev pub HasNear : Asked → Announced → ℕ → ℕ → Near → Type 0
 HasNear asked a unit begin near = IsNear (ranges_seen asked a) a.keepers unit asked.addr begin near
@@ -91,7 +97,12 @@ HasNear asked a unit begin near = IsNear (ranges_seen asked a) a.keepers unit as
 
 -- few looks for one of some ranges, where their order was accepted and no two of them share an address
 abbrev pub TakesFew : OwnedRanges → ℕ → Type 0
-TakesFew all looks = all.ordered ≡ true → AreApart (items_of all.ranges) → 2 ^ looks ≤ 4 * (2 * length all.ranges + 1)
+TakesFew all looks =
+    all.ordered ≡ true → AreApart (items_of all.ranges) → 2 ^ looks ≤ 4 * (2 * length all.ranges + 1)
+
+-- the first of them is told after few looks
+abbrev pub FirstTakesFew : Announced → Turn → ℕ → Type 0
+FirstTakesFew a turn looks = is_first turn ≡ true → TakesFew (announced_all a) looks
 
 -- what is still to be told when it is a range's turn
 abbrev pub told_from : Asked → Announced → Turn → Announcing

@@ -4,7 +4,7 @@ use Rattle.std.specs.Prelude.{◌≡◌, ℕ, zero, suc, ◌+◌, ◌<◌, ◌�
 use Rattle.std.specs.List.{slice_get}
 use Rattle.std.specs.List.Sorted.{IsNonDecreasingBy}
 use Rattle.blz_ranges.specs.declared.span.Span.{Span}
-use Rattle.blz_ranges.specs.Best.{covers, next, NotAfter}
+use Rattle.blz_ranges.specs.Best.{best, covers, next, NotAfter}
 use Rattle.blz_bytes.specs.declared.orders.Key.{Key}
 use Rattle.blz_ranges.specs.Keyed.{begin_key, IsAccepted}
 use Rattle.blz_ranges.specs.Owned.{Owned, items_of, own_all, owned, owner_at}
@@ -21,7 +21,9 @@ pub record Copy : Type 0 where
 -- what a keeper announces, as the ranges of one of its units; at is the place of the first range
 unfoldable pub copies_of : ℕ → ℕ → ℕ → List (Owned Span) → List Copy
 copies_of unit keeper at [] = []
-copies_of unit keeper at (x ∷ kept) = if x.owner == keeper then record { unit = unit; place = at; span = x.item } ∷ copies_of unit keeper (suc at) kept else copies_of unit keeper (suc at) kept
+copies_of unit keeper at (x ∷ kept) = if x.owner == keeper
+    then record { unit = unit; place = at; span = x.item } ∷ copies_of unit keeper (suc at) kept
+    else copies_of unit keeper (suc at) kept
 
 -- the ranges of the units from a number on, by their keepers
 unfoldable pub copies : List (Owned Span) → ℕ → List ℕ → List Copy
@@ -44,14 +46,17 @@ pub record HaveKeepers (kept : List (Owned Span)) (keepers : List ℕ) : Type 0 
   pub before : (unit keeper : ℕ) → slice_get keepers unit ≡ Some keeper → keeper ≤ unit
   pub own : (unit keeper : ℕ) → slice_get keepers unit ≡ Some keeper → slice_get keepers keeper ≡ Some keeper
   pub ranges : (place : ℕ) (x : Owned Span) → slice_get kept place ≡ Some x → slice_get keepers x.owner ≡ Some x.owner
-  pub sorted : (place other : ℕ) (x y : Owned Span) → place ≤ other → slice_get kept place ≡ Some x → slice_get kept other ≡ Some y → x.owner ≤ y.owner
+  pub sorted : (place other : ℕ) (x y : Owned Span) → place ≤ other
+      → slice_get kept place ≡ Some x → slice_get kept other ≡ Some y → x.owner ≤ y.owner
 
 -- For each unit where the ranges of the units up to it end.
 pub record AreEnds (kept : List (Owned Span)) (keepers ends : List ℕ) : Type 0 where
   pub count : length ends ≡ length keepers
   pub within : (unit end : ℕ) → slice_get ends unit ≡ Some end → end ≤ length kept
-  pub below : (unit end place : ℕ) (x : Owned Span) → slice_get ends unit ≡ Some end → slice_get kept place ≡ Some x → place < end → x.owner ≤ unit
-  pub above : (unit end place : ℕ) (x : Owned Span) → slice_get ends unit ≡ Some end → slice_get kept place ≡ Some x → end ≤ place → unit < x.owner
+  pub below : (unit end place : ℕ) (x : Owned Span) → slice_get ends unit ≡ Some end
+      → slice_get kept place ≡ Some x → place < end → x.owner ≤ unit
+  pub above : (unit end place : ℕ) (x : Owned Span) → slice_get ends unit ≡ Some end
+      → slice_get kept place ≡ Some x → end ≤ place → unit < x.owner
 
 -- where the ranges of a unit begin
 abbrev pub start_of : List ℕ → ℕ → ℕ
@@ -62,8 +67,10 @@ start_of ends (suc unit) = unwrap_or (slice_get ends unit) 0
 pub record AreRepeats (keepers repeats : List ℕ) : Type 0 where
   pub rising : IsNonDecreasingBy (λ (n : ℕ). n) repeats
   pub units : (at unit : ℕ) → slice_get repeats at ≡ Some unit → unit < length keepers
-  pub differ : (at unit keeper : ℕ) → slice_get repeats at ≡ Some unit → slice_get keepers unit ≡ Some keeper → keeper < unit
-  pub all : (unit keeper : ℕ) → slice_get keepers unit ≡ Some keeper → keeper < unit → (at : ℕ) × (slice_get repeats at ≡ Some unit)
+  pub differ : (at unit keeper : ℕ) → slice_get repeats at ≡ Some unit
+      → slice_get keepers unit ≡ Some keeper → keeper < unit
+  pub all : (unit keeper : ℕ) → slice_get keepers unit ≡ Some keeper → keeper < unit
+      → (at : ℕ) × (slice_get repeats at ≡ Some unit)
 
 -- Up to a place no number of a list is above one, and from there on each is.
 pub record IsSplitAt (list : List ℕ) (n at : ℕ) : Type 0 where
@@ -85,7 +92,10 @@ pub record Announced : Type 0 where
 
 -- the same by its parts
 abbrev pub announced_of : List Span → List ℕ → Bool → List ℕ → Announced
-announced_of spans owners ordered keepers = record { kept = record { ranges = owned spans owners; ordered = ordered }; keepers = keepers }
+announced_of spans owners ordered keepers = record {
+  kept = record { ranges = owned spans owners; ordered = ordered };
+  keepers = keepers;
+}
 
 -- whether the order of the ranges was accepted
 abbrev pub IsOrderedBy : Option (List Key → List ℕ) → Announced → Type 0
@@ -122,7 +132,10 @@ IsListOf k spans (Some keeper) = (slice_get k.keepers keeper ≡ Some keeper) ×
 
 -- one unit more, which is its own keeper
 abbrev pub with_list : KeptRanges → List Span → KeptRanges
-with_list k spans = record { ranges = k.ranges ++ own_all (length k.keepers) spans; keepers = k.keepers ++ length k.keepers ∷ [] }
+with_list k spans = record {
+  ranges = k.ranges ++ own_all (length k.keepers) spans;
+  keepers = k.keepers ++ length k.keepers ∷ [];
+}
 
 -- One unit more, which announces a list; what the keepers of others announce stays.
 pub record IsWithUnit (old : KeptRanges) (spans : List Span) (new : KeptRanges) : Type 0 where
@@ -168,9 +181,13 @@ begin_alike None t = false
 begin_alike (Some s) None = false
 begin_alike (Some s) (Some t) = s.begin == t.begin
 
+abbrev pub span_at : List (Owned Span) → ℕ → Option Span
+span_at kept place = slice_get (items_of kept) place
+
 -- whether two ranges are of one keeper and begin alike
 abbrev pub are_alike : List (Owned Span) → ℕ → ℕ → Bool
-are_alike kept place next = same_number (owner_at kept place) (owner_at kept next) && begin_alike (slice_get (items_of kept) place) (slice_get (items_of kept) next)
+are_alike kept place next = same_number (owner_at kept place) (owner_at kept next)
+    && begin_alike (span_at kept place) (span_at kept next)
 
 abbrev pub goes_on : List (Owned Span) → ℕ → Option ℕ → Bool
 goes_on kept place None = false
@@ -202,10 +219,12 @@ pub record IsOwn (kept : List (Owned Span)) (unit addr begin place : ℕ) : Type
   pub is : slice_get kept place ≡ Some range
   pub reached : covers range.item addr ≡ true
   pub later : IsLater unit begin range
-  pub first : (q : ℕ) (x : Owned Span) → slice_get kept q ≡ Some x → covers x.item addr ≡ true → IsLater unit begin x → NotAfter place range.item q x.item
+  pub first : (q : ℕ) (x : Owned Span) → slice_get kept q ≡ Some x → covers x.item addr ≡ true
+      → IsLater unit begin x → NotAfter place range.item q x.item
 
 abbrev pub IsNextOwn : List (Owned Span) → ℕ → ℕ → ℕ → Option ℕ → Type 0
-IsNextOwn kept unit addr begin None = (q : ℕ) (x : Owned Span) → slice_get kept q ≡ Some x → covers x.item addr ≡ true → IsLater unit begin x → ⊥
+IsNextOwn kept unit addr begin None = (q : ℕ) (x : Owned Span) → slice_get kept q ≡ Some x
+    → covers x.item addr ≡ true → IsLater unit begin x → ⊥
 IsNextOwn kept unit addr begin (Some place) = IsOwn kept unit addr begin place
 
 abbrev pub no_longer : ℕ → Span
@@ -213,7 +232,7 @@ no_longer begin = record { begin = begin; end = begin }
 
 -- whether the range at a place begins at a number
 abbrev pub begins_in : List (Owned Span) → ℕ → ℕ → Bool
-begins_in kept begin place = begin_alike (slice_get (items_of kept) place) (Some (no_longer begin))
+begins_in kept begin place = begin_alike (span_at kept place) (Some (no_longer begin))
 
 abbrev pub is_below : ℕ → Option ℕ → Bool
 is_below unit None = false
@@ -234,6 +253,13 @@ pub record StandsFor (a : Announced) (addr : ℕ) (at : Option Place) (place : O
   pub is : option_map (full_place (announced_copies a)) at ≡ place
   pub placed : IfSome at (IsPlaced a.kept.ranges a.keepers addr)
 
+abbrev pub all_spans : Announced → List Span
+all_spans a = items_of (announced_all a).ranges
+
+-- the best among all ranges
+abbrev pub IsBestOfAll : Announced → ℕ → Option Place → Type 0
+IsBestOfAll a addr found = StandsFor a addr found (best (all_spans a) addr)
+
 -- what is next behind a place among all ranges
 abbrev pub IsBehind : Announced → ℕ → Place → Option Place → Type 0
-IsBehind a addr at found = StandsFor a addr found (next (items_of (announced_all a).ranges) addr (full_place (announced_copies a) at))
+IsBehind a addr at found = StandsFor a addr found (next (all_spans a) addr (full_place (announced_copies a) at))

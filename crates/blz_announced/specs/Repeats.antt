@@ -5,18 +5,14 @@ use Rattle.blz_ranges.specs.declared.grouped.Grouped.{Grouped}
 use Rattle.blz_ranges.specs.declared.span.Span.{Span}
 use Rattle.blz_ranges.specs.Best.{covers}
 use Rattle.blz_ranges.specs.Groups.{grouped}
-use Rattle.blz_ranges.specs.Owned.{Owned, items_of, owner_at}
-use Rattle.blz_announced.specs.Copies.{same_number}
+use Rattle.blz_ranges.specs.Owned.{Owned, owner_at}
+use Rattle.blz_announced.specs.Copies.{same_number, span_at}
 use Rattle.blz_announced.specs.declared.announced.Place.{Place}
 use Rattle.blz_announced.specs.declared.announced.repeats.Near.{Near}
 use Rattle.blz_announced.specs.declared.announced.repeats.Near.TheVariants.{Found, NoneBefore, NoneLeft}
 use Rattle.blz_announced.specs.declared.keepers.Keepers.{Keepers}
 
 -- ---- ranges that begin alike
-
--- No range of the keeper of a range comes after it that covers an address and begins at a number.
-abbrev pub IsLast : List (Owned Span) → ℕ → ℕ → ℕ → Type 0
-IsLast kept addr begin place = (keeper q : ℕ) (t : Span) → owner_at kept place ≡ Some keeper → slice_get kept q ≡ Some (record { item = t; owner = keeper }) → covers t addr ≡ true → t.begin ≡ begin → place < q → ⊥
 
 -- A range of a keeper that covers an address and begins at a number.
 pub record IsAlike (kept : List (Owned Span)) (keeper addr begin place : ℕ) : Type 0 where
@@ -25,18 +21,25 @@ pub record IsAlike (kept : List (Owned Span)) (keeper addr begin place : ℕ) : 
   pub begins : span.begin ≡ begin
   pub reached : covers span addr ≡ true
 
--- the same as a test
+-- No range of the keeper of a range comes after it that covers an address and begins at a number.
+abbrev pub IsLast : List (Owned Span) → ℕ → ℕ → ℕ → Type 0
+IsLast kept addr begin place =
+    (keeper q : ℕ) → owner_at kept place ≡ Some keeper → IsAlike kept keeper addr begin q → place < q → ⊥
+
+-- whether a range is such a one
 abbrev pub begins_at : ℕ → ℕ → Option Span → Bool
 begins_at addr begin None = false
 begins_at addr begin (Some s) = s.begin == begin && covers s addr
 
 abbrev pub is_alike : List (Owned Span) → ℕ → ℕ → ℕ → ℕ → Bool
-is_alike kept keeper addr begin place = same_number (owner_at kept place) (Some keeper) && begins_at addr begin (slice_get (items_of kept) place)
+is_alike kept keeper addr begin place =
+    same_number (owner_at kept place) (Some keeper) && begins_at addr begin (span_at kept place)
 
 -- the first of these
 abbrev pub IsFirstAlike : List (Owned Span) → ℕ → ℕ → ℕ → Option ℕ → Type 0
 IsFirstAlike kept keeper addr begin None = (q : ℕ) → IsAlike kept keeper addr begin q → ⊥
-IsFirstAlike kept keeper addr begin (Some place) = IsAlike kept keeper addr begin place × ((q : ℕ) → IsAlike kept keeper addr begin q → place ≤ q)
+IsFirstAlike kept keeper addr begin (Some place) =
+    IsAlike kept keeper addr begin place × ((q : ℕ) → IsAlike kept keeper addr begin q → place ≤ q)
 
 -- the keeper of a range, if that covers an address and begins at a number
 abbrev pub IsAlikeOf : List (Owned Span) → ℕ → ℕ → ℕ → Option ℕ → Type 0
@@ -65,11 +68,13 @@ pub record IsRepeatOf (keepers : List ℕ) (keeper unit other : ℕ) : Type 0 wh
 -- the first of a keeper
 abbrev pub IsNextOf : List ℕ → ℕ → ℕ → Option ℕ → Type 0
 IsNextOf keepers keeper unit None = (other : ℕ) → IsRepeatOf keepers keeper unit other → ⊥
-IsNextOf keepers keeper unit (Some next) = IsRepeatOf keepers keeper unit next × ((other : ℕ) → IsRepeatOf keepers keeper unit other → next ≤ other)
+IsNextOf keepers keeper unit (Some next) =
+    IsRepeatOf keepers keeper unit next × ((other : ℕ) → IsRepeatOf keepers keeper unit other → next ≤ other)
 
 -- It is found as a range: that of all units before it covers each unit that it stands behind.
 abbrev pub units_before : List ℕ → ℕ → Grouped
-units_before keepers repeat = grouped (unwrap_or (slice_get keepers repeat) repeat) (record { begin = 0; end = repeat })
+units_before keepers repeat =
+    grouped (unwrap_or (slice_get keepers repeat) repeat) (record { begin = 0; end = repeat })
 
 -- these ranges of all such units, in the groups of their keepers
 abbrev pub repeats_by_keeper : List ℕ → List ℕ → List Grouped
@@ -88,7 +93,8 @@ pub record RepeatsAt (kept : List (Owned Span)) (keepers : List ℕ) (unit addr 
 
 -- none stands before a unit
 abbrev pub NoRepeatBefore : List (Owned Span) → List ℕ → ℕ → ℕ → ℕ → ℕ → Type 0
-NoRepeatBefore kept keepers unit addr begin bound = (other q : ℕ) → RepeatsAt kept keepers unit addr begin other q → bound ≤ other
+NoRepeatBefore kept keepers unit addr begin bound =
+    (other q : ℕ) → RepeatsAt kept keepers unit addr begin other q → bound ≤ other
 
 -- The first of those with one of some ranges, at the first of its ranges.
 pub record IsRepeatAt (Among : ℕ → Type 0) (kept : List (Owned Span)) (keepers : List ℕ) (unit addr begin : ℕ) (at : Place) : Type 0 where
@@ -98,22 +104,26 @@ pub record IsRepeatAt (Among : ℕ → Type 0) (kept : List (Owned Span)) (keepe
   pub least : (other q : ℕ) → Among q → RepeatsAt kept keepers unit addr begin other q → at.unit ≤ other
 
 abbrev pub IsFirstRepeat : (ℕ → Type 0) → List (Owned Span) → List ℕ → ℕ → ℕ → ℕ → Option Place → Type 0
-IsFirstRepeat Among kept keepers unit addr begin None = (other q : ℕ) → Among q → RepeatsAt kept keepers unit addr begin other q → ⊥
+IsFirstRepeat Among kept keepers unit addr begin None =
+    (other q : ℕ) → Among q → RepeatsAt kept keepers unit addr begin other q → ⊥
 IsFirstRepeat Among kept keepers unit addr begin (Some at) = IsRepeatAt Among kept keepers unit addr begin at
 
 -- of those with any range
 abbrev pub IsNextRepeat : List (Owned Span) → List ℕ → ℕ → ℕ → ℕ → Option Place → Type 0
-IsNextRepeat kept keepers unit addr begin found = IsFirstRepeat (λ _. Unit {0}) kept keepers unit addr begin found
+IsNextRepeat kept keepers unit addr begin found =
+    IsFirstRepeat (λ _. Unit {0}) kept keepers unit addr begin found
 
 -- of those with a range before a place
 abbrev pub IsRepeatBefore : List (Owned Span) → List ℕ → ℕ → ℕ → ℕ → ℕ → Option Place → Type 0
-IsRepeatBefore kept keepers unit addr begin place found = IsFirstRepeat (λ q. q < place) kept keepers unit addr begin found
+IsRepeatBefore kept keepers unit addr begin place found =
+    IsFirstRepeat (λ q. q < place) kept keepers unit addr begin found
 
 -- of one that was found and a further unit with a range at a place, the one that stands first
 abbrev pub sooner : Option Place → ℕ → Option ℕ → Option Place
 sooner found place None = found
 sooner None place (Some unit) = Some (record { place = place; unit = unit })
-sooner (Some at) place (Some unit) = if nat_lt unit at.unit then Some (record { place = place; unit = unit }) else Some at
+sooner (Some at) place (Some unit) =
+    if nat_lt unit at.unit then Some (record { place = place; unit = unit }) else Some at
 
 -- what the units tell that were asked one after the other
 abbrev pub IsNear : List (Owned Span) → List ℕ → ℕ → ℕ → ℕ → Near → Type 0

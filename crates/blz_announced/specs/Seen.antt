@@ -41,13 +41,17 @@ hidden x = record { item = no_span; owner = x.owner }
 
 unfoldable pub seen_from : Asked → List (Owned Span) → ℕ → List (Owned Span) → List (Owned Span)
 seen_from asked kept at [] = []
-seen_from asked kept at (x ∷ rest) = (if is_seen asked kept at then x else hidden x) ∷ seen_from asked kept (suc at) rest
+seen_from asked kept at (x ∷ rest) =
+    (if is_seen asked kept at then x else hidden x) ∷ seen_from asked kept (suc at) rest
 
 abbrev pub seen : Asked → List (Owned Span) → List (Owned Span)
 seen asked kept = seen_from asked kept 0 kept
 
 abbrev pub seen_by : Asked → Announced → Announced
-seen_by asked a = record { kept = record { ranges = seen asked a.kept.ranges; ordered = a.kept.ordered }; keepers = a.keepers }
+seen_by asked a = record {
+  kept = record { ranges = seen asked a.kept.ranges; ordered = a.kept.ordered };
+  keepers = a.keepers;
+}
 
 -- ---- lists without some items that stood before
 
@@ -58,7 +62,8 @@ Holds list n = (i : ℕ) × (slice_get list i ≡ Some n)
 -- A list without some of its items, each of which stands in another list or stood before it.
 abbrev pub LeavesOut : List ℕ → List ℕ → List ℕ → Type 0
 LeavesOut before [] few = few ≡ []
-LeavesOut before (n ∷ all) few = (Holds before n × LeavesOut before all few) ⊎ (rest : List ℕ) × (few ≡ n ∷ rest) × LeavesOut (n ∷ before) all rest
+LeavesOut before (n ∷ all) few =
+    (Holds before n × LeavesOut before all few) ⊎ (rest : List ℕ) × (few ≡ n ∷ rest) × LeavesOut (n ∷ before) all rest
 
 -- the units that announce an address, before the first is asked for, without some that stand there again
 pub record IsOnce (a : Announced) (addr : ℕ) (units : Announcing) : Type 0 where

@@ -1,10 +1,9 @@
 //! The ranges that units announce. What several units announce is kept once.
 ghost use Rattle.std.specs.Prelude.{◌≡◌, ◌<◌, ◌≤◌, ◌-◌, length, None, IfOk, IfSome};
-ghost use Rattle.std.specs.List.{slice_get};
 ghost use Rattle.blz_ranges.specs.Owned.{items_of, owned, owner_at};
 ghost use Rattle.blz_announced.specs.Announced.{unit_at};
 ghost use Rattle.blz_announced.specs.Asking.{EndsUnit, FirstIsUpTo, HasPlace, IsBestPlace, IsLastPlace, IsNextPlace, IsOwnUpTo, TakesFew};
-ghost use Rattle.blz_announced.specs.Copies.{announced_all, begins_in, begun, kept_at, moved, AreKeepers, IsOrderedBy};
+ghost use Rattle.blz_announced.specs.Copies.{announced_all, begins_in, begun, kept_at, moved, span_at, AreKeepers, IsOrderedBy};
 ghost use Rattle.blz_announced.specs.Seen.{by_owner};
 
 mod alike;
@@ -152,7 +151,7 @@ impl Announced {
 
     /// The range at a place, for one step.
     fn span<L: Ledger>(&self, place: usize, steps: &mut Steps<L>) -> Option<Span>
-        ensures span { result ≡ slice_get (items_of self.now.kept.ranges) place }
+        ensures span { result ≡ span_at self.now.kept.ranges place }
         ensures later { steps.old ≤ steps.new }
     {
         self.index.span(place, steps)

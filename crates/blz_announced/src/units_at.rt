@@ -1,8 +1,8 @@
 //! The units that announce an address.
 ghost use Rattle.std.specs.Prelude.{◌≡◌, ◌≤◌, ◌-◌, true, false, drop};
 ghost use Rattle.std.specs.List.{slice_get};
-ghost use Rattle.blz_announced.specs.Announced.{is_first, to_tell, turn_behind, IsTurn};
-ghost use Rattle.blz_announced.specs.Asking.{IsTurnPlace, TakesFew};
+ghost use Rattle.blz_announced.specs.Announced.{to_tell, turn_behind, IsTurn};
+ghost use Rattle.blz_announced.specs.Asking.{FirstTakesFew, IsTurnPlace, TakesFew};
 ghost use Rattle.blz_announced.specs.Copies.{announced_all};
 ghost use Rattle.blz_announced.specs.Seen.{seen_by, IsOnce};
 
@@ -61,7 +61,7 @@ fn next_place<L: Ledger>(
 ) -> Option<Place>
     requires { IsTurn (seen_by asked announced.now) asked.addr turn }
     ensures place { IsTurnPlace asked announced.now turn result }
-    ensures cost { is_first turn ≡ true → TakesFew (announced_all announced.now) (steps.new - steps.old) }
+    ensures cost { FirstTakesFew announced.now turn (steps.new - steps.old) }
     ensures later { steps.old ≤ steps.new }
 {
     match turn {

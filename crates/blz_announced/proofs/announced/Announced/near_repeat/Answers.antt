@@ -1,7 +1,7 @@
-use Rattle.std.proofs.Common.{◌≡◌, ◌∙◌, ◌<◌, ◌+◌, get_or, length, arith, sym}
+use Rattle.std.proofs.Common.{◌≡◌, ◌∙◌, ◌+◌, get_or, arith, sym}
 use Rattle.std.proofs.lemmas.Option.{slice_get-get_or}
+use Rattle.blz_announced.specs.Asking.{ranges_seen}
 use Rattle.blz_announced.specs.Copies.{AreRepeats, IsSplitAt}
-use Rattle.blz_announced.specs.Seen.{seen}
 use Rattle.blz_announced.proofs.Parts.{parts}
 use Rattle.blz_announced.proofs.RepeatSteps.{none_before, none_from, none_left, none_more, repeat_found}
 use Rattle.blz_announced.proofs.announced.Announced.near_repeat.Goals as goal
@@ -13,56 +13,50 @@ loop-at-init g c =
     let are : AreRepeats a.keepers repeats = rw c.as_slice-repeats.ensures.value (parts c.self.invariant c.self.view_is).repeats in
     let split : IsSplitAt repeats c.args.unit c.repeats_to-from.result = rw c.as_slice-repeats.ensures.value c.repeats_to-from.ensures in
     record {
+      are = are;
+      split = split;
+      end = let k = split.within in omega (arith, c.min.ensures);
       from = omega arith;
       later = omega arith;
-      none = none_from (seen c.args.asked a.kept.ranges) a.keepers repeats are c.args.unit c.args.asked.addr c.args.begin c.repeats_to-from.result split;
+      none = none_from (ranges_seen c.args.asked a) a.keepers repeats are c.args.unit c.args.asked.addr c.args.begin c.repeats_to-from.result split;
     }
 
 pub first_of_unit-requires : goal.first_of_unit-requires
 first_of_unit-requires g c =
-    let a = c.args.self.now in
+    let l = c.loop-at in
+    let end = l.invariant.end in
     let repeats = c.as_slice-repeats.result.now in
-    let are : AreRepeats a.keepers repeats = rw c.as_slice-repeats.ensures.value (parts c.self.invariant c.self.view_is).repeats in
-    let split : IsSplitAt repeats c.args.unit c.repeats_to-from.result = rw c.as_slice-repeats.ensures.value c.repeats_to-from.ensures in
-    let lt : c.loop-at.at < length repeats = let k = split.within in omega (arith, c.min.ensures) in
-    are.units c.loop-at.at (get_or repeats c.loop-at.at 0) (slice_get-get_or repeats c.loop-at.at 0 lt)
+    l.invariant.are.units l.at (get_or repeats l.at 0) (slice_get-get_or repeats l.at 0 (omega arith))
 
 pub returns-in-Some-clause-near : goal.returns-in-Some-clause-near
 returns-in-Some-clause-near g c =
-    let a = c.args.self.now in
+    let l = c.loop-at in
+    let end = l.invariant.end in
     let repeats = c.as_slice-repeats.result.now in
-    let are : AreRepeats a.keepers repeats = rw c.as_slice-repeats.ensures.value (parts c.self.invariant c.self.view_is).repeats in
-    let split : IsSplitAt repeats c.args.unit c.repeats_to-from.result = rw c.as_slice-repeats.ensures.value c.repeats_to-from.ensures in
-    let lt : c.loop-at.at < length repeats = let k = split.within in omega (arith, c.min.ensures) in
-    repeat_found (seen c.args.asked a.kept.ranges) a.keepers repeats are c.args.unit c.args.asked.addr c.args.begin c.repeats_to-from.result split c.loop-at.at (get_or repeats c.loop-at.at 0) c.in-Some.place c.loop-at.invariant.from c.loop-at.invariant.none (slice_get-get_or repeats c.loop-at.at 0 lt) (rw c.in-Some.is at c.first_of_unit.ensures.first)
+    repeat_found (ranges_seen c.args.asked c.args.self.now) c.args.self.now.keepers repeats l.invariant.are c.args.unit c.args.asked.addr c.args.begin c.repeats_to-from.result l.invariant.split l.at (get_or repeats l.at 0) c.in-Some.place l.invariant.from l.invariant.none (slice_get-get_or repeats l.at 0 (omega arith)) (rw c.in-Some.is at c.first_of_unit.ensures.first)
 
 pub loop-at-preserved : goal.loop-at-preserved
 loop-at-preserved g c =
-    let a = c.args.self.now in
+    let l = c.loop-at in
+    let end = l.invariant.end in
     let repeats = c.as_slice-repeats.result.now in
-    let are : AreRepeats a.keepers repeats = rw c.as_slice-repeats.ensures.value (parts c.self.invariant c.self.view_is).repeats in
-    let split : IsSplitAt repeats c.args.unit c.repeats_to-from.result = rw c.as_slice-repeats.ensures.value c.repeats_to-from.ensures in
-    let lt : c.loop-at.at < length repeats = let k = split.within in omega (arith, c.min.ensures) in
     record {
-      from = let k = c.loop-at.invariant.from in omega arith;
-      later = let k = c.loop-at.invariant.later in let l = c.first_of_unit.ensures.later in omega arith;
-      none = none_more (seen c.args.asked a.kept.ranges) a.keepers repeats are c.args.unit c.args.asked.addr c.args.begin c.repeats_to-from.result split c.loop-at.at (get_or repeats c.loop-at.at 0) c.loop-at.invariant.none (slice_get-get_or repeats c.loop-at.at 0 lt) (rw c.in_default.is at c.first_of_unit.ensures.first);
+      are = l.invariant.are;
+      split = l.invariant.split;
+      end = end;
+      from = let k = l.invariant.from in omega arith;
+      later = let k = l.invariant.later in let m = c.first_of_unit.ensures.later in omega arith;
+      none = none_more (ranges_seen c.args.asked c.args.self.now) c.args.self.now.keepers repeats l.invariant.are c.args.unit c.args.asked.addr c.args.begin c.repeats_to-from.result l.invariant.split l.at (get_or repeats l.at 0) l.invariant.none (slice_get-get_or repeats l.at 0 (omega arith)) (rw c.in_default.is at c.first_of_unit.ensures.first);
     }
 
 pub returns-in-Some-number_at-clause-near : goal.returns-in-Some-number_at-clause-near
 returns-in-Some-number_at-clause-near g c =
-    let a = c.args.self.now in
-    let repeats = c.as_slice-repeats.result.now in
-    let are : AreRepeats a.keepers repeats = rw c.as_slice-repeats.ensures.value (parts c.self.invariant c.self.view_is).repeats in
-    let split : IsSplitAt repeats c.args.unit c.repeats_to-from.result = rw c.as_slice-repeats.ensures.value c.repeats_to-from.ensures in
-    let end : c.repeats_to-from.result + c.min.result ≡ c.loop-at.at = omega arith in
-    none_before (seen c.args.asked a.kept.ranges) a.keepers repeats are c.args.unit c.args.asked.addr c.args.begin c.repeats_to-from.result split c.loop-at.at c.in-Some-number_at.bound c.loop-at.invariant.none (rw end at (sym c.number_at.ensures ∙ c.in-Some-number_at.is))
+    let l = c.loop-at in
+    let end : c.repeats_to-from.result + c.min.result ≡ l.at = omega arith in
+    none_before (ranges_seen c.args.asked c.args.self.now) c.args.self.now.keepers c.as_slice-repeats.result.now l.invariant.are c.args.unit c.args.asked.addr c.args.begin c.repeats_to-from.result l.invariant.split l.at c.in-Some-number_at.bound l.invariant.none (rw end at (sym c.number_at.ensures ∙ c.in-Some-number_at.is))
 
 pub returns-in-None-clause-near : goal.returns-in-None-clause-near
 returns-in-None-clause-near g c =
-    let a = c.args.self.now in
-    let repeats = c.as_slice-repeats.result.now in
-    let are : AreRepeats a.keepers repeats = rw c.as_slice-repeats.ensures.value (parts c.self.invariant c.self.view_is).repeats in
-    let split : IsSplitAt repeats c.args.unit c.repeats_to-from.result = rw c.as_slice-repeats.ensures.value c.repeats_to-from.ensures in
-    let end : c.repeats_to-from.result + c.min.result ≡ c.loop-at.at = omega arith in
-    none_left (seen c.args.asked a.kept.ranges) a.keepers repeats are c.args.unit c.args.asked.addr c.args.begin c.repeats_to-from.result split c.loop-at.at (rw end at (sym c.number_at.ensures ∙ c.in-None.is)) c.loop-at.invariant.none
+    let l = c.loop-at in
+    let end : c.repeats_to-from.result + c.min.result ≡ l.at = omega arith in
+    none_left (ranges_seen c.args.asked c.args.self.now) c.args.self.now.keepers c.as_slice-repeats.result.now l.invariant.are c.args.unit c.args.asked.addr c.args.begin c.repeats_to-from.result l.invariant.split l.at (rw end at (sym c.number_at.ensures ∙ c.in-None.is)) l.invariant.none

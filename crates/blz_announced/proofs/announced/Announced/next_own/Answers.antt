@@ -33,6 +33,6 @@ returns-clause-next g c =
     let own = next_after (items_of kept) c.args.asked.addr after in
     record {
       own = own;
-      is = own_is kept a.keepers c.self.inside.keepers.ends.items have ends c.args.unit c.args.asked.addr c.args.begin c.start-end.result c.requires.unit (c.start-end.ensures ∙ ap (start_of c.self.inside.keepers.ends.items) next) (omega (arith, c.if-end-eq0.false)) own (after_is _ _ _ _ _ refl);
+      is = own_is kept a.keepers c.self.inside.keepers.ends.items have ends c.args.unit c.args.asked.addr c.args.begin c.start-end.result c.requires.unit (c.start-end.ensures ∙ ap (start_of c.self.inside.keepers.ends.items) next) (omega (arith, c.if-end-eq0.false)) own (after_is (items_of kept) c.args.asked.addr (c.start-end.result - 1) (no_longer c.args.begin) own refl);
       up_to_it = c.next_seen.ensures.next ∙ ap (λ (b : Placed). up_to a.kept.ranges b.span.begin c.args.before (next_after (items_of kept) c.args.asked.addr b)) c.behind.ensures;
     }
