@@ -8,7 +8,7 @@ use Rattle.blz_ranges.specs.declared.span.Span.{Span}
 use Rattle.blz_ranges.specs.declared.placed.Placed.{Placed}
 use Rattle.blz_ranges.specs.Best.{next_after}
 use Rattle.blz_ranges.specs.Owned.{Owned, items_of, owner_at}
-use Rattle.blz_announced.specs.Copies.{begin_alike, begins_in, no_longer}
+use Rattle.blz_announced.specs.Copies.{begin_alike, begins_in, no_longer, IsKept}
 use Rattle.blz_announced.specs.Repeats.{begins_at, sooner, IsAlike, IsAlikeOf, IsFirstRepeat, IsNextBegun, IsNextOf, IsRepeatOf, RepeatsAt}
 use Rattle.blz_announced.specs.Seen.{is_seen, seen}
 use Rattle.blz_announced.specs.declared.announced.Asked.{Asked}
@@ -20,7 +20,7 @@ use Rattle.blz_announced.proofs.SeenRanges.{seen_itself, seen_there}
 
 module _ (kept : List (Owned Span)) (addr begin place : ℕ) where
   alike_item : (k q : ℕ) (a : IsAlike kept k addr begin q) → slice_get (items_of kept) q ≡ Some a.span
-  alike_item k q a = item_at kept q (record { item = a.span; owner = k }) a.is
+  alike_item k q a = item_at kept q a.is
 
   -- what is found behind the place, among the same ranges
   pub next_by : {spans : List Span} {b : Placed} {o : Option ℕ} → spans ≡ items_of kept → b ≡ record { place = place; span = no_longer begin } → o ≡ next_after spans addr b → IsNext (items_of kept) addr place (no_longer begin) o
@@ -34,7 +34,7 @@ module _ (kept : List (Owned Span)) (addr begin place : ℕ) where
 
   pub begun_here : (r : ℕ) (n : IsNextAt (items_of kept) addr place (no_longer begin) r) → begins_in kept begin r ≡ true → IsNextBegun kept addr begin place (Some r)
   begun_here r n t =
-      let h = has_item kept r n.span n.at in
+      let h = has_item kept r n.at in
       let begins : n.span.begin ≡ begin = eqb-true n.span.begin begin (sym (begins_is r n.span n.at) ∙ t) in
       record {
         keeper = h.keeper;
@@ -63,22 +63,22 @@ module _ (kept : List (Owned Span)) (addr begin place : ℕ) where
 module _ (asked : Asked) (kept : List (Owned Span)) (begin : ℕ) where
   pub alike_kept : (k q : ℕ) → IsAlike (seen asked kept) k asked.addr begin q → IsAlike kept k asked.addr begin q
   alike_kept k q a =
-      let h = seen_there asked kept asked.addr q (record { item = a.span; owner = k }) a.is a.reached in
+      let h = seen_there asked kept asked.addr q a.is a.reached in
       record { span = a.span; is = h.is; begins = a.begins; reached = a.reached }
 
   pub none_begins : (place : ℕ) → begins_at asked.addr begin (slice_get (items_of kept) place) ≡ false → IsAlikeOf (seen asked kept) asked.addr begin place None
   none_begins place f = λ k a.
       let b = alike_kept k place a in
-      false≢true (sym f ∙ (ap (begins_at asked.addr begin) (item_at kept place (record { item = b.span; owner = k }) b.is) ∙ and_from _ _ (eq-eqb b.span.begin begin b.begins) b.reached))
+      false≢true (sym f ∙ (ap (begins_at asked.addr begin) (item_at kept place b.is) ∙ and_from _ _ (eq-eqb b.span.begin begin b.begins) b.reached))
 
   pub none_seen : (place : ℕ) → is_seen asked kept place ≡ false → IsAlikeOf (seen asked kept) asked.addr begin place None
-  none_seen place f = λ k a. false≢true (sym f ∙ (seen_there asked kept asked.addr place (record { item = a.span; owner = k }) a.is a.reached).seen)
+  none_seen place f = λ k a. false≢true (sym f ∙ (seen_there asked kept asked.addr place a.is a.reached).seen)
 
   by_item : (place : ℕ) (o : Option (Owned Span)) → slice_get kept place ≡ o → begins_at asked.addr begin (option_map (λ (x : Owned Span). x.item) o) ≡ true → is_seen asked kept place ≡ true → IsAlikeOf (seen asked kept) asked.addr begin place (option_map (λ (x : Owned Span). x.owner) o)
   by_item place None is t s = absurd (false≢true t)
   by_item place (Some x) is t s =
       let both = and_parts _ _ t in
-      record { span = x.item; is = seen_itself asked kept place x is s; begins = eqb-true x.item.begin begin both.0; reached = both.1 }
+      record { span = x.item; is = seen_itself asked kept place is s; begins = eqb-true x.item.begin begin both.0; reached = both.1 }
 
   item_map : (place : ℕ) → slice_get (items_of kept) place ≡ option_map (λ (x : Owned Span). x.item) (slice_get kept place)
   item_map place = slice_get-map (λ (x : Owned Span). x.item) kept place
@@ -124,7 +124,7 @@ module _ (kept : List (Owned Span)) (keepers : List ℕ) (unit addr begin : ℕ)
     module _ (keeper : ℕ) (here : IsAlike kept keeper addr begin place) where
       -- a unit with the range at the place has its keeper
       same_keeper : (k q : ℕ) → q ≡ place → IsAlike kept k addr begin q → k ≡ keeper
-      same_keeper k q e a = ap (λ (x : Owned Span). x.owner) (some_is (record { item = a.span; owner = k }) (record { item = here.span; owner = keeper }) (sym a.is ∙ subst (λ (n : ℕ). slice_get kept n ≡ Some (record { item = here.span; owner = keeper })) (sym e) here.is))
+      same_keeper k q e a = ap (λ (x : Owned Span). x.owner) (some_is (sym a.is ∙ subst (λ (n : ℕ). IsKept kept n here.span keeper) (sym e) here.is))
 
       repeats_here : (other q : ℕ) → q ≡ place → Repeated other q → IsRepeatOf keepers keeper unit other
       repeats_here other q e r = subst (λ (k : ℕ). IsRepeatOf keepers k unit other) (same_keeper r.keeper q e r.alike) r.repeats

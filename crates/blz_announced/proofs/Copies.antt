@@ -5,7 +5,7 @@ use Rattle.std.proofs.lemmas.Bool.{cases_Bool, eqb-true, eq-eqb}
 use Rattle.blz_ranges.specs.declared.span.Span.{Span}
 use Rattle.blz_ranges.specs.Owned.{Owned}
 use Rattle.blz_ranges.proofs.ListEnds.{in_front}
-use Rattle.blz_announced.specs.Copies.{Copy, copies, copies_of, place_of_copy}
+use Rattle.blz_announced.specs.Copies.{copies, copies_of, place_of_copy, Copy, IsKept}
 
 -- ---- lists that stand one behind the other
 
@@ -28,10 +28,10 @@ pub record Stands {A : Type 0} (xs : List A) (x : A) : Type 0 where
   pub at : ℕ
   pub is : slice_get xs at ≡ Some x
 
-pub within : {A : Type 0} (xs : List A) (q : ℕ) (x : A) → slice_get xs q ≡ Some x → q < length xs
-within [] q x e = absurd cc
-within (y ∷ xs) zero x e = omega arith
-within (y ∷ xs) (suc q) x e = let k = within xs q x e in omega arith
+pub within : {A : Type 0} {x : A} (xs : List A) (q : ℕ) → slice_get xs q ≡ Some x → q < length xs
+within [] q e = absurd cc
+within (y ∷ xs) zero e = omega arith
+within (y ∷ xs) (suc q) e = let k = within xs q e in omega arith
 
 -- ---- the ranges of one unit
 
@@ -45,7 +45,7 @@ pub record IsCopyOf (unit keeper at : ℕ) (kept : List (Owned Span)) (c : Copy)
   pub index : ℕ
   pub unit_is : c.unit ≡ unit
   pub place : c.place ≡ at + index
-  pub is : slice_get kept index ≡ Some (record { item = c.span; owner = keeper })
+  pub is : IsKept kept index c.span keeper
 
 one_on : (unit keeper at : ℕ) (x : Owned Span) (kept : List (Owned Span)) (c : Copy) → IsCopyOf unit keeper (suc at) kept c → IsCopyOf unit keeper at (x ∷ kept) c
 one_on unit keeper at x kept c h = record { index = suc h.index; unit_is = h.unit_is; place = omega (arith, h.place); is = h.is }
@@ -124,10 +124,10 @@ pub record IsCopyIn (kept : List (Owned Span)) (first : ℕ) (keepers : List ℕ
   pub unit_is : c.unit ≡ first + row
   pub keeper : ℕ
   pub has : slice_get keepers row ≡ Some keeper
-  pub is : slice_get kept c.place ≡ Some (record { item = c.span; owner = keeper })
+  pub is : IsKept kept c.place c.span keeper
 
-at_place : (unit keeper : ℕ) (kept : List (Owned Span)) (c : Copy) (h : IsCopyOf unit keeper 0 kept c) → slice_get kept c.place ≡ Some (record { item = c.span; owner = keeper })
-at_place unit keeper kept c h = let z : h.index ≡ c.place = omega (arith, h.place) in subst (λ (n : ℕ). slice_get kept n ≡ Some (record { item = c.span; owner = keeper })) z h.is
+at_place : (unit keeper : ℕ) (kept : List (Owned Span)) (c : Copy) (h : IsCopyOf unit keeper 0 kept c) → IsKept kept c.place c.span keeper
+at_place unit keeper kept c h = let z : h.index ≡ c.place = omega (arith, h.place) in subst (λ (n : ℕ). IsKept kept n c.span keeper) z h.is
 
 told_in : (kept : List (Owned Span)) (first : ℕ) (keepers : List ℕ) (q : ℕ) (c : Copy) → slice_get (copies kept first keepers) q ≡ Some c → IsCopyIn kept first keepers c
 unfolding copies
@@ -138,7 +138,7 @@ told_in kept first (keeper ∷ keepers) q c e =
       | inr h ↦ let k = told_in kept (suc first) keepers h.at c h.is in record { row = suc k.row; unit_is = omega (arith, k.unit_is); keeper = k.keeper; has = k.has; is = k.is }
     ]
 
-there_in : (kept : List (Owned Span)) (first : ℕ) (keepers : List ℕ) (row unit keeper place : ℕ) (s : Span) → unit ≡ first + row → slice_get keepers row ≡ Some keeper → slice_get kept place ≡ Some (record { item = s; owner = keeper }) → Stands (copies kept first keepers) (copy unit place s)
+there_in : (kept : List (Owned Span)) (first : ℕ) (keepers : List ℕ) (row unit keeper place : ℕ) (s : Span) → unit ≡ first + row → slice_get keepers row ≡ Some keeper → IsKept kept place s keeper → Stands (copies kept first keepers) (copy unit place s)
 unfolding copies
 there_in kept first [] row unit keeper place s u has is = absurd cc
 there_in kept first (k ∷ keepers) zero unit keeper place s u has is =
@@ -164,7 +164,7 @@ sorted_in kept first (k ∷ keepers) i j c d lt is_c is_d =
         let x = copy_told first k 0 kept i c g in
         let y = told_in kept (suc first) keepers h.at d h.is in
         inl (omega (arith, x.unit_is, y.unit_is))
-    by (inr g) (inl h) rest = absurd (let n = within (copies_of first k 0 kept) j d h in let e = g.place in omega arith)
+    by (inr g) (inl h) rest = absurd (let n = within (copies_of first k 0 kept) j h in let e = g.place in omega arith)
     by (inr g) (inr h) rest = let e = g.place in let f = h.place in rest g.at h.at (omega arith) g.is h.is
 
 -- ---- what holds of all copies
@@ -172,7 +172,7 @@ sorted_in kept first (k ∷ keepers) i j c d lt is_c is_d =
 -- Each is a range of its unit's keeper, each such range stands there, and they stand by their units and then their places.
 pub record AreCopies (kept : List (Owned Span)) (keepers : List ℕ) (list : List Copy) : Type 0 where
   pub told : (q : ℕ) (c : Copy) → slice_get list q ≡ Some c → IsCopyIn kept 0 keepers c
-  pub there : (unit keeper place : ℕ) (s : Span) → slice_get keepers unit ≡ Some keeper → slice_get kept place ≡ Some (record { item = s; owner = keeper }) → Stands list (record { unit = unit; place = place; span = s })
+  pub there : (unit keeper place : ℕ) (s : Span) → slice_get keepers unit ≡ Some keeper → IsKept kept place s keeper → Stands list (record { unit = unit; place = place; span = s })
   pub sorted : AreSorted list
 
 pub are_copies : (kept : List (Owned Span)) (keepers : List ℕ) → AreCopies kept keepers (copies kept 0 keepers)

@@ -12,7 +12,7 @@ use Rattle.blz_ranges.specs.Owned.{Owned, items_of, owner_at, owners_of}
 use Rattle.blz_ranges.specs.Turns.{covering}
 use Rattle.blz_ranges.proofs.BestOf.{best_is_best}
 use Rattle.blz_ranges.proofs.InTurn.{turns}
-use Rattle.blz_announced.specs.Copies.{announced_all, announced_copies, copies, copies_of, same_number, told, Announced, Copy}
+use Rattle.blz_announced.specs.Copies.{announced_all, announced_copies, copies, copies_of, same_number, told, Announced, Copy, IsKept}
 use Rattle.blz_announced.specs.Seen.{by_owner, is_seen, seen, seen_by, seen_from, Holds, LeavesOut}
 use Rattle.blz_announced.specs.declared.announced.Asked.{Asked}
 use Rattle.blz_announced.proofs.Copies.{are_copies}
@@ -83,7 +83,7 @@ module _ (xs ys : List (Owned Span)) (addr : ℕ) where
       where
         by : (u : Span) → slice_get all r ≡ Some u → (q m : ℕ) (t : Span) → slice_get all q ≡ Some t → covers t addr ≡ true → After q t r u → owner_at xs q ≡ Some m → After p s q t ⊎ (After q t p s ⊎ (p ≡ q)) → Holds (k ∷ before) m
         by u is_u q m t is_t reached after own_q (inl later) =
-            let e : n.span ≡ u = some_is n.span u (sym n.at ∙ is_u) in
+            let e : n.span ≡ u = some_is (sym n.at ∙ is_u) in
             absurd (not_both r q u t after (subst (λ (z : Span). NotAfter r z q t) e (n.first q t is_t reached later)))
         by u is_u q m t is_t reached after own_q (inr (inl sooner)) = let h = b s is q m t is_t reached sooner own_q in (suc h.0, h.1)
         by u is_u q m t is_t reached after own_q (inr (inr same)) = (0, sym own ∙ (ap (owner_at xs) same ∙ own_q))
@@ -108,18 +108,18 @@ module _ (xs ys : List (Owned Span)) (addr : ℕ) where
     walk [] (q ∷ some) before r m f b = absurd cc
     walk (p ∷ places) some before r m f b = by (λ more held n g h. walk places more held r.1 n g h) some m f (each p f.span f.at f.reached)
       where
-        own : owner_at xs p ≡ Some (has_item xs p f.span f.at).keeper
-        own = ap (option_map (λ (x : Owned Span). x.owner)) (has_item xs p f.span f.at).is
+        own : owner_at xs p ≡ Some (has_item xs p f.at).keeper
+        own = ap (option_map (λ (x : Owned Span). x.owner)) (has_item xs p f.at).is
 
         on : IsNext all addr p f.span (slice_get places 0)
         on = next_is all addr p f.span (slice_get places 0) f.at (sym r.0)
 
-        b_next : AreBefore ((has_item xs p f.span f.at).keeper ∷ before) (slice_get places 0)
-        b_next = before_next before p (has_item xs p f.span f.at).keeper f.span f.at own b (slice_get places 0) on
+        b_next : AreBefore ((has_item xs p f.at).keeper ∷ before) (slice_get places 0)
+        b_next = before_next before p (has_item xs p f.at).keeper f.span f.at own b (slice_get places 0) on
 
         matched : Walks places → (q : ℕ) (some : List ℕ) → q ≡ p → IsRun few addr (q ∷ some) → slice_get few p ≡ Some f.span → LeavesOut before (owners_of xs (p ∷ places)) (owners_of ys (q ∷ some))
         matched again q some e m here =
-            let k = (has_item xs p f.span f.at).keeper in
+            let k = (has_item xs p f.at).keeper in
             let on_few = next_is few addr p f.span (slice_get some 0) here (sym (m.0 ∙ ap (next few addr) e)) in
             let own_q : owner_at ys q ≡ Some k = ap (owner_at ys) e ∙ (owners p ∙ own) in
             let rest = again some (k ∷ before) m.1 (first_from all few addr among p f.span (slice_get places 0) (slice_get some 0) on on_few) b_next in
@@ -127,9 +127,9 @@ module _ (xs ys : List (Owned Span)) (addr : ℕ) where
 
         by : Walks places → (some : List ℕ) → IsRun few addr some → IsFrom all few addr p (slice_get some 0) → (slice_get few p ≡ Some f.span) ⊎ IsTold p f.span → LeavesOut before (owners_of xs (p ∷ places)) (owners_of ys some)
         by again [] m h (inl here) = let e = from_here all few addr among p None h (λ s is. here ∙ (sym f.at ∙ is)) in absurd cc
-        by again (q ∷ some) m h (inl here) = let e = from_here all few addr among p (Some q) h (λ s is. here ∙ (sym f.at ∙ is)) in matched again q some (some_is q p e) m here
+        by again (q ∷ some) m h (inl here) = let e = from_here all few addr among p (Some q) h (λ s is. here ∙ (sym f.at ∙ is)) in matched again q some (some_is e) m here
         by again some m h (inr t) =
-            let k = (has_item xs p f.span f.at).keeper in
+            let k = (has_item xs p f.at).keeper in
             let held : Holds before k = b f.span f.at t.place k t.span t.is t.reached t.before (t.same ∙ own) in
             let on_h = next_is all addr p h.span (slice_get places 0) h.at (sym r.0) in
             let rest = again some before m (from_next all few addr among p (slice_get some 0) h t.hides (slice_get places 0) on_h) (before_again before k held (slice_get places 0) b_next) in
@@ -153,7 +153,7 @@ module _ (xs ys : List (Owned Span)) (addr : ℕ) where
     none_before : (o : Option ℕ) → IsBest (λ at s. covers s addr) all o → AreBefore [] o
     none_before None b = tt
     none_before (Some p) b = λ s is q n t is_t reached after own.
-        let e : b.span ≡ s = some_is b.span s (sym b.at ∙ is) in
+        let e : b.span ≡ s = some_is (sym b.at ∙ is) in
         absurd (not_both p q s t after (subst (λ (z : Span). NotAfter p z q t) e (b.first q t is_t reached)))
 
     pub left_out : LeavesOut [] (owners_of xs (covering all addr)) (owners_of ys (covering few addr))
@@ -224,12 +224,12 @@ module _ (asked : Asked) (a : Announced) where
 
   has_copy : (q : ℕ) (s : Span) → slice_get (items_of (told list)) q ≡ Some s → HasCopy q s
   has_copy q s is =
-      let h = has_item (told list) q s is in
+      let h = has_item (told list) q is in
       let k = there_mapped (λ (c : Copy). record { item = c.span; owner = c.unit }) (slice_get list q) (record { item = s; owner = h.keeper }) (sym (told_at list q) ∙ h.is) in
       record { copy = k.0; is = k.1; span_is = ap (λ (x : Owned Span). x.item) k.2 }
 
   shown_item : (q : ℕ) (c : Copy) → slice_get list q ≡ Some c → slice_get (items_of (told list_seen)) q ≡ Some (shown asked kept_ranges c).span
-  shown_item q c is = item_at (told list_seen) q (record { item = (shown asked kept_ranges c).span; owner = (shown asked kept_ranges c).unit }) (told_at list_seen q ∙ ap (option_map (λ (d : Copy). record { item = d.span; owner = d.unit })) (seen_copy q ∙ ap (option_map (shown asked kept_ranges)) is))
+  shown_item q c is = item_at (told list_seen) q (told_at list_seen q ∙ ap (option_map (λ (d : Copy). record { item = d.span; owner = d.unit })) (seen_copy q ∙ ap (option_map (shown asked kept_ranges)) is))
 
   shown_same : (c : Copy) → is_seen asked kept_ranges c.place ≡ true → (shown asked kept_ranges c).span ≡ c.span
   unfolding shown
@@ -249,14 +249,14 @@ module _ (asked : Asked) (a : Announced) where
       let d = there_in list_seen q t is in
       let k = there_mapped (shown asked kept_ranges) (slice_get list q) d.0 (sym (seen_copy q) ∙ d.1) in
       let c = k.0 in
-      let span : (shown asked kept_ranges c).span ≡ t = some_is (shown asked kept_ranges c).span t (sym (shown_item q c k.1) ∙ is) in
+      let span : (shown asked kept_ranges c).span ≡ t = some_is (sym (shown_item q c k.1) ∙ is) in
       elim (cases_Bool (is_seen asked kept_ranges c.place)) [
-        | inl seen_it ↦ item_at (told list) q (record { item = c.span; owner = c.unit }) (told_at list q ∙ ap (option_map (λ (e : Copy). record { item = e.span; owner = e.unit })) k.1) ∙ ap (λ (s : Span). Some s) (sym (shown_same c seen_it) ∙ span)
+        | inl seen_it ↦ item_at (told list) q (told_at list q ∙ ap (option_map (λ (e : Copy). record { item = e.span; owner = e.unit })) k.1) ∙ ap (λ (s : Span). Some s) (sym (shown_same c seen_it) ∙ span)
         | inr hid ↦ absurd (no_cover asked.addr (ap (λ (s : Span). covers s asked.addr) (sym (shown_none c hid) ∙ span) ∙ reached))
       ]
 
   -- where the best range of a keeper stands among those of one of its units
-  told_before : (q : ℕ) (c : Copy) (keeper : ℕ) → slice_get list q ≡ Some c → slice_get a.keepers c.unit ≡ Some keeper → slice_get kept_ranges c.place ≡ Some (record { item = c.span; owner = keeper }) → covers c.span asked.addr ≡ true → is_seen asked kept_ranges c.place ≡ false
+  told_before : (q : ℕ) (c : Copy) (keeper : ℕ) → slice_get list q ≡ Some c → slice_get a.keepers c.unit ≡ Some keeper → IsKept kept_ranges c.place c.span keeper → covers c.span asked.addr ≡ true → is_seen asked kept_ranges c.place ≡ false
       → (o : Option ℕ) → best_in (by_owner kept_ranges) keeper asked.addr ≡ o → IsBestOr kept_ranges keeper asked.addr o → IsTold (told list) (told list_seen) asked.addr q c.span
   told_before q c keeper is row kept_is reached hid None e h = absurd (h c.place c.span (record { is = kept_is; reached = reached }))
   told_before q c keeper is row kept_is reached hid (Some p) e h =
@@ -268,11 +268,11 @@ module _ (asked : Asked) (a : Announced) where
       record {
         place = there.at;
         span = h.span;
-        is = item_at (told list) there.at (record { item = h.span; owner = c.unit }) (told_at list there.at ∙ ap (option_map (λ (d : Copy). record { item = d.span; owner = d.unit })) there.is);
+        is = item_at (told list) there.at (told_at list there.at ∙ ap (option_map (λ (d : Copy). record { item = d.span; owner = d.unit })) there.is);
         reached = h.own.reached;
         before = full_after there.at there.is after;
         same = owner_told there.at _ there.is ∙ sym (owner_told q c is);
-        hides = λ t is_t covered. no_cover asked.addr (ap (λ (s : Span). covers s asked.addr) (sym (shown_none c hid) ∙ some_is (shown asked kept_ranges c).span t (sym (shown_item q c is) ∙ is_t)) ∙ covered);
+        hides = λ t is_t covered. no_cover asked.addr (ap (λ (s : Span). covers s asked.addr) (sym (shown_none c hid) ∙ some_is (sym (shown_item q c is) ∙ is_t)) ∙ covered);
       }
     where
       owner_told : (i : ℕ) (d : Copy) → slice_get list i ≡ Some d → owner_at (told list) i ≡ Some d.unit
@@ -292,7 +292,7 @@ module _ (asked : Asked) (a : Announced) where
               by (inr k) = let l = k.1 in omega arith
           not_behind i is_i lt (inr more) le =
               let e : i ≡ q = omega arith in
-              let same : record { unit = c.unit; place = p; span = h.span } ≡ c = some_is (record { unit = c.unit; place = p; span = h.span }) c (sym is_i ∙ subst (λ (n : ℕ). slice_get list n ≡ Some c) (sym e) is) in
+              let same : record { unit = c.unit; place = p; span = h.span } ≡ c = some_is (sym is_i ∙ subst (λ (n : ℕ). slice_get list n ≡ Some c) (sym e) is) in
               let k : p ≡ c.place = ap (λ (d : Copy). d.place) same in
               omega arith
 

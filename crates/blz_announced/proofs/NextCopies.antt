@@ -10,7 +10,7 @@ use Rattle.blz_ranges.specs.Best.{best, covers, comes_after, next, next_after, n
 use Rattle.blz_ranges.specs.Owned.{Owned, items_of}
 use Rattle.blz_ranges.proofs.BestOf.{best_is, best_is_best}
 use Rattle.blz_announced.specs.declared.announced.Place.{Place}
-use Rattle.blz_announced.specs.Copies.{Copy, comes_first, full_place, told, HaveKeepers, IsLater, IsNextOwn, IsOwn, IsPlaced}
+use Rattle.blz_announced.specs.Copies.{comes_first, full_place, told, Copy, HaveKeepers, IsKept, IsLater, IsNextOwn, IsOwn, IsPlaced}
 use Rattle.blz_announced.specs.Repeats.{IsAlike, IsNextRepeat, NoRepeatBefore, RepeatsAt}
 use Rattle.blz_announced.proofs.Copies.{copy_place, AreCopies}
 
@@ -97,29 +97,29 @@ next_on {s = s} {o = o} spans addr p same at e = next_is spans addr p s o at (sy
 
 -- ---- the items of both lists
 
-pub some_is : {A : Type 0} (x y : A) → Some x ≡ Some y → x ≡ y
-some_is x y e = cc
+pub some_is : {A : Type 0} {x y : A} → Some x ≡ Some y → x ≡ y
+some_is e = cc
 
 pub record HasItem (kept : List (Owned Span)) (p : ℕ) (s : Span) : Type 0 where
   pub keeper : ℕ
-  pub is : slice_get kept p ≡ Some (record { item = s; owner = keeper })
+  pub is : IsKept kept p s keeper
 
 pub mapped : {A B : Type 0} (f : A → B) (xs : List A) (p : ℕ) (y : B) → slice_get (map f xs) p ≡ Some y → (x : A) × (slice_get xs p ≡ Some x) × (f x ≡ y)
 mapped f [] p y e = absurd cc
-mapped f (x ∷ xs) zero y e = (x, refl, some_is (f x) y e)
+mapped f (x ∷ xs) zero y e = (x, refl, some_is e)
 mapped f (x ∷ xs) (suc p) y e = mapped f xs p y e
 
-pub has_item : (kept : List (Owned Span)) (p : ℕ) (s : Span) → slice_get (items_of kept) p ≡ Some s → HasItem kept p s
-has_item kept p s e =
+pub has_item : {s : Span} (kept : List (Owned Span)) (p : ℕ) → slice_get (items_of kept) p ≡ Some s → HasItem kept p s
+has_item {s = s} kept p e =
     let h = mapped (λ (x : Owned Span). x.item) kept p s e in
     record { keeper = h.0.owner; is = h.1 ∙ ap (λ (t : Span). Some (record { item = t; owner = h.0.owner })) h.2 }
 
-pub item_at : (kept : List (Owned Span)) (p : ℕ) (x : Owned Span) → slice_get kept p ≡ Some x → slice_get (items_of kept) p ≡ Some x.item
-item_at kept p x e = slice_get-map (λ (y : Owned Span). y.item) kept p ∙ ap (option_map (λ (y : Owned Span). y.item)) e
+pub item_at : {x : Owned Span} (kept : List (Owned Span)) (p : ℕ) → slice_get kept p ≡ Some x → slice_get (items_of kept) p ≡ Some x.item
+item_at kept p e = slice_get-map (λ (y : Owned Span). y.item) kept p ∙ ap (option_map (λ (y : Owned Span). y.item)) e
 
 full_item : (list : List Copy) (q : ℕ) (c : Copy) → slice_get list q ≡ Some c → slice_get (items_of (told list)) q ≡ Some c.span
 full_item [] q c e = absurd cc
-full_item (d ∷ list) zero c e = ap (λ (x : Copy). Some x.span) (some_is d c e)
+full_item (d ∷ list) zero c e = ap (λ (x : Copy). Some x.span) (some_is e)
 full_item (d ∷ list) (suc q) c e = full_item list q c e
 
 record HasCopy (list : List Copy) (q : ℕ) (s : Span) : Type 0 where
@@ -129,7 +129,7 @@ record HasCopy (list : List Copy) (q : ℕ) (s : Span) : Type 0 where
 
 has_copy : (list : List Copy) (q : ℕ) (s : Span) → slice_get (items_of (told list)) q ≡ Some s → HasCopy list q s
 has_copy [] q s e = absurd cc
-has_copy (d ∷ list) zero s e = record { copy = d; is = refl; span_is = some_is d.span s e }
+has_copy (d ∷ list) zero s e = record { copy = d; is = refl; span_is = some_is e }
 has_copy (d ∷ list) (suc q) s e = let h = has_copy list q s e in record { copy = h.copy; is = h.is; span_is = h.span_is }
 
 -- ---- one range of each list
@@ -143,7 +143,7 @@ module _ (kept : List (Owned Span)) (keepers : List ℕ) (list : List Copy) (row
     pub full : slice_get all_spans (full_place list at) ≡ Some s
     pub copy : slice_get list (full_place list at) ≡ Some (record { unit = at.unit; place = at.place; span = s })
 
-  pub is_at : (at : Place) (keeper : ℕ) (s : Span) → slice_get keepers at.unit ≡ Some keeper → slice_get kept at.place ≡ Some (record { item = s; owner = keeper }) → IsAt at s
+  pub is_at : (at : Place) (keeper : ℕ) (s : Span) → slice_get keepers at.unit ≡ Some keeper → IsKept kept at.place s keeper → IsAt at s
   is_at at keeper s row is =
       let there = are.there at.unit keeper at.place s row is in
       let place = copy_place kept keepers list there.at (record { unit = at.unit; place = at.place; span = s }) are there.is in
@@ -156,7 +156,7 @@ module _ (kept : List (Owned Span)) (keepers : List ℕ) (list : List Copy) (row
     pub is : slice_get list q ≡ Some copy
     pub keeper : ℕ
     pub row : slice_get keepers copy.unit ≡ Some keeper
-    pub kept_is : slice_get kept copy.place ≡ Some (record { item = s; owner = keeper })
+    pub kept_is : IsKept kept copy.place s keeper
 
   is_range : (q : ℕ) (s : Span) → slice_get all_spans q ≡ Some s → IsRange q s
   is_range q s e =
@@ -188,7 +188,7 @@ module _ (kept : List (Owned Span)) (keepers : List ℕ) (list : List Copy) (row
       by (inr h) = let k = place (sym h.0) in let l = h.1 in omega arith
 
   -- the keeper of a range that is kept is its own
-  pub own_row : (p keeper : ℕ) (s : Span) → slice_get kept p ≡ Some (record { item = s; owner = keeper }) → slice_get keepers keeper ≡ Some keeper
+  pub own_row : (p keeper : ℕ) (s : Span) → IsKept kept p s keeper → slice_get keepers keeper ≡ Some keeper
   own_row p keeper s is = rows.ranges p (record { item = s; owner = keeper }) is
 
   -- ---- the best one
@@ -197,7 +197,7 @@ module _ (kept : List (Owned Span)) (keepers : List ℕ) (list : List Copy) (row
   best_none e = λ q t is passes.
       let none : IsBest (λ at s. covers s addr) (items_of kept) None = subst (IsBest (λ at s. covers s addr) (items_of kept)) e (best_is_best (λ at s. covers s addr) (items_of kept)) in
       let r = is_range q t is in
-      none r.copy.place t (item_at kept r.copy.place (record { item = t; owner = r.keeper }) r.kept_is) passes
+      none r.copy.place t (item_at kept r.copy.place r.kept_is) passes
 
   abbrev pub as_kept : ℕ → ℕ → Place
   as_kept p keeper = record { place = p; unit = keeper }
@@ -206,10 +206,10 @@ module _ (kept : List (Owned Span)) (keepers : List ℕ) (list : List Copy) (row
   best_at o = IsBest (λ at s. covers s addr) (items_of kept) o
 
   -- where keepers and ranges stand among those that are kept
-  later_kept : (p q keeper next : ℕ) (s t : Span) → slice_get kept p ≡ Some (record { item = s; owner = keeper }) → slice_get kept q ≡ Some (record { item = t; owner = next }) → p ≤ q → keeper ≤ next
+  later_kept : (p q keeper next : ℕ) (s t : Span) → IsKept kept p s keeper → IsKept kept q t next → p ≤ q → keeper ≤ next
   later_kept p q keeper next s t is_p is_q le = rows.sorted p q (record { item = s; owner = keeper }) (record { item = t; owner = next }) le is_p is_q
 
-  pub best_some : (p : ℕ) (b : IsBestAt (λ at s. covers s addr) (items_of kept) p) (keeper : ℕ) → slice_get kept p ≡ Some (record { item = b.span; owner = keeper }) → IsBest (λ at s. covers s addr) all_spans (Some (full_place list (as_kept p keeper)))
+  pub best_some : (p : ℕ) (b : IsBestAt (λ at s. covers s addr) (items_of kept) p) (keeper : ℕ) → IsKept kept p b.span keeper → IsBest (λ at s. covers s addr) all_spans (Some (full_place list (as_kept p keeper)))
   best_some p b keeper is =
       let here = is_at (as_kept p keeper) keeper b.span (own_row p keeper b.span is) is in
       record {
@@ -218,7 +218,7 @@ module _ (kept : List (Owned Span)) (keepers : List ℕ) (list : List Copy) (row
         passes = b.passes;
         first = λ q t is_t passes.
             let r = is_range q t is_t in
-            let n = b.first r.copy.place t (item_at kept r.copy.place (record { item = t; owner = r.keeper }) r.kept_is) passes in
+            let n = b.first r.copy.place t (item_at kept r.copy.place r.kept_is) passes in
             record {
               below = n.below;
               tie = λ e.
@@ -229,7 +229,7 @@ module _ (kept : List (Owned Span)) (keepers : List ℕ) (list : List Copy) (row
             };
       }
 
-  pub placed_kept : (p : ℕ) (b : IsBestAt (λ at s. covers s addr) (items_of kept) p) (keeper : ℕ) → slice_get kept p ≡ Some (record { item = b.span; owner = keeper }) → IsPlaced kept keepers addr (as_kept p keeper)
+  pub placed_kept : (p : ℕ) (b : IsBestAt (λ at s. covers s addr) (items_of kept) p) (keeper : ℕ) → IsKept kept p b.span keeper → IsPlaced kept keepers addr (as_kept p keeper)
   placed_kept p b keeper is = record {
     keeper = keeper;
     span = b.span;
@@ -259,10 +259,10 @@ module _ (kept : List (Owned Span)) (keepers : List ℕ) (list : List Copy) (row
 
       not_later : q ≤ p → (q < p) ⊎ (p ≤ q) → (c.unit < d.unit) ⊎ ((c.unit ≡ d.unit) × (c.place < d.place)) → ⊥
       not_later ge (inl lt) h = apart (are.sorted q p d c lt is_d is_c) h
-      not_later ge (inr le) h = let e : p ≡ q = omega arith in not_itself (some_is c d (sym is_c ∙ subst (λ (n : ℕ). slice_get list n ≡ Some d) (sym e) is_d)) h
+      not_later ge (inr le) h = let e : p ≡ q = omega arith in not_itself (some_is (sym is_c ∙ subst (λ (n : ℕ). slice_get list n ≡ Some d) (sym e) is_d)) h
 
   same_keeper : (unit other keeper next : ℕ) → unit ≡ other → slice_get keepers unit ≡ Some keeper → slice_get keepers other ≡ Some next → next ≡ keeper
-  same_keeper unit other keeper next e is_k is_n = some_is next keeper (sym is_n ∙ subst (λ (n : ℕ). slice_get keepers n ≡ Some keeper) e is_k)
+  same_keeper unit other keeper next e is_k is_n = some_is (sym is_n ∙ subst (λ (n : ℕ). slice_get keepers n ≡ Some keeper) e is_k)
 
   module _ (at : Place) (w : IsPlaced kept keepers addr at) where
     here : IsAt at w.span
@@ -276,7 +276,7 @@ module _ (kept : List (Owned Span)) (keepers : List ℕ) (list : List Copy) (row
 
     -- of the same unit
 
-    pub moved_next : (q : ℕ) (n : IsNextAt (items_of kept) addr at.place w.span q) → slice_get kept q ≡ Some (record { item = n.span; owner = w.keeper }) → n.span.begin ≡ w.span.begin → IsNextAt all_spans addr full w.span (full_place list (record { place = q; unit = at.unit }))
+    pub moved_next : (q : ℕ) (n : IsNextAt (items_of kept) addr at.place w.span q) → IsKept kept q n.span w.keeper → n.span.begin ≡ w.span.begin → IsNextAt all_spans addr full w.span (full_place list (record { place = q; unit = at.unit }))
     unfolding here
     moved_next q n is same =
         let there = is_at (record { place = q; unit = at.unit }) w.keeper n.span w.row is in
@@ -304,9 +304,9 @@ module _ (kept : List (Owned Span)) (keepers : List ℕ) (list : List Copy) (row
 
             place_after : (x : IsRange r t) → t.begin ≡ n.span.begin → (at.unit < x.copy.unit) ⊎ ((at.unit ≡ x.copy.unit) × (at.place < x.copy.place)) → at.unit ≡ x.copy.unit → q ≤ x.copy.place
             place_after x e (inl a) same = absurd (omega arith)
-            place_after x e (inr a) same = (n.first x.copy.place t (item_at kept x.copy.place (record { item = t; owner = x.keeper }) x.kept_is) reached (inr (h.0, a.1))).tie e
+            place_after x e (inr a) same = (n.first x.copy.place t (item_at kept x.copy.place x.kept_is) reached (inr (h.0, a.1))).tie e
 
-    pub moved_placed : (q : ℕ) (n : IsNextAt (items_of kept) addr at.place w.span q) → slice_get kept q ≡ Some (record { item = n.span; owner = w.keeper }) → n.span.begin ≡ w.span.begin → IsPlaced kept keepers addr (record { place = q; unit = at.unit })
+    pub moved_placed : (q : ℕ) (n : IsNextAt (items_of kept) addr at.place w.span q) → IsKept kept q n.span w.keeper → n.span.begin ≡ w.span.begin → IsPlaced kept keepers addr (record { place = q; unit = at.unit })
     moved_placed q n is same = record {
       keeper = w.keeper;
       span = n.span;
@@ -408,7 +408,7 @@ module _ (kept : List (Owned Span)) (keepers : List ℕ) (list : List Copy) (row
     own_placed q n = record { keeper = n.range.owner; span = n.range.item; is = n.is; row = own_row q n.range.owner n.range.item n.is; reached = n.reached }
 
     comes_is : (q unit : ℕ) (x : Owned Span) → slice_get kept q ≡ Some x → comes_first kept w.span.begin unit (Some q) ≡ (nat_lt x.owner unit && eqb x.item.begin w.span.begin)
-    comes_is q unit x is = rw (item_at kept q x is, ap (option_map (λ (y : Owned Span). y.owner)) is) refl
+    comes_is q unit x is = rw (item_at kept q is, ap (option_map (λ (y : Owned Span). y.owner)) is) refl
 
     pub precedes_repeat : (q : ℕ) (n : IsOwn kept at.unit addr w.span.begin q) (bound : ℕ) → NoRepeatBefore kept keepers at.unit addr w.span.begin bound → comes_first kept w.span.begin bound (Some q) ≡ true → Precedes q n
     precedes_repeat q n bound none e = λ other p a.

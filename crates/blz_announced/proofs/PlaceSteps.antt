@@ -10,7 +10,7 @@ use Rattle.blz_ranges.specs.Groups.{AreApart}
 use Rattle.blz_ranges.specs.Owned.{Owned, items_of, owner_at}
 use Rattle.blz_ranges.proofs.BestOf.{best_is, best_is_best}
 use Rattle.blz_announced.specs.declared.announced.Place.{Place}
-use Rattle.blz_announced.specs.Copies.{Announced, Copy, all_spans, announced_all, announced_copies, begun, comes_first, full_place, goes_on, moved, told, HaveKeepers, IsNextOwn, IsOwn, IsPlaced, StandsFor}
+use Rattle.blz_announced.specs.Copies.{all_spans, announced_all, announced_copies, begun, comes_first, full_place, goes_on, moved, told, Announced, Copy, HaveKeepers, IsKept, IsNextOwn, IsOwn, IsPlaced, StandsFor}
 use Rattle.blz_announced.specs.Repeats.{IsAlike, IsLast, IsNextRepeat, NoRepeatBefore}
 use Rattle.blz_announced.proofs.Copies.{are_copies, within, AreCopies}
 use Rattle.blz_announced.proofs.NextCopies.{as_kept, best_none, best_some, has_item, is_at, is_next, item_at, moved_next, moved_placed, next_is, none_next, own_next, own_placed, placed_kept, precedes_repeat, repeat_next, repeat_placed, some_is, stands_before, IsAt, IsNext, Precedes}
@@ -31,7 +31,7 @@ module _ (a : Announced) (rows : HaveKeepers a.kept.ranges a.keepers) (addr : �
   abbrev Stands : Option Place → Option ℕ → Type 0
   Stands at place = StandsFor a addr at place
 
-  owner_is : (p keeper : ℕ) (s : Span) → slice_get kept p ≡ Some (record { item = s; owner = keeper }) → owner_at kept p ≡ Some keeper
+  owner_is : (p keeper : ℕ) (s : Span) → IsKept kept p s keeper → owner_at kept p ≡ Some keeper
   owner_is p keeper s is = ap (option_map (λ (x : Owned Span). x.owner)) is
 
   -- ---- the best one
@@ -39,7 +39,7 @@ module _ (a : Announced) (rows : HaveKeepers a.kept.ranges a.keepers) (addr : �
   first_by : (o : Option ℕ) → best (items_of kept) addr ≡ o → IsBest (λ at s. covers s addr) (items_of kept) o → Stands (begun kept o) (best all addr)
   first_by None e b = record { is = best_is (λ at s. covers s addr) all None (best_none kept a.keepers list rows are addr e); placed = tt }
   first_by (Some p) e b =
-      let h = has_item kept p b.span b.at in
+      let h = has_item kept p b.at in
       rw (owner_is p h.keeper b.span h.is) (record {
         is = best_is (λ at s. covers s addr) all (Some (full_place list (as_kept kept a.keepers list rows are addr p h.keeper))) (best_some kept a.keepers list rows are addr p b h.keeper h.is);
         placed = placed_kept kept a.keepers list rows are addr p b h.keeper h.is;
@@ -55,7 +55,7 @@ module _ (a : Announced) (rows : HaveKeepers a.kept.ranges a.keepers) (addr : �
     IsKeptNext o = IsNext (items_of kept) addr at.place w.span o
 
     is_kept_next : (o : Option ℕ) → o ≡ next (items_of kept) addr at.place → IsKeptNext o
-    is_kept_next o e = next_is (items_of kept) addr at.place w.span o (item_at kept at.place (record { item = w.span; owner = w.keeper }) w.is) (sym e)
+    is_kept_next o e = next_is (items_of kept) addr at.place w.span o (item_at kept at.place w.is) (sym e)
 
     full_at : slice_get all (full_place list at) ≡ Some w.span
     full_at = (is_at kept a.keepers list rows are addr at w.keeper w.span w.row w.is).full
@@ -63,17 +63,17 @@ module _ (a : Announced) (rows : HaveKeepers a.kept.ranges a.keepers) (addr : �
     is_full_next : (o : Option ℕ) → IsNext all addr (full_place list at) w.span o → o ≡ next all addr (full_place list at)
     is_full_next o h = is_next all addr (full_place list at) w.span o full_at h
 
-    goes_is : (q keeper : ℕ) (t : Span) → slice_get kept q ≡ Some (record { item = t; owner = keeper }) → goes_on kept at.place (Some q) ≡ (eqb w.keeper keeper && eqb w.span.begin t.begin)
-    goes_is q keeper t is = rw (item_at kept at.place (record { item = w.span; owner = w.keeper }) w.is, item_at kept q (record { item = t; owner = keeper }) is, owner_is at.place w.keeper w.span w.is, owner_is q keeper t is) refl
+    goes_is : (q keeper : ℕ) (t : Span) → IsKept kept q t keeper → goes_on kept at.place (Some q) ≡ (eqb w.keeper keeper && eqb w.span.begin t.begin)
+    goes_is q keeper t is = rw (item_at kept at.place w.is, item_at kept q is, owner_is at.place w.keeper w.span w.is, owner_is q keeper t is) refl
 
     moved_by : (o : Option ℕ) → IsKeptNext o → goes_on kept at.place o ≡ true → Stands (moved at o) (next all addr (full_place list at))
     moved_by None n goes = absurd cc
     moved_by (Some q) n goes =
-        let h = has_item kept q n.span n.at in
+        let h = has_item kept q n.at in
         let both = and_parts _ _ (sym (goes_is q h.keeper n.span h.is) ∙ goes) in
         let same : h.keeper ≡ w.keeper = sym (eqb-true w.keeper h.keeper both.0) in
         let begin : n.span.begin ≡ w.span.begin = sym (eqb-true w.span.begin n.span.begin both.1) in
-        let is = subst (λ (k : ℕ). slice_get kept q ≡ Some (record { item = n.span; owner = k })) same h.is in
+        let is = subst (λ (k : ℕ). IsKept kept q n.span k) same h.is in
         record {
           is = is_full_next (Some (full_place list (record { place = q; unit = at.unit }))) (moved_next kept a.keepers list rows are addr at w q n is begin);
           placed = moved_placed kept a.keepers list rows are addr at w q n is begin;
@@ -85,10 +85,10 @@ module _ (a : Announced) (rows : HaveKeepers a.kept.ranges a.keepers) (addr : �
     -- no range of its keeper that begins alike is next
 
     last_by : (o : Option ℕ) → IsKeptNext o → goes_on kept at.place o ≡ false → (q : ℕ) → IsAlike kept w.keeper addr w.span.begin q → at.place < q → ⊥
-    last_by None n goes q a lt = n q a.span (item_at kept q (record { item = a.span; owner = w.keeper }) a.is) a.reached (inr (a.begins, lt))
+    last_by None n goes q a lt = n q a.span (item_at kept q a.is) a.reached (inr (a.begins, lt))
     last_by (Some r) n goes q a lt =
-        let h = has_item kept r n.span n.at in
-        let k = n.first q a.span (item_at kept q (record { item = a.span; owner = w.keeper }) a.is) a.reached (inr (a.begins, lt)) in
+        let h = has_item kept r n.at in
+        let k = n.first q a.span (item_at kept q a.is) a.reached (inr (a.begins, lt)) in
         let same = a.begins in
         let begin : n.span.begin ≡ w.span.begin = not_above (omega arith) n.behind in
         let le = k.tie (a.begins ∙ sym begin) in
@@ -107,7 +107,7 @@ module _ (a : Announced) (rows : HaveKeepers a.kept.ranges a.keepers) (addr : �
 
     pub is_last : (o : Option ℕ) → o ≡ next (items_of kept) addr at.place → goes_on kept at.place o ≡ false → IsLast kept addr w.span.begin at.place
     is_last o e goes = λ keeper q own a lt.
-        let k : keeper ≡ w.keeper = some_is keeper w.keeper (sym own ∙ owner_is at.place w.keeper w.span w.is) in
+        let k : keeper ≡ w.keeper = some_is (sym own ∙ owner_is at.place w.keeper w.span w.is) in
         last_by o (is_kept_next o e) goes q (subst (λ (n : ℕ). IsAlike kept n addr w.span.begin q) k a) lt
 
     pub moved_found : (o : Option ℕ) → o ≡ next (items_of kept) addr at.place → goes_on kept at.place o ≡ true → IfSome (moved at o) (λ _. Stands (moved at o) (next all addr (full_place list at)))
@@ -147,9 +147,6 @@ module _ (a : Announced) (rows : HaveKeepers a.kept.ranges a.keepers) (addr : �
         let le = rows.before at.unit w.keeper w.row in
         omega arith
 
-    pub begin_read : (s : Span) → slice_get (items_of kept) at.place ≡ Some s → w.span.begin ≡ s.begin
-    begin_read s is = ap (λ (t : Span). t.begin) (some_is w.span s (sym (item_at kept at.place (record { item = w.span; owner = w.keeper }) w.is) ∙ is))
-
     -- by the begin as it was read
     module _ (begin : ℕ) (is_begin : w.span.begin ≡ begin) where
       pub own_behind : IsLast kept addr begin at.place → (o : Option ℕ) → IsNextOwn kept at.unit addr begin o → IsNextRepeat kept a.keepers at.unit addr begin None → Stands (begun kept o) (next all addr (full_place list at))
@@ -177,24 +174,24 @@ module _ (a : Announced) (rows : HaveKeepers a.kept.ranges a.keepers) where
   abbrev own_place : ℕ → ℕ → Place
   own_place p keeper = record { place = p; unit = keeper }
 
-  stands_at : (p keeper : ℕ) (s : Span) → slice_get ranges p ≡ Some (record { item = s; owner = keeper }) → IsAt ranges a.keepers copies_in rows (are_copies ranges a.keepers) 0 (own_place p keeper) s
+  stands_at : (p keeper : ℕ) (s : Span) → IsKept ranges p s keeper → IsAt ranges a.keepers copies_in rows (are_copies ranges a.keepers) 0 (own_place p keeper) s
   stands_at p keeper s is = is_at ranges a.keepers copies_in rows (are_copies ranges a.keepers) 0 (own_place p keeper) keeper s (rows.ranges p (record { item = s; owner = keeper }) is) is
 
-  same_place : (p q m n : ℕ) (s t : Span) → slice_get ranges p ≡ Some (record { item = s; owner = m }) → slice_get ranges q ≡ Some (record { item = t; owner = n }) → full_place copies_in (own_place p m) ≡ full_place copies_in (own_place q n) → p ≡ q
+  same_place : (p q m n : ℕ) (s t : Span) → IsKept ranges p s m → IsKept ranges q t n → full_place copies_in (own_place p m) ≡ full_place copies_in (own_place q n) → p ≡ q
   same_place p q m n s t is_p is_q e =
       let x = (stands_at p m s is_p).copy in
       let y = (stands_at q n t is_q).copy in
       let z = subst (λ (k : ℕ). slice_get copies_in k ≡ Some (record { unit = m; place = p; span = s })) e x in
       let same : Some (record { unit = m; place = p; span = s }) ≡ Some (record { unit = n; place = q; span = t }) = sym z ∙ y in
-      let one = some_is (record { unit = m; place = p; span = s }) (record { unit = n; place = q; span = t }) same in
+      let one = some_is same in
       ap (λ (x : Copy). x.place) one
 
   pub apart_kept : AreApart all_in → AreApart (items_of ranges)
   apart_kept apart = record {
-    nonempty = λ p s is. let h = has_item ranges p s is in apart.nonempty (full_place copies_in (own_place p h.keeper)) s (stands_at p h.keeper s h.is).full;
+    nonempty = λ p s is. let h = has_item ranges p is in apart.nonempty (full_place copies_in (own_place p h.keeper)) s (stands_at p h.keeper s h.is).full;
     apart = λ p q s t differ is_s is_t.
-        let g = has_item ranges p s is_s in
-        let h = has_item ranges q t is_t in
+        let g = has_item ranges p is_s in
+        let h = has_item ranges q is_t in
         apart.apart (full_place copies_in (own_place p g.keeper)) (full_place copies_in (own_place q h.keeper)) s t (λ e. differ (same_place p q g.keeper h.keeper s t g.is h.is e)) (stands_at p g.keeper s g.is).full (stands_at q h.keeper t h.is).full;
   }
 
@@ -207,7 +204,7 @@ module _ (a : Announced) (rows : HaveKeepers a.kept.ranges a.keepers) where
   rises : (p : ℕ) (x : Owned Span) → slice_get ranges p ≡ Some x → p ≤ full_place copies_in (own_place p x.owner)
   rises zero x is = omega arith
   rises (suc p) x is =
-      let lt = within ranges (suc p) x is in
+      let lt = within ranges (suc p) is in
       let y = there_below p ranges (omega arith) in
       let le = rises p y.0 y.1 in
       let up = rows.sorted p (suc p) y.0 x (omega arith) y.1 is in
@@ -222,7 +219,7 @@ module _ (a : Announced) (rows : HaveKeepers a.kept.ranges a.keepers) where
   fewer (suc n) e =
       let x = there_below n ranges (omega arith) in
       let le = rises n x.0 x.1 in
-      let lt = within copies_in (full_place copies_in (own_place n x.0.owner)) (record { unit = x.0.owner; place = n; span = x.0.item }) (stands_at n x.0.owner x.0.item x.1).copy in
+      let lt = within copies_in (full_place copies_in (own_place n x.0.owner)) (stands_at n x.0.owner x.0.item x.1).copy in
       omega arith
 
   -- a bound that was proved of the ranges that are kept

@@ -16,7 +16,7 @@ use Rattle.blz_announced.proofs.NextCopies.{has_item, item_at, some_is, After, I
 -- ---- a range that begins alike, by a test
 
 alike_is : (kept : List (Owned Span)) (keeper addr begin q : ℕ) (x : Owned Span) → slice_get kept q ≡ Some x → is_alike kept keeper addr begin q ≡ (eqb x.owner keeper && (eqb x.item.begin begin && covers x.item addr))
-alike_is kept keeper addr begin q x is = rw (item_at kept q x is, ap (option_map (λ (y : Owned Span). y.owner)) is) refl
+alike_is kept keeper addr begin q x is = rw (item_at kept q is, ap (option_map (λ (y : Owned Span). y.owner)) is) refl
 
 alike_tests : (kept : List (Owned Span)) (keeper addr begin q : ℕ) → IsAlike kept keeper addr begin q → is_alike kept keeper addr begin q ≡ true
 alike_tests kept keeper addr begin q a = alike_is kept keeper addr begin q (record { item = a.span; owner = keeper }) a.is ∙ and_from _ _ (eq-eqb keeper keeper refl) (and_from _ _ (eq-eqb a.span.begin begin a.begins) a.reached)
@@ -43,7 +43,7 @@ pub split_at : (list : List ℕ) (n at : ℕ) → at ≤ length list → IsParti
 split_at list n at bound p = record {
   within = bound;
   above = λ i x le is.
-      let lt = within list i x is in
+      let lt = within list i is in
       let e = p.1 i x le lt in
       let same = get_or_from_slice_get list i x x is in
       elim (cases_lt n x) [ inl above ↦ above | inr below ↦ absurd (false≢true (sym e ∙ (ap (λ (m : ℕ). leb m n) same ∙ le-leb x n below))) ];
@@ -141,15 +141,15 @@ module _ (kept : List (Owned Span)) (keepers ends : List ℕ) (have : HaveKeeper
     behind_later q x is some (inr h) = let e = end_there in let same = end_is e.0 e.1 in let l = h.1 in inr (h.0, are.above unit e.0 q x e.1 is (omega arith))
 
     pub own_is : 0 < end → (o : Option ℕ) → IsNext (items_of kept) addr (end - 1) (no_longer begin) o → IsNextOwn kept unit addr begin o
-    own_is some None n = λ q x is reached later. n q x.item (item_at kept q x is) reached (later_behind q x is some later)
+    own_is some None n = λ q x is reached later. n q x.item (item_at kept q is) reached (later_behind q x is some later)
     own_is some (Some r) n =
-        let h = has_item kept r n.span n.at in
+        let h = has_item kept r n.at in
         record {
           range = record { item = n.span; owner = h.keeper };
           is = h.is;
           reached = n.reached;
           later = behind_later r (record { item = n.span; owner = h.keeper }) h.is some n.behind;
-          first = λ q x is reached later. n.first q x.item (item_at kept q x is) reached (later_behind q x is some later);
+          first = λ q x is reached later. n.first q x.item (item_at kept q is) reached (later_behind q x is some later);
         }
 
     -- no unit without a range up to it is asked
@@ -157,7 +157,7 @@ module _ (kept : List (Owned Span)) (keepers ends : List ℕ) (have : HaveKeeper
     own_none zero_end some = λ q x is reached later.
         let e = end_there in
         let same = end_is e.0 e.1 in
-        let y = there_at kept 0 (let k = within kept q x is in omega arith) in
+        let y = there_at kept 0 (let k = within kept q is in omega arith) in
         let up = are.above unit e.0 0 y.0 e.1 y.1 (omega arith) in
         let le = some y.0 y.1 in
         omega arith
@@ -177,12 +177,12 @@ module _ (kept : List (Owned Span)) (keepers repeats : List ℕ) (are : AreRepea
     | inl before ↦ none i other q before at_i a
     | inr here ↦
         let place : i ≡ at = omega arith in
-        let same : other ≡ r = some_is other r (sym at_i ∙ subst (λ (n : ℕ). slice_get repeats n ≡ Some r) (sym place) is) in
+        let same : other ≡ r = some_is (sym at_i ∙ subst (λ (n : ℕ). slice_get repeats n ≡ Some r) (sym place) is) in
         first a.keeper (subst (λ (n : ℕ). slice_get keepers n ≡ Some a.keeper) same a.repeats.row) q a.alike
   ]
 
   pub none_left : (at : ℕ) → slice_get repeats at ≡ None → NoneAsked kept keepers repeats unit addr begin at → IsNextRepeat kept keepers unit addr begin None
-  none_left at over none = λ other q all a. let e = are.all other a.keeper a.repeats.row a.repeats.differs in none e.0 other q (let l = within repeats e.0 other e.1 in let k = past_end repeats at over in omega arith) e.1 a
+  none_left at over none = λ other q all a. let e = are.all other a.keeper a.repeats.row a.repeats.differs in none e.0 other q (let l = within repeats e.0 e.1 in let k = past_end repeats at over in omega arith) e.1 a
 
   pub none_before : (at r : ℕ) → NoneAsked kept keepers repeats unit addr begin at → slice_get repeats at ≡ Some r → NoRepeatBefore kept keepers unit addr begin r
   none_before at r none is = λ other q a.
@@ -190,7 +190,7 @@ module _ (kept : List (Owned Span)) (keepers repeats : List ℕ) (are : AreRepea
       elim (cases_lt e.0 at) [
         | inl before ↦ absurd (none e.0 other q before e.1 a)
         | inr more ↦
-            let up = are.rising at e.0 0 more (within repeats e.0 other e.1) in
+            let up = are.rising at e.0 0 more (within repeats e.0 e.1) in
             let x = get_or_from_slice_get repeats at r 0 is in
             let y = get_or_from_slice_get repeats e.0 other 0 e.1 in
             omega arith

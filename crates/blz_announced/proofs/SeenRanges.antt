@@ -9,7 +9,7 @@ use Rattle.blz_ranges.specs.Best.{best, covers, no_span, passes, NotAfter, IsBes
 use Rattle.blz_ranges.specs.Groups.{best_in, group_is, grouped, in_group, spans_of}
 use Rattle.blz_ranges.specs.Owned.{Owned, items_of, owner_at}
 use Rattle.blz_ranges.proofs.BestOf.{best_is, best_is_best}
-use Rattle.blz_announced.specs.Copies.{begin_alike, begins_in, begun, comes_first, kept_at, no_longer, same_number, up_to, AreEnds, HaveKeepers, IsNextOwn, IsPlaced}
+use Rattle.blz_announced.specs.Copies.{begin_alike, begins_in, begun, comes_first, kept_at, no_longer, same_number, up_to, AreEnds, HaveKeepers, IsKept, IsNextOwn, IsPlaced}
 use Rattle.blz_announced.specs.Repeats.{IsAlike, IsFirstAlike, IsLast}
 use Rattle.blz_announced.specs.Seen.{by_owner, hidden, is_seen, seen, seen_from}
 use Rattle.blz_announced.specs.declared.announced.Asked.{Asked}
@@ -28,7 +28,7 @@ spans_same (x ∷ kept) = ap (λ (l : List Span). x.item ∷ l) (spans_same kept
 
 -- a range of a keeper that covers an address
 pub record IsOf (kept : List (Owned Span)) (keeper addr p : ℕ) (s : Span) : Type 0 where
-  pub is : slice_get kept p ≡ Some (record { item = s; owner = keeper })
+  pub is : IsKept kept p s keeper
   pub reached : covers s addr ≡ true
 
 pub record IsBestOf (kept : List (Owned Span)) (keeper addr p : ℕ) : Type 0 where
@@ -47,11 +47,11 @@ of_passes : (kept : List (Owned Span)) (keeper addr q : ℕ) (t : Span) → IsOf
 of_passes kept keeper addr q t h = and_from _ _ (ap (group_is keeper) (grouped_at kept q (record { item = t; owner = keeper }) h.is) ∙ eq-eqb keeper keeper refl) h.reached
 
 of_item : (kept : List (Owned Span)) (keeper addr q : ℕ) (t : Span) → IsOf kept keeper addr q t → slice_get (spans_of (by_owner kept)) q ≡ Some t
-of_item kept keeper addr q t h = ap (λ (l : List Span). slice_get l q) (spans_same kept) ∙ item_at kept q (record { item = t; owner = keeper }) h.is
+of_item kept keeper addr q t h = ap (λ (l : List Span). slice_get l q) (spans_same kept) ∙ item_at kept q h.is
 
 passes_of : (kept : List (Owned Span)) (keeper addr q : ℕ) (t : Span) → slice_get (spans_of (by_owner kept)) q ≡ Some t → of_keeper kept keeper addr q t ≡ true → IsOf kept keeper addr q t
 passes_of kept keeper addr q t is p =
-    let h = has_item kept q t (ap (λ (l : List Span). slice_get l q) (sym (spans_same kept)) ∙ is) in
+    let h = has_item kept q (ap (λ (l : List Span). slice_get l q) (sym (spans_same kept)) ∙ is) in
     let both = and_parts _ _ p in
     let own : h.keeper ≡ keeper = eqb-true h.keeper keeper (sym (ap (group_is keeper) (grouped_at kept q (record { item = t; owner = h.keeper }) h.is)) ∙ both.0) in
     record { is = h.is ∙ ap (λ (n : ℕ). Some (record { item = t; owner = n })) own; reached = both.1 }
@@ -84,9 +84,9 @@ seen_at asked kept p = let z : 0 + p ≡ p = omega arith in subst (λ (n : ℕ).
 seen_place : (asked : Asked) (kept : List (Owned Span)) (p : ℕ) (x : Owned Span) → slice_get kept p ≡ Some x → slice_get (seen asked kept) p ≡ Some (kept_or_hidden asked kept p x)
 seen_place asked kept p x is = seen_at asked kept p ∙ ap (option_map (kept_or_hidden asked kept p)) is
 
-pub seen_itself : (asked : Asked) (kept : List (Owned Span)) (p : ℕ) (x : Owned Span) → slice_get kept p ≡ Some x → is_seen asked kept p ≡ true → slice_get (seen asked kept) p ≡ Some x
+pub seen_itself : {x : Owned Span} (asked : Asked) (kept : List (Owned Span)) (p : ℕ) → slice_get kept p ≡ Some x → is_seen asked kept p ≡ true → slice_get (seen asked kept) p ≡ Some x
 unfolding kept_or_hidden
-seen_itself asked kept p x is t = seen_place asked kept p x is ∙ (rw t refl)
+seen_itself {x = x} asked kept p is t = seen_place asked kept p x is ∙ (rw t refl)
 
 -- an item of what is seen, by that which is kept at its place
 pub record IsSeen (asked : Asked) (kept : List (Owned Span)) (p : ℕ) (y : Owned Span) : Type 0 where
@@ -98,7 +98,7 @@ pub record IsSeen (asked : Asked) (kept : List (Owned Span)) (p : ℕ) (y : Owne
 
 pub there_mapped : {A B : Type 0} (f : A → B) (o : Option A) (y : B) → option_map f o ≡ Some y → (x : A) × (o ≡ Some x) × (f x ≡ y)
 there_mapped f None y e = absurd cc
-there_mapped f (Some x) y e = (x, refl, some_is (f x) y e)
+there_mapped f (Some x) y e = (x, refl, some_is e)
 
 same_owner : (asked : Asked) (kept : List (Owned Span)) (p : ℕ) (x : Owned Span) → (kept_or_hidden asked kept p x).owner ≡ x.owner
 unfolding kept_or_hidden
@@ -131,8 +131,8 @@ pub record IsThere (asked : Asked) (kept : List (Owned Span)) (p : ℕ) (y : Own
   pub is : slice_get kept p ≡ Some y
   pub seen : is_seen asked kept p ≡ true
 
-pub seen_there : (asked : Asked) (kept : List (Owned Span)) (addr p : ℕ) (y : Owned Span) → slice_get (seen asked kept) p ≡ Some y → covers y.item addr ≡ true → IsThere asked kept p y
-seen_there asked kept addr p y is reached =
+pub seen_there : {y : Owned Span} (asked : Asked) (kept : List (Owned Span)) (addr p : ℕ) → slice_get (seen asked kept) p ≡ Some y → covers y.item addr ≡ true → IsThere asked kept p y
+seen_there {y = y} asked kept addr p is reached =
     let h = seen_is asked kept p y is in
     elim (cases_Bool (is_seen asked kept p)) [
       | inl t ↦ record { is = subst (λ (z : Owned Span). slice_get kept p ≡ Some z) (sym (h.same t)) h.is; seen = t }
@@ -197,42 +197,42 @@ pub seen_not_once : (asked : Asked) (kept : List (Owned Span)) (p : ℕ) → is_
 seen_not_once asked kept p f = elim (cases_Bool asked.once) [ inl t ↦ t | inr g ↦ absurd (false≢true (sym f ∙ rw g refl)) ]
 
 module _ (asked : Asked) (kept : List (Owned Span)) (once : asked.once ≡ true) where
-  once_is : (p keeper : ℕ) (s : Span) → slice_get kept p ≡ Some (record { item = s; owner = keeper }) → is_seen asked kept p ≡ same_number (best_in (by_owner kept) keeper asked.addr) (Some p)
+  once_is : (p keeper : ℕ) (s : Span) → IsKept kept p s keeper → is_seen asked kept p ≡ same_number (best_in (by_owner kept) keeper asked.addr) (Some p)
   once_is p keeper s is = seen_by_best asked kept p keeper once (ap (option_map (λ (y : Owned Span). y.owner)) is)
 
-  pub seen_best : (p keeper : ℕ) (s : Span) → slice_get kept p ≡ Some (record { item = s; owner = keeper }) → is_seen asked kept p ≡ true → best_in (by_owner kept) keeper asked.addr ≡ Some p
+  pub seen_best : (p keeper : ℕ) (s : Span) → IsKept kept p s keeper → is_seen asked kept p ≡ true → best_in (by_owner kept) keeper asked.addr ≡ Some p
   seen_best p keeper s is t = same_some (best_in (by_owner kept) keeper asked.addr) p (sym (once_is p keeper s is) ∙ t)
 
-  pub best_seen : (p keeper : ℕ) (s : Span) → slice_get kept p ≡ Some (record { item = s; owner = keeper }) → best_in (by_owner kept) keeper asked.addr ≡ Some p → is_seen asked kept p ≡ true
+  pub best_seen : (p keeper : ℕ) (s : Span) → IsKept kept p s keeper → best_in (by_owner kept) keeper asked.addr ≡ Some p → is_seen asked kept p ≡ true
   best_seen p keeper s is e = once_is p keeper s is ∙ (ap (λ (o : Option ℕ). same_number o (Some p)) e ∙ eq-eqb p p refl)
 
   -- no second one of a keeper covers the address
-  pub one_alone : (p q keeper : ℕ) (s t : Span) → slice_get (seen asked kept) p ≡ Some (record { item = s; owner = keeper }) → covers s asked.addr ≡ true → slice_get (seen asked kept) q ≡ Some (record { item = t; owner = keeper }) → covers t asked.addr ≡ true → p ≡ q
+  pub one_alone : (p q keeper : ℕ) (s t : Span) → IsKept (seen asked kept) p s keeper → covers s asked.addr ≡ true → IsKept (seen asked kept) q t keeper → covers t asked.addr ≡ true → p ≡ q
   one_alone p q keeper s t is_p reached is_q other =
-      let g = seen_there asked kept asked.addr p (record { item = s; owner = keeper }) is_p reached in
-      let h = seen_there asked kept asked.addr q (record { item = t; owner = keeper }) is_q other in
-      some_is p q (sym (seen_best p keeper s g.is g.seen) ∙ seen_best q keeper t h.is h.seen)
+      let g = seen_there asked kept asked.addr p is_p reached in
+      let h = seen_there asked kept asked.addr q is_q other in
+      some_is (sym (seen_best p keeper s g.is g.seen) ∙ seen_best q keeper t h.is h.seen)
 
   seen_alike : (keeper begin q : ℕ) (a : IsAlike (seen asked kept) keeper asked.addr begin q) → best_in (by_owner kept) keeper asked.addr ≡ Some q
-  seen_alike keeper begin q a = let h = seen_there asked kept asked.addr q (record { item = a.span; owner = keeper }) a.is a.reached in seen_best q keeper a.span h.is h.seen
+  seen_alike keeper begin q a = let h = seen_there asked kept asked.addr q a.is a.reached in seen_best q keeper a.span h.is h.seen
 
   pub alike_none : (keeper begin : ℕ) → best_in (by_owner kept) keeper asked.addr ≡ None → IsFirstAlike (seen asked kept) keeper asked.addr begin None
   alike_none keeper begin e = λ q a. let k = sym e ∙ seen_alike keeper begin q a in absurd cc
 
   begins_is : (p begin : ℕ) (x : Owned Span) → slice_get kept p ≡ Some x → begins_in kept begin p ≡ eqb x.item.begin begin
-  begins_is p begin x is = ap (λ (o : Option Span). begin_alike o (Some (no_longer begin))) (item_at kept p x is)
+  begins_is p begin x is = ap (λ (o : Option Span). begin_alike o (Some (no_longer begin))) (item_at kept p is)
 
   pub alike_here : (keeper begin p : ℕ) → best_in (by_owner kept) keeper asked.addr ≡ Some p → begins_in kept begin p ≡ true → IsFirstAlike (seen asked kept) keeper asked.addr begin (Some p)
   alike_here keeper begin p e t =
       let b : IsBestOf kept keeper asked.addr p = best_of_keeper kept keeper asked.addr (Some p) e in
-      let is = seen_itself asked kept p (record { item = b.span; owner = keeper }) b.own.is (best_seen p keeper b.span b.own.is e) in
+      let is = seen_itself asked kept p b.own.is (best_seen p keeper b.span b.own.is e) in
       let begins : b.span.begin ≡ begin = eqb-true b.span.begin begin (sym (begins_is p begin (record { item = b.span; owner = keeper }) b.own.is) ∙ t) in
-      (record { span = b.span; is = is; begins = begins; reached = b.own.reached }, λ q a. let same : p ≡ q = some_is p q (sym e ∙ seen_alike keeper begin q a) in omega arith)
+      (record { span = b.span; is = is; begins = begins; reached = b.own.reached }, λ q a. let same : p ≡ q = some_is (sym e ∙ seen_alike keeper begin q a) in omega arith)
 
   pub alike_other : (keeper begin p : ℕ) → best_in (by_owner kept) keeper asked.addr ≡ Some p → begins_in kept begin p ≡ false → IsFirstAlike (seen asked kept) keeper asked.addr begin None
   alike_other keeper begin p e f = λ q a.
-      let h = seen_there asked kept asked.addr q (record { item = a.span; owner = keeper }) a.is a.reached in
-      let same : q ≡ p = some_is q p (sym (seen_best q keeper a.span h.is h.seen) ∙ e) in
+      let h = seen_there asked kept asked.addr q a.is a.reached in
+      let same : q ≡ p = some_is (sym (seen_best q keeper a.span h.is h.seen) ∙ e) in
       let t = begins_is q begin (record { item = a.span; owner = keeper }) h.is ∙ eq-eqb a.span.begin begin a.begins in
       false≢true (sym f ∙ subst (λ (n : ℕ). begins_in kept begin n ≡ true) same t)
 
@@ -240,34 +240,34 @@ module _ (asked : Asked) (kept : List (Owned Span)) (once : asked.once ≡ true)
 
 pub among_kept : (asked : Asked) (kept : List (Owned Span)) → AreAmong (items_of kept) (items_of (seen asked kept)) asked.addr
 among_kept asked kept = λ q t is reached.
-    let h = has_item (seen asked kept) q t is in
-    let k = seen_there asked kept asked.addr q (record { item = t; owner = h.keeper }) h.is reached in
-    item_at kept q (record { item = t; owner = h.keeper }) k.is
+    let h = has_item (seen asked kept) q is in
+    let k = seen_there asked kept asked.addr q h.is reached in
+    item_at kept q k.is
 
 pub best_of_all : (asked : Asked) (kept : List (Owned Span)) → best (items_of kept) asked.addr ≡ best (items_of (seen asked kept)) asked.addr
 best_of_all asked kept = best_is (λ at s. covers s asked.addr) (items_of (seen asked kept)) (best (items_of kept) asked.addr) (by (best (items_of kept) asked.addr) (best_is_best (λ at s. covers s asked.addr) (items_of kept)))
   where
-    best_once : (p keeper : ℕ) (b : IsBestAt (λ at s. covers s asked.addr) (items_of kept) p) → slice_get kept p ≡ Some (record { item = b.span; owner = keeper }) → (o : Option ℕ) → IsBestOr kept keeper asked.addr o → o ≡ Some p
+    best_once : (p keeper : ℕ) (b : IsBestAt (λ at s. covers s asked.addr) (items_of kept) p) → IsKept kept p b.span keeper → (o : Option ℕ) → IsBestOr kept keeper asked.addr o → o ≡ Some p
     best_once p keeper b is None h = absurd (h p b.span (record { is = is; reached = b.passes }))
     best_once p keeper b is (Some q) h =
-        let k = b.first q h.span (item_at kept q (record { item = h.span; owner = keeper }) h.own.is) h.own.reached in
+        let k = b.first q h.span (item_at kept q h.own.is) h.own.reached in
         let l = h.first p b.span (record { is = is; reached = b.passes }) in
         ap (λ (n : ℕ). Some n) (sym (both_first p q b.span h.span k l))
 
-    is_there : (p keeper : ℕ) (b : IsBestAt (λ at s. covers s asked.addr) (items_of kept) p) → slice_get kept p ≡ Some (record { item = b.span; owner = keeper }) → slice_get (seen asked kept) p ≡ Some (record { item = b.span; owner = keeper })
+    is_there : (p keeper : ℕ) (b : IsBestAt (λ at s. covers s asked.addr) (items_of kept) p) → IsKept kept p b.span keeper → IsKept (seen asked kept) p b.span keeper
     is_there p keeper b is =
         elim (cases_Bool asked.once) [
-          | inl t ↦ seen_itself asked kept p (record { item = b.span; owner = keeper }) is (best_seen asked kept t p keeper b.span is (best_once p keeper b is (best_in (by_owner kept) keeper asked.addr) (best_of_keeper kept keeper asked.addr (best_in (by_owner kept) keeper asked.addr) refl)))
+          | inl t ↦ seen_itself asked kept p is (best_seen asked kept t p keeper b.span is (best_once p keeper b is (best_in (by_owner kept) keeper asked.addr) (best_of_keeper kept keeper asked.addr (best_in (by_owner kept) keeper asked.addr) refl)))
           | inr f ↦ rw (all_seen asked kept f) is
         ]
 
     by : (o : Option ℕ) → IsBest (λ at s. covers s asked.addr) (items_of kept) o → IsBest (λ at s. covers s asked.addr) (items_of (seen asked kept)) o
     by None b = λ q t is reached. b q t (among_kept asked kept q t is reached) reached
     by (Some p) b =
-        let h = has_item kept p b.span b.at in
+        let h = has_item kept p b.at in
         record {
           span = b.span;
-          at = item_at (seen asked kept) p (record { item = b.span; owner = h.keeper }) (is_there p h.keeper b h.is);
+          at = item_at (seen asked kept) p (is_there p h.keeper b h.is);
           passes = b.passes;
           first = λ q t is reached. b.first q t (among_kept asked kept q t is reached) reached;
         }
@@ -277,33 +277,33 @@ begun_seen asked kept None = refl
 begun_seen asked kept (Some p) = ap (λ (k : Option ℕ). kept_at k p) (owner_seen asked kept p)
 
 comes_at : (kept : List (Owned Span)) (begin unit p : ℕ) (x : Owned Span) → slice_get kept p ≡ Some x → comes_first kept begin unit (Some p) ≡ (nat_lt x.owner unit && eqb x.item.begin begin)
-comes_at kept begin unit p x is = rw (item_at kept p x is, ap (option_map (λ (y : Owned Span). y.owner)) is) refl
+comes_at kept begin unit p x is = rw (item_at kept p is, ap (option_map (λ (y : Owned Span). y.owner)) is) refl
 
 pub comes_seen : (asked : Asked) (kept : List (Owned Span)) (from begin unit : ℕ) (o : Option ℕ) → IsNextOwn (seen asked kept) from asked.addr begin o → comes_first (seen asked kept) begin unit o ≡ comes_first kept begin unit o
 comes_seen asked kept from begin unit None own = refl
 comes_seen asked kept from begin unit (Some p) own =
-    let h = seen_there asked kept asked.addr p own.range own.is own.reached in
+    let h = seen_there asked kept asked.addr p own.is own.reached in
     comes_at (seen asked kept) begin unit p own.range own.is ∙ sym (comes_at kept begin unit p own.range h.is)
 
 -- a place that is seen has its range among all that are kept
-pub placed_kept : (asked : Asked) (kept : List (Owned Span)) (keepers : List ℕ) (at : Place) (w : IsPlaced (seen asked kept) keepers asked.addr at) → slice_get kept at.place ≡ Some (record { item = w.span; owner = w.keeper })
-placed_kept asked kept keepers at w = (seen_there asked kept asked.addr at.place (record { item = w.span; owner = w.keeper }) w.is w.reached).is
+pub placed_kept : (asked : Asked) (kept : List (Owned Span)) (keepers : List ℕ) (at : Place) (w : IsPlaced (seen asked kept) keepers asked.addr at) → IsKept kept at.place w.span w.keeper
+placed_kept asked kept keepers at w = (seen_there asked kept asked.addr at.place w.is w.reached).is
 
 pub stays_seen : (asked : Asked) (kept : List (Owned Span)) (p : ℕ) → is_seen asked kept p ≡ true → (s : Span) → slice_get (items_of kept) p ≡ Some s → slice_get (items_of (seen asked kept)) p ≡ Some s
 stays_seen asked kept p t s is =
-    let h = has_item kept p s is in
-    item_at (seen asked kept) p (record { item = s; owner = h.keeper }) (seen_itself asked kept p (record { item = s; owner = h.keeper }) h.is t)
+    let h = has_item kept p is in
+    item_at (seen asked kept) p (seen_itself asked kept p h.is t)
 
 pub is_hidden : (asked : Asked) (kept : List (Owned Span)) (p : ℕ) → is_seen asked kept p ≡ false → (t : Span) → slice_get (items_of (seen asked kept)) p ≡ Some t → covers t asked.addr ≡ true → ⊥
 is_hidden asked kept p f t is reached =
-    let h = has_item (seen asked kept) p t is in
-    let k = seen_there asked kept asked.addr p (record { item = t; owner = h.keeper }) h.is reached in
+    let h = has_item (seen asked kept) p is in
+    let k = seen_there asked kept asked.addr p h.is reached in
     false≢true (sym f ∙ k.seen)
 
 -- the last that begins alike, where units are told once
 pub last_once : (asked : Asked) (kept : List (Owned Span)) (keepers : List ℕ) (at : Place) → asked.once ≡ true → (w : IsPlaced (seen asked kept) keepers asked.addr at) (begin : ℕ) → IsLast (seen asked kept) asked.addr begin at.place
 last_once asked kept keepers at once w begin = λ keeper q own a lt.
-    let k : w.keeper ≡ keeper = some_is w.keeper keeper (sym (ap (option_map (λ (x : Owned Span). x.owner)) w.is) ∙ own) in
+    let k : w.keeper ≡ keeper = some_is (sym (ap (option_map (λ (x : Owned Span). x.owner)) w.is) ∙ own) in
     let here = w.is ∙ ap (λ (n : ℕ). Some (record { item = w.span; owner = n })) k in
     let e = one_alone asked kept once at.place q keeper w.span a.span here w.reached a.is a.reached in
     omega arith
@@ -329,7 +329,7 @@ IsLow kept begin (Some p) = (s : Span) → slice_get (items_of kept) p ≡ Some 
 
 pub low_next : (kept : List (Owned Span)) (addr p : ℕ) (s : Span) (begin : ℕ) → s.begin ≤ begin → (o : Option ℕ) → IsNext (items_of kept) addr p s o → IsLow kept begin o
 low_next kept addr p s begin le None n = tt
-low_next kept addr p s begin le (Some r) n = λ t is. let e : n.span ≡ t = some_is n.span t (sym n.at ∙ is) in by t (ap (λ (z : Span). z.begin) e) n.behind
+low_next kept addr p s begin le (Some r) n = λ t is. let e : n.span ≡ t = some_is (sym n.at ∙ is) in by t (ap (λ (z : Span). z.begin) e) n.behind
   where
     by : (t : Span) → n.span.begin ≡ t.begin → After p s r n.span → t.begin ≤ begin
     by t e (inl less) = omega arith
@@ -341,8 +341,8 @@ module _ (asked : Asked) (kept : List (Owned Span)) (keepers : List ℕ) (have :
   not_first begin unit p None h low f = refl
   not_first begin unit p (Some q) h low f = elim (cases_Bool (comes_first kept begin unit (Some q))) [
     | inl t ↦
-        let x = has_item kept p h.span h.at in
-        let y = has_item kept q h.first.span (among_kept asked kept q h.first.span h.first.at h.first.reached) in
+        let x = has_item kept p h.at in
+        let y = has_item kept q (among_kept asked kept q h.first.span h.first.at h.first.reached) in
         let both = and_parts _ _ (sym (comes_at kept begin unit q (record { item = h.first.span; owner = y.keeper }) y.is) ∙ t) in
         let lt = ltb-true y.keeper unit both.0 in
         let begins = eqb-true h.first.span.begin begin both.1 in

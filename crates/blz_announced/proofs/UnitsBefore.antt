@@ -68,8 +68,8 @@ module _ (keepers repeats : List ℕ) (are : AreRepeats keepers repeats) (keeper
       not_sooner u other r =
           let e = repeat_at other r in
           let k = b.first e.0 (record { begin = 0; end = other }) (span_at e.0 other e.1) (repeat_passes e.0 other e.1 r) in
-          let begin : b.span.begin ≡ 0 = ap (λ (s : Span). s.begin) (some_is b.span (record { begin = 0; end = u.other }) (sym b.at ∙ span_at at u.other u.is)) in
-          let up = are.rising at e.0 0 (k.tie (sym begin)) (within repeats e.0 other e.1) in
+          let begin : b.span.begin ≡ 0 = ap (λ (s : Span). s.begin) (some_is (sym b.at ∙ span_at at u.other u.is)) in
+          let up = are.rising at e.0 0 (k.tie (sym begin)) (within repeats e.0 e.1) in
           let x = get_or_from_slice_get repeats at u.other 0 u.is in
           let y = get_or_from_slice_get repeats e.0 other 0 e.1 in
           omega arith

@@ -18,6 +18,10 @@ pub record Copy : Type 0 where
   pub place : ℕ
   pub span : Span
 
+-- a range of a keeper stands at a place
+abbrev pub IsKept : List (Owned Span) → ℕ → Span → ℕ → Type 0
+IsKept kept place s keeper = slice_get kept place ≡ Some (record { item = s; owner = keeper })
+
 -- what a keeper announces, as the ranges of one of its units; at is the place of the first range
 unfoldable pub copies_of : ℕ → ℕ → ℕ → List (Owned Span) → List Copy
 copies_of unit keeper at [] = []
@@ -166,7 +170,7 @@ full_place list at = place_of_copy list at.unit at.place
 pub record IsPlaced (kept : List (Owned Span)) (keepers : List ℕ) (addr : ℕ) (at : Place) : Type 0 where
   pub keeper : ℕ
   pub span : Span
-  pub is : slice_get kept at.place ≡ Some (record { item = span; owner = keeper })
+  pub is : IsKept kept at.place span keeper
   pub row : slice_get keepers at.unit ≡ Some keeper
   pub reached : covers span addr ≡ true
 

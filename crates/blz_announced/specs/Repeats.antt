@@ -6,7 +6,7 @@ use Rattle.blz_ranges.specs.declared.span.Span.{Span}
 use Rattle.blz_ranges.specs.Best.{covers}
 use Rattle.blz_ranges.specs.Groups.{grouped}
 use Rattle.blz_ranges.specs.Owned.{Owned, owner_at}
-use Rattle.blz_announced.specs.Copies.{same_number, span_at}
+use Rattle.blz_announced.specs.Copies.{same_number, span_at, IsKept}
 use Rattle.blz_announced.specs.declared.announced.Place.{Place}
 use Rattle.blz_announced.specs.declared.announced.repeats.Near.{Near}
 use Rattle.blz_announced.specs.declared.announced.repeats.Near.TheVariants.{Found, NoneBefore, NoneLeft}
@@ -17,7 +17,7 @@ use Rattle.blz_announced.specs.declared.keepers.Keepers.{Keepers}
 -- A range of a keeper that covers an address and begins at a number.
 pub record IsAlike (kept : List (Owned Span)) (keeper addr begin place : ℕ) : Type 0 where
   pub span : Span
-  pub is : slice_get kept place ≡ Some (record { item = span; owner = keeper })
+  pub is : IsKept kept place span keeper
   pub begins : span.begin ≡ begin
   pub reached : covers span addr ≡ true
 

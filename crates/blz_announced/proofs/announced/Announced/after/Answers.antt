@@ -15,7 +15,7 @@ returns-in_default-span-clause-place g c =
     let kept = c.args.self.now.kept.ranges in
     let w = c.requires in
     let p = parts c.self.invariant c.self.view_is in
-    let is = item_at kept c.args.at.place (record { item = w.span; owner = w.keeper }) (placed_kept c.args.asked kept c.args.self.now.keepers c.args.at w) in
+    let is = item_at kept c.args.at.place (placed_kept c.args.asked kept c.args.self.now.keepers c.args.at w) in
     let read : slice_get (items_of kept) c.args.at.place ≡ None = rw (← p.items) (sym c.span.ensures.span ∙ c.in_default-span.is) in
     absurd (none-some w.span (sym read ∙ is))
 
@@ -24,9 +24,9 @@ behind_unit-requires g c =
     let a = c.args.self.now in
     let w = c.requires in
     let p = parts c.self.invariant c.self.view_is in
-    let is = item_at a.kept.ranges c.args.at.place (record { item = w.span; owner = w.keeper }) (placed_kept c.args.asked a.kept.ranges a.keepers c.args.at w) in
+    let is = item_at a.kept.ranges c.args.at.place (placed_kept c.args.asked a.kept.ranges a.keepers c.args.at w) in
     let read : slice_get (items_of a.kept.ranges) c.args.at.place ≡ Some c.in-Some-span.span = rw (← p.items) (sym c.span.ensures.span ∙ c.in-Some-span.is) in
-    let begins : w.span.begin ≡ c.in-Some-span.span.begin = ap (λ (s : Span). s.begin) (some_is w.span c.in-Some-span.span (sym is ∙ read)) in
+    let begins : w.span.begin ≡ c.in-Some-span.span.begin = ap (λ (s : Span). s.begin) (some_is (sym is ∙ read)) in
     record {
       have = seen_keepers c.args.asked a.kept.ranges a.keepers p.have;
       placed = w;

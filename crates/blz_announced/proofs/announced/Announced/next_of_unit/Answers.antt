@@ -19,7 +19,7 @@ next_below-next-requires g c =
     let w = c.requires in
     let kept = c.args.self.now.kept.ranges in
     let p = parts c.self.invariant c.self.view_is in
-    let is = item_at kept c.args.at.place (record { item = w.span; owner = w.keeper }) (placed_kept c.args.asked kept c.args.self.now.keepers c.args.at w) in
+    let is = item_at kept c.args.at.place (placed_kept c.args.asked kept c.args.self.now.keepers c.args.at w) in
     rw p.items (slice_get_within (items_of kept) c.args.at.place w.span is)
 
 pub returns-then-goes_on-clause-next : goal.returns-then-goes_on-clause-next

@@ -22,6 +22,6 @@ pub loop-next-smaller : goal.loop-next-smaller
 loop-next-smaller g c =
     let a = c.args.self.now in
     let n : IsBegunAt a.kept.ranges c.args.asked.addr c.args.begin c.loop-next.place c.in-Some.next = rw c.in-Some.is at c.next_begun.ensures.next in
-    let lt = within a.kept.ranges c.in-Some.next (record { item = n.alike.span; owner = n.keeper }) n.alike.is in
+    let lt = within a.kept.ranges c.in-Some.next n.alike.is in
     let behind = n.behind in
     omega arith
