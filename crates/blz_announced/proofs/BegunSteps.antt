@@ -1,5 +1,5 @@
 -- The ranges that begin alike, one after the other, and the first unit with one of these that is not its own keeper.
-use Rattle.std.proofs.Common.{◌≡◌, ℕ, ◌+◌, ◌<◌, ◌≤◌, eqb, true, false, List, Option, Some, None, refl, sym, ap, subst, ◌∙◌, arith, inl, inr}
+use Rattle.std.proofs.Common.{◌≡◌, ℕ, ◌+◌, ◌<◌, ◌≤◌, true, false, List, Option, Some, None, refl, sym, ap, subst, ◌∙◌, arith, inl, inr}
 use Rattle.std.specs.Prelude.{nat_lt, option_map}
 use Rattle.std.specs.List.{slice_get}
 use Rattle.std.proofs.lemmas.Bool.{cases_Bool, cases_lt, and_parts, and_from, eqb-true, eq-eqb, ltb-true, ltb-false, false≢true}
@@ -8,12 +8,12 @@ use Rattle.blz_ranges.specs.declared.span.Span.{Span}
 use Rattle.blz_ranges.specs.declared.placed.Placed.{Placed}
 use Rattle.blz_ranges.specs.Best.{next_after}
 use Rattle.blz_ranges.specs.Owned.{Owned, items_of, owner_at}
-use Rattle.blz_announced.specs.Copies.{begin_alike, begins_in, no_longer, IsKept}
+use Rattle.blz_announced.specs.Copies.{begins_in, no_longer, IsKept}
 use Rattle.blz_announced.specs.Repeats.{begins_at, sooner, IsAlike, IsAlikeOf, IsFirstRepeat, IsNextBegun, IsNextOf, IsRepeatOf, RepeatsAt}
 use Rattle.blz_announced.specs.Seen.{is_seen, seen}
 use Rattle.blz_announced.specs.declared.announced.Asked.{Asked}
 use Rattle.blz_announced.specs.declared.announced.Place.{Place}
-use Rattle.blz_announced.proofs.NextCopies.{after_is, has_item, item_at, some_is, After, IsNext, IsNextAt}
+use Rattle.blz_announced.proofs.NextCopies.{after_is, begins_is, has_item, item_at, some_is, After, IsNext, IsNextAt}
 use Rattle.blz_announced.proofs.SeenRanges.{seen_itself, seen_there}
 
 -- ---- the next range that begins alike
@@ -29,13 +29,10 @@ module _ (kept : List (Owned Span)) (addr begin place : ℕ) where
   pub begun_none : IsNext (items_of kept) addr place (no_longer begin) None → IsNextBegun kept addr begin place None
   begun_none n = λ k q a lt. n q a.span (alike_item k q a) a.reached (inr (a.begins, lt))
 
-  begins_is : (r : ℕ) (s : Span) → slice_get (items_of kept) r ≡ Some s → begins_in kept begin r ≡ eqb s.begin begin
-  begins_is r s is = ap (λ (o : Option Span). begin_alike o (Some (no_longer begin))) is
-
   pub begun_here : (r : ℕ) (n : IsNextAt (items_of kept) addr place (no_longer begin) r) → begins_in kept begin r ≡ true → IsNextBegun kept addr begin place (Some r)
   begun_here r n t =
       let h = has_item kept r n.at in
-      let begins : n.span.begin ≡ begin = eqb-true n.span.begin begin (sym (begins_is r n.span n.at) ∙ t) in
+      let begins : n.span.begin ≡ begin = eqb-true n.span.begin begin (sym (begins_is kept begin r n.at) ∙ t) in
       record {
         keeper = h.keeper;
         alike = record { span = n.span; is = h.is; begins = begins; reached = n.reached };
@@ -52,7 +49,7 @@ module _ (kept : List (Owned Span)) (addr begin place : ℕ) where
       let below = (n.first q a.span (alike_item k q a) a.reached (inr (a.begins, lt))).below in
       let e = a.begins in
       let begins : n.span.begin ≡ begin = by (omega arith) n.behind in
-      false≢true (sym f ∙ (begins_is r n.span n.at ∙ eq-eqb n.span.begin begin begins))
+      false≢true (sym f ∙ (begins_is kept begin r n.at ∙ eq-eqb n.span.begin begin begins))
     where
       by : begin ≤ n.span.begin → After place (no_longer begin) r n.span → n.span.begin ≡ begin
       by le (inl less) = absurd (omega arith)

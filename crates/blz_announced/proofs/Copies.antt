@@ -2,6 +2,7 @@
 use Rattle.std.proofs.Common.{◌≡◌, ℕ, zero, suc, ◌+◌, ◌<◌, eqb, List, [], ◌∷◌, ◌++◌, length, Some, refl, sym, ap, subst, ◌∙◌, arith, inl, inr, ◌⊎◌}
 use Rattle.std.specs.List.{slice_get}
 use Rattle.std.proofs.lemmas.Bool.{cases_Bool, eqb-true, eq-eqb}
+use Rattle.std.proofs.lemmas.Option.{slice_get_within}
 use Rattle.blz_ranges.specs.declared.span.Span.{Span}
 use Rattle.blz_ranges.specs.Owned.{Owned}
 use Rattle.blz_ranges.proofs.ListEnds.{in_front}
@@ -28,10 +29,10 @@ pub record Stands {A : Type 0} (xs : List A) (x : A) : Type 0 where
   pub at : ℕ
   pub is : slice_get xs at ≡ Some x
 
-pub within : {A : Type 0} {x : A} (xs : List A) (q : ℕ) → slice_get xs q ≡ Some x → q < length xs
-within [] q e = absurd cc
-within (y ∷ xs) zero e = omega arith
-within (y ∷ xs) (suc q) e = let k = within xs q e in omega arith
+pub there_at : {A : Type 0} (xs : List A) (i : ℕ) → i < length xs → (x : A) × (slice_get xs i ≡ Some x)
+there_at [] i lt = absurd (omega arith)
+there_at (x ∷ xs) zero lt = (x, refl)
+there_at (x ∷ xs) (suc i) lt = there_at xs i (omega arith)
 
 -- ---- the ranges of one unit
 
@@ -164,7 +165,7 @@ sorted_in kept first (k ∷ keepers) i j c d lt is_c is_d =
         let x = copy_told first k 0 kept i c g in
         let y = told_in kept (suc first) keepers h.at d h.is in
         inl (omega (arith, x.unit_is, y.unit_is))
-    by (inr g) (inl h) rest = absurd (let n = within (copies_of first k 0 kept) j h in let e = g.place in omega arith)
+    by (inr g) (inl h) rest = absurd (let n = slice_get_within (copies_of first k 0 kept) j _ h in let e = g.place in omega arith)
     by (inr g) (inr h) rest = let e = g.place in let f = h.place in rest g.at h.at (omega arith) g.is h.is
 
 -- ---- what holds of all copies

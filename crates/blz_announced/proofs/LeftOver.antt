@@ -16,7 +16,7 @@ use Rattle.blz_announced.specs.Copies.{announced_all, announced_copies, copies, 
 use Rattle.blz_announced.specs.Seen.{by_owner, is_seen, seen, seen_by, seen_from, Holds, LeavesOut}
 use Rattle.blz_announced.specs.declared.announced.Asked.{Asked}
 use Rattle.blz_announced.proofs.Copies.{are_copies}
-use Rattle.blz_announced.proofs.NextCopies.{has_item, item_at, next_is, some_is, After, IsFirst, IsNext}
+use Rattle.blz_announced.proofs.NextCopies.{full_item, has_copy, has_item, next_is, owner_told, some_is, After, IsFirst, IsNext}
 use Rattle.blz_announced.proofs.SeenRanges.{best_of_keeper, no_cover, seen_by_best, seen_not_once, there_mapped, IsBestOr}
 use Rattle.blz_announced.proofs.SeenSteps.{first_from, from_here, from_next, other_after, AreAmong, FirstFrom, IsFrom}
 
@@ -216,20 +216,8 @@ module _ (asked : Asked) (a : Announced) where
       by None = refl
       by (Some c) = refl
 
-  -- what stands at a place of all ranges
-  record HasCopy (q : ℕ) (s : Span) : Type 0 where
-    pub copy : Copy
-    pub is : slice_get list q ≡ Some copy
-    pub span_is : copy.span ≡ s
-
-  has_copy : (q : ℕ) (s : Span) → slice_get (items_of (told list)) q ≡ Some s → HasCopy q s
-  has_copy q s is =
-      let h = has_item (told list) q is in
-      let k = there_mapped (λ (c : Copy). record { item = c.span; owner = c.unit }) (slice_get list q) (record { item = s; owner = h.keeper }) (sym (told_at list q) ∙ h.is) in
-      record { copy = k.0; is = k.1; span_is = ap (λ (x : Owned Span). x.item) k.2 }
-
   shown_item : (q : ℕ) (c : Copy) → slice_get list q ≡ Some c → slice_get (items_of (told list_seen)) q ≡ Some (shown asked kept_ranges c).span
-  shown_item q c is = item_at (told list_seen) q (told_at list_seen q ∙ ap (option_map (λ (d : Copy). record { item = d.span; owner = d.unit })) (seen_copy q ∙ ap (option_map (shown asked kept_ranges)) is))
+  shown_item q c is = full_item list_seen q (seen_copy q ∙ ap (option_map (shown asked kept_ranges)) is)
 
   shown_same : (c : Copy) → is_seen asked kept_ranges c.place ≡ true → (shown asked kept_ranges c).span ≡ c.span
   unfolding shown
@@ -239,19 +227,14 @@ module _ (asked : Asked) (a : Announced) where
   unfolding shown
   shown_none c f = rw f refl
 
-  there_in : (l : List Copy) (q : ℕ) (t : Span) → slice_get (items_of (told l)) q ≡ Some t → (c : Copy) × (slice_get l q ≡ Some c)
-  there_in [] q t is = absurd cc
-  there_in (c ∷ l) zero t is = (c, refl)
-  there_in (c ∷ l) (suc q) t is = there_in l q t is
-
   among_all : AreAmong (items_of (told list)) (items_of (told list_seen)) asked.addr
   among_all = λ q t is reached.
-      let d = there_in list_seen q t is in
-      let k = there_mapped (shown asked kept_ranges) (slice_get list q) d.0 (sym (seen_copy q) ∙ d.1) in
+      let d = has_copy list_seen q t is in
+      let k = there_mapped (shown asked kept_ranges) (slice_get list q) d.copy (sym (seen_copy q) ∙ d.is) in
       let c = k.0 in
       let span : (shown asked kept_ranges c).span ≡ t = some_is (sym (shown_item q c k.1) ∙ is) in
       elim (cases_Bool (is_seen asked kept_ranges c.place)) [
-        | inl seen_it ↦ item_at (told list) q (told_at list q ∙ ap (option_map (λ (e : Copy). record { item = e.span; owner = e.unit })) k.1) ∙ ap (λ (s : Span). Some s) (sym (shown_same c seen_it) ∙ span)
+        | inl seen_it ↦ full_item list q k.1 ∙ ap (λ (s : Span). Some s) (sym (shown_same c seen_it) ∙ span)
         | inr hid ↦ absurd (no_cover asked.addr (ap (λ (s : Span). covers s asked.addr) (sym (shown_none c hid) ∙ span) ∙ reached))
       ]
 
@@ -268,16 +251,13 @@ module _ (asked : Asked) (a : Announced) where
       record {
         place = there.at;
         span = h.span;
-        is = item_at (told list) there.at (told_at list there.at ∙ ap (option_map (λ (d : Copy). record { item = d.span; owner = d.unit })) there.is);
+        is = full_item list there.at there.is;
         reached = h.own.reached;
         before = full_after there.at there.is after;
-        same = owner_told there.at _ there.is ∙ sym (owner_told q c is);
+        same = owner_told list there.at there.is ∙ sym (owner_told list q is);
         hides = λ t is_t covered. no_cover asked.addr (ap (λ (s : Span). covers s asked.addr) (sym (shown_none c hid) ∙ some_is (sym (shown_item q c is) ∙ is_t)) ∙ covered);
       }
     where
-      owner_told : (i : ℕ) (d : Copy) → slice_get list i ≡ Some d → owner_at (told list) i ≡ Some d.unit
-      owner_told i d is_d = ap (option_map (λ (x : Owned Span). x.owner)) (told_at list i ∙ ap (option_map (λ (e : Copy). record { item = e.span; owner = e.unit })) is_d)
-
       full_before : (i : ℕ) → slice_get list i ≡ Some (record { unit = c.unit; place = p; span = h.span }) → p < c.place → i < q
       full_before i is_i lt = elim (cases_lt i q) [
         | inl less ↦ less
@@ -302,7 +282,7 @@ module _ (asked : Asked) (a : Announced) where
 
   each_told : (q : ℕ) (s : Span) → slice_get (items_of (told list)) q ≡ Some s → covers s asked.addr ≡ true → (slice_get (items_of (told list_seen)) q ≡ Some s) ⊎ IsTold (told list) (told list_seen) asked.addr q s
   each_told q s is reached =
-      let h = has_copy q s is in
+      let h = has_copy list q s is in
       let t = (are_copies kept_ranges a.keepers).told q h.copy h.is in
       let unit : t.row ≡ h.copy.unit = omega (arith, t.unit_is) in
       let row = subst (λ (n : ℕ). slice_get a.keepers n ≡ Some t.keeper) unit t.has in

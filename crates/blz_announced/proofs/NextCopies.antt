@@ -7,10 +7,10 @@ use Rattle.std.proofs.lemmas.Option.{slice_get-map, get_or_from_slice_get}
 use Rattle.blz_ranges.specs.declared.span.Span.{Span}
 use Rattle.blz_ranges.specs.declared.placed.Placed.{Placed}
 use Rattle.blz_ranges.specs.Best.{best, covers, comes_after, next, next_after, no_span, placed, NotAfter, IsBest, IsBestAt}
-use Rattle.blz_ranges.specs.Owned.{Owned, items_of}
+use Rattle.blz_ranges.specs.Owned.{Owned, items_of, owner_at}
 use Rattle.blz_ranges.proofs.BestOf.{best_is, best_is_best}
 use Rattle.blz_announced.specs.declared.announced.Place.{Place}
-use Rattle.blz_announced.specs.Copies.{comes_first, full_place, told, Copy, HaveKeepers, IsKept, IsLater, IsNextOwn, IsOwn, IsPlaced}
+use Rattle.blz_announced.specs.Copies.{begin_alike, begins_in, comes_first, full_place, no_longer, told, Copy, HaveKeepers, IsKept, IsLater, IsNextOwn, IsOwn, IsPlaced}
 use Rattle.blz_announced.specs.Repeats.{IsAlike, IsNextRepeat, NoRepeatBefore, RepeatsAt}
 use Rattle.blz_announced.proofs.Copies.{copy_place, AreCopies}
 
@@ -117,17 +117,28 @@ has_item {s = s} kept p e =
 pub item_at : {x : Owned Span} (kept : List (Owned Span)) (p : ℕ) → slice_get kept p ≡ Some x → slice_get (items_of kept) p ≡ Some x.item
 item_at kept p e = slice_get-map (λ (y : Owned Span). y.item) kept p ∙ ap (option_map (λ (y : Owned Span). y.item)) e
 
-full_item : (list : List Copy) (q : ℕ) (c : Copy) → slice_get list q ≡ Some c → slice_get (items_of (told list)) q ≡ Some c.span
-full_item [] q c e = absurd cc
-full_item (d ∷ list) zero c e = ap (λ (x : Copy). Some x.span) (some_is e)
-full_item (d ∷ list) (suc q) c e = full_item list q c e
+pub begins_is : {s : Span} (kept : List (Owned Span)) (begin p : ℕ) → slice_get (items_of kept) p ≡ Some s → begins_in kept begin p ≡ eqb s.begin begin
+begins_is kept begin p is = ap (λ (o : Option Span). begin_alike o (Some (no_longer begin))) is
 
-record HasCopy (list : List Copy) (q : ℕ) (s : Span) : Type 0 where
+pub comes_at : {x : Owned Span} (kept : List (Owned Span)) (begin unit p : ℕ) → slice_get kept p ≡ Some x → comes_first kept begin unit (Some p) ≡ (nat_lt x.owner unit && eqb x.item.begin begin)
+comes_at kept begin unit p is = rw (item_at kept p is, ap (option_map (λ (y : Owned Span). y.owner)) is) refl
+
+pub owner_told : {c : Copy} (list : List Copy) (q : ℕ) → slice_get list q ≡ Some c → owner_at (told list) q ≡ Some c.unit
+owner_told [] q e = absurd cc
+owner_told (d ∷ list) zero e = ap (λ (x : Copy). Some x.unit) (some_is e)
+owner_told (d ∷ list) (suc q) e = owner_told list q e
+
+pub full_item : {c : Copy} (list : List Copy) (q : ℕ) → slice_get list q ≡ Some c → slice_get (items_of (told list)) q ≡ Some c.span
+full_item [] q e = absurd cc
+full_item (d ∷ list) zero e = ap (λ (x : Copy). Some x.span) (some_is e)
+full_item (d ∷ list) (suc q) e = full_item list q e
+
+pub record HasCopy (list : List Copy) (q : ℕ) (s : Span) : Type 0 where
   pub copy : Copy
   pub is : slice_get list q ≡ Some copy
   pub span_is : copy.span ≡ s
 
-has_copy : (list : List Copy) (q : ℕ) (s : Span) → slice_get (items_of (told list)) q ≡ Some s → HasCopy list q s
+pub has_copy : (list : List Copy) (q : ℕ) (s : Span) → slice_get (items_of (told list)) q ≡ Some s → HasCopy list q s
 has_copy [] q s e = absurd cc
 has_copy (d ∷ list) zero s e = record { copy = d; is = refl; span_is = some_is e }
 has_copy (d ∷ list) (suc q) s e = let h = has_copy list q s e in record { copy = h.copy; is = h.is; span_is = h.span_is }
@@ -148,7 +159,7 @@ module _ (kept : List (Owned Span)) (keepers : List ℕ) (list : List Copy) (row
       let there = are.there at.unit keeper at.place s row is in
       let place = copy_place kept keepers list there.at (record { unit = at.unit; place = at.place; span = s }) are there.is in
       let copy = subst (λ (n : ℕ). slice_get list n ≡ Some (record { unit = at.unit; place = at.place; span = s })) (sym place) there.is in
-      record { full = full_item list (full_place list at) (record { unit = at.unit; place = at.place; span = s }) copy; copy = copy }
+      record { full = full_item list (full_place list at) copy; copy = copy }
 
   -- a range among all, with what is kept of it
   pub record IsRange (q : ℕ) (s : Span) : Type 0 where
@@ -407,12 +418,9 @@ module _ (kept : List (Owned Span)) (keepers : List ℕ) (list : List Copy) (row
     pub own_placed : (q : ℕ) (n : IsOwn kept at.unit addr w.span.begin q) → IsPlaced kept keepers addr (as_kept q n.range.owner)
     own_placed q n = record { keeper = n.range.owner; span = n.range.item; is = n.is; row = own_row q n.range.owner n.range.item n.is; reached = n.reached }
 
-    comes_is : (q unit : ℕ) (x : Owned Span) → slice_get kept q ≡ Some x → comes_first kept w.span.begin unit (Some q) ≡ (nat_lt x.owner unit && eqb x.item.begin w.span.begin)
-    comes_is q unit x is = rw (item_at kept q is, ap (option_map (λ (y : Owned Span). y.owner)) is) refl
-
     pub precedes_repeat : (q : ℕ) (n : IsOwn kept at.unit addr w.span.begin q) (bound : ℕ) → NoRepeatBefore kept keepers at.unit addr w.span.begin bound → comes_first kept w.span.begin bound (Some q) ≡ true → Precedes q n
     precedes_repeat q n bound none e = λ other p a.
-        let both = and_parts _ _ (sym (comes_is q bound n.range n.is) ∙ e) in
+        let both = and_parts _ _ (sym (comes_at kept w.span.begin bound q n.is) ∙ e) in
         let before = ltb-true n.range.owner bound both.0 in
         let least = none other p a in
         (eqb-true n.range.item.begin w.span.begin both.1, omega arith)
@@ -426,7 +434,7 @@ module _ (kept : List (Owned Span)) (keepers : List ℕ) (list : List Copy) (row
         let begins : own.range.item.begin ≡ w.span.begin = not_below own.later k.below in
         let le = k.tie (same ∙ sym begins) in
         let up = rows.sorted q p own.range x le own.is is in
-        false≢true (sym f ∙ (comes_is q unit own.range own.is ∙ and_from _ _ (lt-ltb own.range.owner unit (omega arith)) (eq-eqb own.range.item.begin w.span.begin begins)))
+        false≢true (sym f ∙ (comes_at kept w.span.begin unit q own.is ∙ and_from _ _ (lt-ltb own.range.owner unit (omega arith)) (eq-eqb own.range.item.begin w.span.begin begins)))
       where
         not_below : IsLater at.unit w.span.begin own.range → x.item.begin ≤ own.range.item.begin → own.range.item.begin ≡ w.span.begin
         not_below (inl lt) le = absurd (omega arith)

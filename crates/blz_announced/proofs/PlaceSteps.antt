@@ -1,9 +1,10 @@
 -- What is next among the ranges that are kept stands for what is next among all.
-use Rattle.std.proofs.Common.{◌≡◌, ℕ, zero, suc, ◌+◌, ◌*◌, ◌<◌, ◌≤◌, Bool, true, false, eqb, List, [], ◌∷◌, length, Option, Some, None, refl, sym, ap, subst, ◌∙◌, arith, inl, inr, ◌⊎◌}
+use Rattle.std.proofs.Common.{◌≡◌, ℕ, zero, suc, ◌+◌, ◌*◌, ◌<◌, ◌≤◌, Bool, true, false, eqb, List, length, Option, Some, None, refl, sym, ap, subst, ◌∙◌, arith, inl, inr, ◌⊎◌}
 use Rattle.std.specs.Prelude.{◌&&◌, option_map, IfSome}
 use Rattle.std.specs.List.{slice_get}
 use Rattle.std.proofs.lemmas.Bool.{cases_lt, and_parts, and_from, eqb-true, eq-eqb, false≢true}
 use Rattle.std.proofs.lemmas.List.{length-map}
+use Rattle.std.proofs.lemmas.Option.{slice_get_within}
 use Rattle.blz_ranges.specs.declared.span.Span.{Span}
 use Rattle.blz_ranges.specs.Best.{best, covers, next, IsBest}
 use Rattle.blz_ranges.specs.Groups.{AreApart}
@@ -12,7 +13,7 @@ use Rattle.blz_ranges.proofs.BestOf.{best_is, best_is_best}
 use Rattle.blz_announced.specs.declared.announced.Place.{Place}
 use Rattle.blz_announced.specs.Copies.{all_spans, announced_all, announced_copies, begun, comes_first, full_place, goes_on, moved, told, Announced, Copy, HaveKeepers, IsKept, IsNextOwn, IsOwn, IsPlaced, StandsFor}
 use Rattle.blz_announced.specs.Repeats.{IsAlike, IsLast, IsNextRepeat, NoRepeatBefore}
-use Rattle.blz_announced.proofs.Copies.{are_copies, within, AreCopies}
+use Rattle.blz_announced.proofs.Copies.{are_copies, there_at, AreCopies}
 use Rattle.blz_announced.proofs.NextCopies.{as_kept, best_none, best_some, has_item, is_at, is_next, item_at, moved_next, moved_placed, next_is, none_next, own_next, own_placed, placed_kept, precedes_repeat, repeat_next, repeat_placed, some_is, stands_before, IsAt, IsNext, Precedes}
 
 module _ (a : Announced) (rows : HaveKeepers a.kept.ranges a.keepers) (addr : ℕ) where
@@ -195,17 +196,12 @@ module _ (a : Announced) (rows : HaveKeepers a.kept.ranges a.keepers) where
         apart.apart (full_place copies_in (own_place p g.keeper)) (full_place copies_in (own_place q h.keeper)) s t (λ e. differ (same_place p q g.keeper h.keeper s t g.is h.is e)) (stands_at p g.keeper s g.is).full (stands_at q h.keeper t h.is).full;
   }
 
-  there_below : (p : ℕ) (l : List (Owned Span)) → p < length l → (x : Owned Span) × (slice_get l p ≡ Some x)
-  there_below p [] lt = absurd (omega arith)
-  there_below zero (x ∷ l) lt = (x, refl)
-  there_below (suc p) (x ∷ l) lt = there_below p l (omega arith)
-
   -- no place of a range that is kept is greater than that which it has among all
   rises : (p : ℕ) (x : Owned Span) → slice_get ranges p ≡ Some x → p ≤ full_place copies_in (own_place p x.owner)
   rises zero x is = omega arith
   rises (suc p) x is =
-      let lt = within ranges (suc p) is in
-      let y = there_below p ranges (omega arith) in
+      let lt = slice_get_within ranges (suc p) _ is in
+      let y = there_at ranges p (omega arith) in
       let le = rises p y.0 y.1 in
       let up = rows.sorted p (suc p) y.0 x (omega arith) y.1 is in
       let less = stands_before ranges a.keepers copies_in rows (are_copies ranges a.keepers) 0 (full_place copies_in (own_place p y.0.owner)) (full_place copies_in (own_place (suc p) x.owner)) (record { unit = y.0.owner; place = p; span = y.0.item }) (record { unit = x.owner; place = suc p; span = x.item }) (stands_at p y.0.owner y.0.item y.1).copy (stands_at (suc p) x.owner x.item is).copy (by y.0.owner x.owner up) in
@@ -217,9 +213,9 @@ module _ (a : Announced) (rows : HaveKeepers a.kept.ranges a.keepers) where
   fewer : (n : ℕ) → n ≡ length ranges → n ≤ length copies_in
   fewer zero e = omega arith
   fewer (suc n) e =
-      let x = there_below n ranges (omega arith) in
+      let x = there_at ranges n (omega arith) in
       let le = rises n x.0 x.1 in
-      let lt = within copies_in (full_place copies_in (own_place n x.0.owner)) (stands_at n x.0.owner x.0.item x.1).copy in
+      let lt = slice_get_within copies_in (full_place copies_in (own_place n x.0.owner)) _ (stands_at n x.0.owner x.0.item x.1).copy in
       omega arith
 
   -- a bound that was proved of the ranges that are kept

@@ -1,16 +1,16 @@
 -- The units that are not their own keepers, asked one after the other for their first range that begins alike.
-use Rattle.std.proofs.Common.{◌≡◌, ℕ, zero, suc, ◌+◌, ◌-◌, ◌<◌, ◌≤◌, eqb, true, false, leb, List, [], ◌∷◌, length, Option, Some, None, refl, sym, ap, subst, ◌∙◌, arith, inl, inr}
+use Rattle.std.proofs.Common.{◌≡◌, ℕ, zero, suc, ◌+◌, ◌-◌, ◌<◌, ◌≤◌, eqb, true, false, leb, List, length, Option, Some, None, refl, sym, ap, subst, ◌∙◌, arith, inl, inr}
 use Rattle.std.specs.Prelude.{◌&&◌, option_map, unwrap_or}
 use Rattle.std.specs.List.{slice_get}
 use Rattle.std.specs.List.Sorted.{IsPartitionPoint}
 use Rattle.std.proofs.lemmas.Bool.{cases_lt, and_parts, and_from, eqb-true, eq-eqb, le-leb, leb-true, false≢true}
-use Rattle.std.proofs.lemmas.Option.{get_or_from_slice_get}
+use Rattle.std.proofs.lemmas.Option.{get_or_from_slice_get, slice_get_within}
 use Rattle.blz_ranges.specs.declared.span.Span.{Span}
 use Rattle.blz_ranges.specs.Best.{covers}
 use Rattle.blz_ranges.specs.Owned.{Owned, items_of, owner_at}
 use Rattle.blz_announced.specs.Copies.{no_longer, same_number, start_of, AreEnds, AreRepeats, HaveKeepers, IsLater, IsNextOwn, IsSplitAt}
 use Rattle.blz_announced.specs.Repeats.{is_alike, IsAlike, IsBegunAt, IsFirstAlike, IsNextBegun, IsNextRepeat, NoRepeatBefore, RepeatsAt}
-use Rattle.blz_announced.proofs.Copies.{within}
+use Rattle.blz_announced.proofs.Copies.{there_at}
 use Rattle.blz_announced.proofs.NextCopies.{has_item, item_at, some_is, After, IsNext}
 
 -- ---- a range that begins alike, by a test
@@ -43,7 +43,7 @@ pub split_at : (list : List ℕ) (n at : ℕ) → at ≤ length list → IsParti
 split_at list n at bound p = record {
   within = bound;
   above = λ i x le is.
-      let lt = within list i is in
+      let lt = slice_get_within list i _ is in
       let e = p.1 i x le lt in
       let same = get_or_from_slice_get list i x x is in
       elim (cases_lt n x) [ inl above ↦ above | inr below ↦ absurd (false≢true (sym e ∙ (ap (λ (m : ℕ). leb m n) same ∙ le-leb x n below))) ];
@@ -55,12 +55,7 @@ split_at list n at bound p = record {
 
 -- ---- the first of the ranges of a keeper that begin alike
 
-pub there_at : {A : Type 0} (xs : List A) (i : ℕ) → i < length xs → (x : A) × (slice_get xs i ≡ Some x)
-there_at [] i lt = absurd (omega arith)
-there_at (x ∷ xs) zero lt = (x, refl)
-there_at (x ∷ xs) (suc i) lt = there_at xs i (omega arith)
-
-past_end : {A : Type 0} (xs : List A) (i : ℕ) → slice_get xs i ≡ None → length xs ≤ i
+pub past_end : {A : Type 0} (xs : List A) (i : ℕ) → slice_get xs i ≡ None → length xs ≤ i
 past_end xs i none = elim (cases_lt i (length xs)) [ inl lt ↦ absurd (let h = there_at xs i lt in let e = sym h.1 ∙ none in cc) | inr ge ↦ ge ]
 
 module _ (kept : List (Owned Span)) (keepers ends : List ℕ) (have : HaveKeepers kept keepers) (are : AreEnds kept keepers ends) where
@@ -157,7 +152,7 @@ module _ (kept : List (Owned Span)) (keepers ends : List ℕ) (have : HaveKeeper
     own_none zero_end some = λ q x is reached later.
         let e = end_there in
         let same = end_is e.0 e.1 in
-        let y = there_at kept 0 (let k = within kept q is in omega arith) in
+        let y = there_at kept 0 (let k = slice_get_within kept q _ is in omega arith) in
         let up = are.above unit e.0 0 y.0 e.1 y.1 (omega arith) in
         let le = some y.0 y.1 in
         omega arith
@@ -181,8 +176,8 @@ module _ (kept : List (Owned Span)) (keepers repeats : List ℕ) (are : AreRepea
         first a.keeper (subst (λ (n : ℕ). slice_get keepers n ≡ Some a.keeper) same a.repeats.row) q a.alike
   ]
 
-  pub none_left : (at : ℕ) → slice_get repeats at ≡ None → NoneAsked kept keepers repeats unit addr begin at → IsNextRepeat kept keepers unit addr begin None
-  none_left at over none = λ other q all a. let e = are.all other a.keeper a.repeats.row a.repeats.differs in none e.0 other q (let l = within repeats e.0 e.1 in let k = past_end repeats at over in omega arith) e.1 a
+  pub none_left : (at : ℕ) → length repeats ≤ at → NoneAsked kept keepers repeats unit addr begin at → IsNextRepeat kept keepers unit addr begin None
+  none_left at over none = λ other q all a. let e = are.all other a.keeper a.repeats.row a.repeats.differs in none e.0 other q (let l = slice_get_within repeats e.0 _ e.1 in omega arith) e.1 a
 
   pub none_before : (at r : ℕ) → NoneAsked kept keepers repeats unit addr begin at → slice_get repeats at ≡ Some r → NoRepeatBefore kept keepers unit addr begin r
   none_before at r none is = λ other q a.
@@ -190,7 +185,7 @@ module _ (kept : List (Owned Span)) (keepers repeats : List ℕ) (are : AreRepea
       elim (cases_lt e.0 at) [
         | inl before ↦ absurd (none e.0 other q before e.1 a)
         | inr more ↦
-            let up = are.rising at e.0 0 more (within repeats e.0 e.1) in
+            let up = are.rising at e.0 0 more (slice_get_within repeats e.0 _ e.1) in
             let x = get_or_from_slice_get repeats at r 0 is in
             let y = get_or_from_slice_get repeats e.0 other 0 e.1 in
             omega arith

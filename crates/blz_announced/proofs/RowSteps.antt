@@ -5,14 +5,14 @@ use Rattle.std.specs.List.{slice_get}
 use Rattle.std.proofs.lemmas.Bool.{cases_Bool, eq-eqb, ne_eqb}
 use Rattle.std.proofs.lemmas.List.{append-nil}
 use Rattle.std.proofs.lemmas.List.Sorted.{IsNonDecreasingBy-push, IsNonDecreasingBy-short}
-use Rattle.std.proofs.lemmas.Option.{slice_get-get_or}
+use Rattle.std.proofs.lemmas.Option.{slice_get-get_or, slice_get_within}
 use Rattle.blz_ranges.specs.declared.span.Span.{Span}
 use Rattle.blz_ranges.specs.Owned.{Owned, filled_up, own_all, owned}
 use Rattle.blz_ranges.proofs.OwnedItems.{length_filled, length_owned, owned_more}
 use Rattle.blz_ranges.proofs.ListEnds.{in_front, at_end, last_or}
 use Rattle.blz_announced.specs.declared.keepers.Keepers.{Keepers}
 use Rattle.blz_announced.specs.Copies.{Copy, KeptRanges, all_ranges, copies, copies_of, list_of, told, with_list, AreEnds, AreKeptOnce, AreRepeats, HaveKeepers, IsListOf, IsOnceMore, IsWithKeeper, IsWithUnit}
-use Rattle.blz_announced.proofs.Copies.{in_either, within, IsBehind}
+use Rattle.blz_announced.proofs.Copies.{in_either, IsBehind}
 use Rattle.blz_announced.proofs.NextCopies.{mapped, some_is}
 
 -- ---- copies of longer lists
@@ -79,7 +79,7 @@ others_more kept n spans first (k ∷ keepers) none =
 
 module _ (kept : List (Owned Span)) (keepers : List ℕ) (have : HaveKeepers kept keepers) where
   owner_below : (p : ℕ) (x : Owned Span) → slice_get kept p ≡ Some x → x.owner < length keepers
-  owner_below p x is = within keepers x.owner (have.ranges p x is)
+  owner_below p x is = slice_get_within keepers x.owner _ (have.ranges p x is)
 
   -- a unit with the keeper of another one
   again_have : (keeper : ℕ) → slice_get keepers keeper ≡ Some keeper → HaveKeepers kept (keepers ++ keeper ∷ [])
@@ -92,7 +92,7 @@ module _ (kept : List (Owned Span)) (keepers : List ℕ) (have : HaveKeepers kep
     where
       by_before : (unit other : ℕ) → (slice_get keepers unit ≡ Some other) ⊎ ((unit ≡ length keepers) × (keeper ≡ other)) → other ≤ unit
       by_before unit other (inl h) = have.before unit other h
-      by_before unit other (inr h) = let lt = within keepers keeper is in let e = h.0 in let f = h.1 in omega arith
+      by_before unit other (inr h) = let lt = slice_get_within keepers keeper _ is in let e = h.0 in let f = h.1 in omega arith
 
       by_own : (unit other : ℕ) → (slice_get keepers unit ≡ Some other) ⊎ ((unit ≡ length keepers) × (keeper ≡ other)) → slice_get (keepers ++ keeper ∷ []) other ≡ Some other
       by_own unit other (inl h) = in_front keepers (keeper ∷ []) other other (have.own unit other h)
@@ -122,7 +122,7 @@ module _ (kept : List (Owned Span)) (keepers : List ℕ) (have : HaveKeepers kep
       by_sorted : (p q : ℕ) (x y : Owned Span) → p ≤ q → (slice_get kept p ≡ Some x) ⊎ IsBehind kept (own_all (length keepers) spans) p x → (slice_get kept q ≡ Some y) ⊎ IsBehind kept (own_all (length keepers) spans) q y → x.owner ≤ y.owner
       by_sorted p q x y le (inl g) (inl h) = have.sorted p q x y le g h
       by_sorted p q x y le (inl g) (inr h) = let k = owner_below p x g in let e = own_owner (length keepers) spans h.at y h.is in omega arith
-      by_sorted p q x y le (inr g) (inl h) = absurd (let lt = within kept q h in let e = g.place in omega arith)
+      by_sorted p q x y le (inr g) (inl h) = absurd (let lt = slice_get_within kept q _ h in let e = g.place in omega arith)
       by_sorted p q x y le (inr g) (inr h) = let e = own_owner (length keepers) spans g.at x g.is in let f = own_owner (length keepers) spans h.at y h.is in omega arith
 
   -- ---- where the ranges of units end
@@ -145,7 +145,7 @@ module _ (kept : List (Owned Span)) (keepers : List ℕ) (have : HaveKeepers kep
 
       by_above : (unit stop p : ℕ) (x : Owned Span) → slice_get kept p ≡ Some x → stop ≤ p → (slice_get ends unit ≡ Some stop) ⊎ ((unit ≡ length ends) × (end ≡ stop)) → unit < x.owner
       by_above unit stop p x is le (inl h) = are.above unit stop p x h is le
-      by_above unit stop p x is le (inr h) = absurd (let k = within kept p is in let f = h.1 in omega arith)
+      by_above unit stop p x is le (inr h) = absurd (let k = slice_get_within kept p _ is in let f = h.1 in omega arith)
 
   list_ends : (ends : List ℕ) (spans : List Span) (end : ℕ) → AreEnds kept keepers ends → end ≡ length (kept ++ own_all (length keepers) spans) → AreEnds (kept ++ own_all (length keepers) spans) (keepers ++ length keepers ∷ []) (ends ++ end ∷ [])
   list_ends ends spans end are e = record {
@@ -167,8 +167,8 @@ module _ (kept : List (Owned Span)) (keepers : List ℕ) (have : HaveKeepers kep
 
       by_above : (unit stop p : ℕ) (x : Owned Span) → slice_get (kept ++ own_all (length keepers) spans) p ≡ Some x → stop ≤ p → (slice_get kept p ≡ Some x) ⊎ IsBehind kept (own_all (length keepers) spans) p x → (slice_get ends unit ≡ Some stop) ⊎ ((unit ≡ length ends) × (end ≡ stop)) → unit < x.owner
       by_above unit stop p x is le (inl g) (inl h) = are.above unit stop p x h g le
-      by_above unit stop p x is le (inr g) (inl h) = let k = own_owner (length keepers) spans g.at x g.is in let d = are.count in let f = within ends unit h in omega arith
-      by_above unit stop p x is le g (inr h) = absurd (let k = within (kept ++ own_all (length keepers) spans) p is in let f = h.1 in omega arith)
+      by_above unit stop p x is le (inr g) (inl h) = let k = own_owner (length keepers) spans g.at x g.is in let d = are.count in let f = slice_get_within ends unit _ h in omega arith
+      by_above unit stop p x is le g (inr h) = absurd (let k = slice_get_within (kept ++ own_all (length keepers) spans) p _ is in let f = h.1 in omega arith)
 
   -- ---- the units that are not their own keepers
 
@@ -189,8 +189,8 @@ module _ (kept : List (Owned Span)) (keepers : List ℕ) (have : HaveKeepers kep
       by_differ : (at unit other : ℕ) → (slice_get repeats at ≡ Some unit) ⊎ ((at ≡ length repeats) × (length keepers ≡ unit)) → (slice_get keepers unit ≡ Some other) ⊎ ((unit ≡ length keepers) × (keeper ≡ other)) → other < unit
       by_differ at unit other (inl h) (inl k) = are.differ at unit other h k
       by_differ at unit other (inl h) (inr k) = absurd (let lt = are.units at unit h in let e = k.0 in omega arith)
-      by_differ at unit other (inr h) (inl k) = absurd (let lt = within keepers unit k in let e = h.1 in omega arith)
-      by_differ at unit other (inr h) (inr k) = let lt = within keepers keeper is in let e = k.0 in let f = k.1 in omega arith
+      by_differ at unit other (inr h) (inl k) = absurd (let lt = slice_get_within keepers unit _ k in let e = h.1 in omega arith)
+      by_differ at unit other (inr h) (inr k) = let lt = slice_get_within keepers keeper _ is in let e = k.0 in let f = k.1 in omega arith
 
       by_all : (unit other : ℕ) → other < unit → (slice_get keepers unit ≡ Some other) ⊎ ((unit ≡ length keepers) × (keeper ≡ other)) → (at : ℕ) × (slice_get (repeats ++ length keepers ∷ []) at ≡ Some unit)
       by_all unit other lt (inl h) = let k = are.all unit other h lt in (k.0, in_front repeats (length keepers ∷ []) k.0 unit k.1)
@@ -227,7 +227,7 @@ module _ (kept : List (Owned Span)) (keepers : List ℕ) (have : HaveKeepers kep
   list_all : (spans : List Span) → all_ranges (kept ++ own_all (length keepers) spans) (keepers ++ length keepers ∷ []) ≡ all_ranges kept keepers ++ own_all (length keepers) spans
   list_all spans =
       let new = kept ++ own_all (length keepers) spans in
-      let before : copies new 0 keepers ≡ copies kept 0 keepers = others_more kept (length keepers) spans 0 keepers (λ k keeper is e. let le = have.before k keeper is in let lt = within keepers k is in omega arith) in
+      let before : copies new 0 keepers ≡ copies kept 0 keepers = others_more kept (length keepers) spans 0 keepers (λ k keeper is e. let le = have.before k keeper is in let lt = slice_get_within keepers k _ is in omega arith) in
       ap told (keeper_more new 0 keepers (length keepers) (length keepers) (omega arith))
       ∙ (mapped_both (λ (c : Copy). record { item = c.span; owner = c.unit }) (copies new 0 keepers) (copies_of (length keepers) (length keepers) 0 new)
       ∙ (ap (λ (l : List Copy). told l ++ told (copies_of (length keepers) (length keepers) 0 new)) before
@@ -239,7 +239,7 @@ module _ (kept : List (Owned Span)) (keepers : List ℕ) (have : HaveKeepers kep
   -- what the other keepers announce stays
   other_list : (keeper : ℕ) (spans : List Span) → slice_get keepers keeper ≡ Some keeper → list_of (kept ++ own_all (length keepers) spans) keeper ≡ list_of kept keeper
   other_list keeper spans is =
-      let lt = within keepers keeper is in
+      let lt = slice_get_within keepers keeper _ is in
       ap (map (λ (c : Copy). c.span)) (kept_more keeper keeper 0 (length kept) kept (own_all (length keepers) spans) (omega arith) ∙ (ap (λ (l : List Copy). copies_of keeper keeper 0 kept ++ l) (others_own keeper keeper (length kept) (length keepers) spans (λ e. omega arith)) ∙ append-nil (copies_of keeper keeper 0 kept)))
 
 -- ---- what is kept of them
@@ -260,7 +260,7 @@ module _ (spans : List Span) (owners : List ℕ) (k new : Keepers) (last from ke
       repeats = rw (units, repeats, is_unit) (again_repeats (owned spans owners) k.of_units.items once.are.have k.repeats.items keeper is once.are.repeats);
     };
     within = once.within;
-    own = λ some. rw units (in_front k.of_units.items (keeper ∷ []) last last (once.own (let lt = within k.of_units.items keeper is in omega arith)));
+    own = λ some. rw units (in_front k.of_units.items (keeper ∷ []) last last (once.own (let lt = slice_get_within k.of_units.items keeper _ is in omega arith)));
     list = once.list;
   }
 

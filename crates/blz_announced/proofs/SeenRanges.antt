@@ -1,6 +1,6 @@
 -- What is seen of the ranges that are kept, and the best range of a keeper.
-use Rattle.std.proofs.Common.{◌≡◌, ℕ, zero, suc, ◌+◌, ◌<◌, ◌≤◌, Bool, true, false, eqb, List, [], ◌∷◌, length, Option, Some, None, refl, sym, ap, subst, ◌∙◌, arith, inl, inr}
-use Rattle.std.specs.Prelude.{◌&&◌, nat_lt, option_map, if◌then◌else◌}
+use Rattle.std.proofs.Common.{◌≡◌, ℕ, zero, suc, ◌+◌, ◌<◌, ◌≤◌, Bool, true, false, List, [], ◌∷◌, length, Option, Some, None, refl, sym, ap, subst, ◌∙◌, arith, inl, inr}
+use Rattle.std.specs.Prelude.{option_map, if◌then◌else◌}
 use Rattle.std.specs.List.{slice_get}
 use Rattle.std.proofs.lemmas.Bool.{cases_Bool, and_parts, and_from, eqb-true, eq-eqb, lt-ltb, ltb-true, false≢true}
 use Rattle.std.proofs.lemmas.Option.{slice_get-map}
@@ -9,12 +9,12 @@ use Rattle.blz_ranges.specs.Best.{best, covers, no_span, passes, NotAfter, IsBes
 use Rattle.blz_ranges.specs.Groups.{best_in, group_is, grouped, in_group, spans_of}
 use Rattle.blz_ranges.specs.Owned.{Owned, items_of, owner_at}
 use Rattle.blz_ranges.proofs.BestOf.{best_is, best_is_best}
-use Rattle.blz_announced.specs.Copies.{begin_alike, begins_in, begun, comes_first, kept_at, no_longer, same_number, up_to, AreEnds, HaveKeepers, IsKept, IsNextOwn, IsPlaced}
+use Rattle.blz_announced.specs.Copies.{begins_in, begun, comes_first, kept_at, same_number, up_to, AreEnds, HaveKeepers, IsKept, IsNextOwn, IsPlaced}
 use Rattle.blz_announced.specs.Repeats.{IsAlike, IsFirstAlike, IsLast}
 use Rattle.blz_announced.specs.Seen.{by_owner, hidden, is_seen, seen, seen_from}
 use Rattle.blz_announced.specs.declared.announced.Asked.{Asked}
 use Rattle.blz_announced.specs.declared.announced.Place.{Place}
-use Rattle.blz_announced.proofs.NextCopies.{has_item, item_at, some_is, After, IsNext}
+use Rattle.blz_announced.proofs.NextCopies.{begins_is, comes_at, has_item, item_at, some_is, After, IsNext}
 use Rattle.blz_announced.proofs.SeenSteps.{both_first, AreAmong, FirstFrom, IsFrom}
 
 -- ---- the best range of a keeper
@@ -124,7 +124,7 @@ seen_is asked kept p y is =
     }
 
 pub no_cover : (addr : ℕ) → covers no_span addr ≡ true → ⊥
-no_cover addr t = let l : addr < 0 = ltb-true addr 0 (and_parts _ _ t).1 in omega arith
+no_cover addr t = let none : addr < 0 → ⊥ = λ lt. omega arith in none (ltb-true addr 0 (and_parts _ _ t).1)
 
 -- what covers an address there is kept as it is seen
 pub record IsThere (asked : Asked) (kept : List (Owned Span)) (p : ℕ) (y : Owned Span) : Type 0 where
@@ -219,21 +219,18 @@ module _ (asked : Asked) (kept : List (Owned Span)) (once : asked.once ≡ true)
   pub alike_none : (keeper begin : ℕ) → best_in (by_owner kept) keeper asked.addr ≡ None → IsFirstAlike (seen asked kept) keeper asked.addr begin None
   alike_none keeper begin e = λ q a. let k = sym e ∙ seen_alike keeper begin q a in absurd cc
 
-  begins_is : (p begin : ℕ) (x : Owned Span) → slice_get kept p ≡ Some x → begins_in kept begin p ≡ eqb x.item.begin begin
-  begins_is p begin x is = ap (λ (o : Option Span). begin_alike o (Some (no_longer begin))) (item_at kept p is)
-
   pub alike_here : (keeper begin p : ℕ) → best_in (by_owner kept) keeper asked.addr ≡ Some p → begins_in kept begin p ≡ true → IsFirstAlike (seen asked kept) keeper asked.addr begin (Some p)
   alike_here keeper begin p e t =
       let b : IsBestOf kept keeper asked.addr p = best_of_keeper kept keeper asked.addr (Some p) e in
       let is = seen_itself asked kept p b.own.is (best_seen p keeper b.span b.own.is e) in
-      let begins : b.span.begin ≡ begin = eqb-true b.span.begin begin (sym (begins_is p begin (record { item = b.span; owner = keeper }) b.own.is) ∙ t) in
+      let begins : b.span.begin ≡ begin = eqb-true b.span.begin begin (sym (begins_is kept begin p (item_at kept p b.own.is)) ∙ t) in
       (record { span = b.span; is = is; begins = begins; reached = b.own.reached }, λ q a. let same : p ≡ q = some_is (sym e ∙ seen_alike keeper begin q a) in omega arith)
 
   pub alike_other : (keeper begin p : ℕ) → best_in (by_owner kept) keeper asked.addr ≡ Some p → begins_in kept begin p ≡ false → IsFirstAlike (seen asked kept) keeper asked.addr begin None
   alike_other keeper begin p e f = λ q a.
       let h = seen_there asked kept asked.addr q a.is a.reached in
       let same : q ≡ p = some_is (sym (seen_best q keeper a.span h.is h.seen) ∙ e) in
-      let t = begins_is q begin (record { item = a.span; owner = keeper }) h.is ∙ eq-eqb a.span.begin begin a.begins in
+      let t = begins_is kept begin q (item_at kept q h.is) ∙ eq-eqb a.span.begin begin a.begins in
       false≢true (sym f ∙ subst (λ (n : ℕ). begins_in kept begin n ≡ true) same t)
 
 -- ---- the best of all is seen
@@ -276,14 +273,11 @@ pub begun_seen : (asked : Asked) (kept : List (Owned Span)) (o : Option ℕ) →
 begun_seen asked kept None = refl
 begun_seen asked kept (Some p) = ap (λ (k : Option ℕ). kept_at k p) (owner_seen asked kept p)
 
-comes_at : (kept : List (Owned Span)) (begin unit p : ℕ) (x : Owned Span) → slice_get kept p ≡ Some x → comes_first kept begin unit (Some p) ≡ (nat_lt x.owner unit && eqb x.item.begin begin)
-comes_at kept begin unit p x is = rw (item_at kept p is, ap (option_map (λ (y : Owned Span). y.owner)) is) refl
-
 pub comes_seen : (asked : Asked) (kept : List (Owned Span)) (from begin unit : ℕ) (o : Option ℕ) → IsNextOwn (seen asked kept) from asked.addr begin o → comes_first (seen asked kept) begin unit o ≡ comes_first kept begin unit o
 comes_seen asked kept from begin unit None own = refl
 comes_seen asked kept from begin unit (Some p) own =
     let h = seen_there asked kept asked.addr p own.is own.reached in
-    comes_at (seen asked kept) begin unit p own.range own.is ∙ sym (comes_at kept begin unit p own.range h.is)
+    comes_at (seen asked kept) begin unit p own.is ∙ sym (comes_at kept begin unit p h.is)
 
 -- a place that is seen has its range among all that are kept
 pub placed_kept : (asked : Asked) (kept : List (Owned Span)) (keepers : List ℕ) (at : Place) (w : IsPlaced (seen asked kept) keepers asked.addr at) → IsKept kept at.place w.span w.keeper
@@ -343,14 +337,14 @@ module _ (asked : Asked) (kept : List (Owned Span)) (keepers : List ℕ) (have :
     | inl t ↦
         let x = has_item kept p h.at in
         let y = has_item kept q (among_kept asked kept q h.first.span h.first.at h.first.reached) in
-        let both = and_parts _ _ (sym (comes_at kept begin unit q (record { item = h.first.span; owner = y.keeper }) y.is) ∙ t) in
+        let both = and_parts _ _ (sym (comes_at kept begin unit q y.is) ∙ t) in
         let lt = ltb-true y.keeper unit both.0 in
         let begins = eqb-true h.first.span.begin begin both.1 in
         let below = h.first.behind.below in
         let same : h.first.span.begin ≡ h.span.begin = omega arith in
         let le = h.first.behind.tie same in
         let up = have.sorted p q (record { item = h.span; owner = x.keeper }) (record { item = h.first.span; owner = y.keeper }) le x.is y.is in
-        absurd (false≢true (sym f ∙ (comes_at kept begin unit p (record { item = h.span; owner = x.keeper }) x.is ∙ and_from _ _ (lt-ltb x.keeper unit (omega arith)) (eq-eqb h.span.begin begin (omega arith)))))
+        absurd (false≢true (sym f ∙ (comes_at kept begin unit p x.is ∙ and_from _ _ (lt-ltb x.keeper unit (omega arith)) (eq-eqb h.span.begin begin (omega arith)))))
     | inr g ↦ g
   ]
 

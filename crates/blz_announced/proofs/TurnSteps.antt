@@ -6,7 +6,8 @@ use Rattle.std.proofs.lemmas.Bool.{eq-eqb, ne_eqb}
 use Rattle.blz_ranges.specs.declared.span.Span.{Span}
 use Rattle.blz_announced.specs.declared.announced.Place.{Place}
 use Rattle.blz_announced.specs.declared.units_at.Turn.{Turn}
-use Rattle.blz_announced.specs.Copies.{Announced, Copy, announced_all, announced_copies, full_place, told, IsPlaced, StandsFor}
+use Rattle.blz_announced.specs.Copies.{Announced, announced_all, announced_copies, full_place, IsPlaced, StandsFor}
+use Rattle.blz_announced.proofs.NextCopies.{owner_told}
 use Rattle.blz_announced.proofs.Copies.{are_copies, copy_place}
 use Rattle.blz_announced.specs.Announced.{Announcing, Left, All, Behind, Nothing, behind, left_behind, is_first, left_at, places_left, turn_behind, turn_place, unit_at, units_left, IsCovering, IsLeft, IsPlacedTurn, IsTurn}
 use Rattle.blz_ranges.specs.Best.{best, next}
@@ -134,17 +135,12 @@ left_after : (a : Announced) (at : Option Place) (o : Option ℕ) → option_map
 left_after a None o e = ap left_behind e
 left_after a (Some at) o e = ap left_behind e
 
-owner_told : (list : List Copy) (q : ℕ) (c : Copy) → slice_get list q ≡ Some c → owner_at (told list) q ≡ Some c.unit
-owner_told [] q c e = absurd cc
-owner_told (d ∷ list) zero c e = let same : d ≡ c = cc in ap (λ (x : Copy). Some x.unit) same
-owner_told (d ∷ list) (suc q) c e = owner_told list q c e
-
 placed_unit : (a : Announced) (addr : ℕ) (at : Place) → IsPlaced a.kept.ranges a.keepers addr at → owner_at (announced_all a).ranges (full_place (announced_copies a) at) ≡ Some at.unit
 placed_unit a addr at w =
     let are = are_copies a.kept.ranges a.keepers in
     let there = are.there at.unit w.keeper at.place w.span w.row w.is in
     let place = copy_place a.kept.ranges a.keepers (announced_copies a) there.at (record { unit = at.unit; place = at.place; span = w.span }) are there.is in
-    owner_told (announced_copies a) (full_place (announced_copies a) at) (record { unit = at.unit; place = at.place; span = w.span }) (subst (λ (n : ℕ). slice_get (announced_copies a) n ≡ Some (record { unit = at.unit; place = at.place; span = w.span })) (sym place) there.is)
+    owner_told (announced_copies a) (full_place (announced_copies a) at) (subst (λ (n : ℕ). slice_get (announced_copies a) n ≡ Some (record { unit = at.unit; place = at.place; span = w.span })) (sym place) there.is)
 
 unit_by : (a : Announced) (addr : ℕ) (at : Option Place) (o : Option ℕ) → StandsFor a addr at o → unit_at at ≡ owner_of (announced_all a).ranges o
 unit_by a addr None o s = ap (owner_of (announced_all a).ranges) s.is

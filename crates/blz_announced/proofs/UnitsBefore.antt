@@ -3,7 +3,7 @@ use Rattle.std.proofs.Common.{◌≡◌, ℕ, ◌<◌, ◌≤◌, Bool, true, Li
 use Rattle.std.specs.Prelude.{option_map, unwrap_or}
 use Rattle.std.specs.List.{slice_get}
 use Rattle.std.proofs.lemmas.Bool.{and_parts, and_from, eqb-true, eq-eqb, le-leb, lt-ltb, ltb-true}
-use Rattle.std.proofs.lemmas.Option.{get_or_from_slice_get, slice_get-map}
+use Rattle.std.proofs.lemmas.Option.{get_or_from_slice_get, slice_get-map, slice_get_within}
 use Rattle.blz_ranges.specs.declared.grouped.Grouped.{Grouped}
 use Rattle.blz_ranges.specs.declared.span.Span.{Span}
 use Rattle.blz_ranges.specs.Best.{passes, IsBest, IsBestAt}
@@ -11,9 +11,8 @@ use Rattle.blz_ranges.specs.Groups.{best_in, group_is, in_group, spans_of}
 use Rattle.blz_ranges.proofs.BestOf.{best_is_best}
 use Rattle.blz_announced.specs.Copies.{AreRepeats}
 use Rattle.blz_announced.specs.Repeats.{repeats_by_keeper, units_before, IsNextOf, IsRepeatOf}
-use Rattle.blz_announced.proofs.Copies.{within}
+use Rattle.blz_announced.proofs.Copies.{there_at}
 use Rattle.blz_announced.proofs.NextCopies.{mapped, some_is}
-use Rattle.blz_announced.proofs.RepeatSteps.{there_at}
 
 module _ (keepers repeats : List ℕ) (are : AreRepeats keepers repeats) (keeper unit : ℕ) where
   abbrev groups : List Grouped
@@ -52,9 +51,9 @@ module _ (keepers repeats : List ℕ) (are : AreRepeats keepers repeats) (keeper
       let k = there_at keepers r.0 (are.units at r.0 r.1) in
       let own : k.0 ≡ keeper = sym (keeper_is r.0 k.0 k.1) ∙ eqb-true (units_before keepers r.0).group keeper (sym (test_is at r.0 r.1) ∙ both.0) in
       let end : r.0 ≡ s.end = ap (λ (x : Grouped). x.span.end) r.2 ∙ ap (λ (x : Span). x.end) g.2 in
-      let below : unit < s.end = ltb-true unit s.end (and_parts _ _ both.1).1 in
+      let later : unit < s.end → unit < r.0 = λ lt. omega arith in
       let row = k.1 ∙ ap (λ (n : ℕ). Some n) own in
-      record { other = r.0; is = r.1; repeat = record { later = omega arith; row = row; differs = are.differ at r.0 keeper r.1 row } }
+      record { other = r.0; is = r.1; repeat = record { later = later (ltb-true unit s.end (and_parts _ _ both.1).1); row = row; differs = are.differ at r.0 keeper r.1 row } }
 
   repeat_at : (other : ℕ) → IsRepeatOf keepers keeper unit other → (at : ℕ) × (slice_get repeats at ≡ Some other)
   repeat_at other r = are.all other keeper r.row r.differs
@@ -69,7 +68,7 @@ module _ (keepers repeats : List ℕ) (are : AreRepeats keepers repeats) (keeper
           let e = repeat_at other r in
           let k = b.first e.0 (record { begin = 0; end = other }) (span_at e.0 other e.1) (repeat_passes e.0 other e.1 r) in
           let begin : b.span.begin ≡ 0 = ap (λ (s : Span). s.begin) (some_is (sym b.at ∙ span_at at u.other u.is)) in
-          let up = are.rising at e.0 0 (k.tie (sym begin)) (within repeats e.0 e.1) in
+          let up = are.rising at e.0 0 (k.tie (sym begin)) (slice_get_within repeats e.0 _ e.1) in
           let x = get_or_from_slice_get repeats at u.other 0 u.is in
           let y = get_or_from_slice_get repeats e.0 other 0 e.1 in
           omega arith

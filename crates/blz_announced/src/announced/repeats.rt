@@ -158,8 +158,8 @@ impl Announced {
         }
     }
 
-    /// Asks the next of these units one after the other. They are as many as the root of the number of all: of n units and
-    /// m ranges that begin alike, no more than the root of n times all m are gone through.
+    /// Asks the next of these units one after the other, as many as the root of the number of all. So where n of them stand
+    /// behind a unit, all ranges that begin there are gone through no more often than the root of n.
     pub(crate) fn near_repeat<L: Ledger>(
         &self,
         asked: Asked,
@@ -172,6 +172,9 @@ impl Announced {
     {
         let repeats = self.keepers.repeats.as_slice();
         let from = self.keepers.repeats_to(unit);
+        if from == repeats.len() {
+            return Near::NoneLeft;
+        }
         let end = from + (repeats.len() - from).min(repeats.len().isqrt());
         for at in from..end {
             let repeat = repeats[at];

@@ -3,8 +3,17 @@ use Rattle.std.proofs.lemmas.Option.{slice_get-get_or}
 use Rattle.blz_announced.specs.Asking.{ranges_seen}
 use Rattle.blz_announced.specs.Copies.{AreRepeats, IsSplitAt}
 use Rattle.blz_announced.proofs.Parts.{parts}
-use Rattle.blz_announced.proofs.RepeatSteps.{none_before, none_from, none_left, none_more, repeat_found}
+use Rattle.blz_announced.proofs.RepeatSteps.{none_before, none_from, none_left, none_more, past_end, repeat_found}
 use Rattle.blz_announced.proofs.announced.Announced.near_repeat.Goals as goal
+
+pub returns-then-from-repeats-clause-near : goal.returns-then-from-repeats-clause-near
+returns-then-from-repeats-clause-near g c =
+    let a = c.args.self.now in
+    let repeats = c.as_slice-repeats.result.now in
+    let from = c.repeats_to-from.result in
+    let are : AreRepeats a.keepers repeats = rw c.as_slice-repeats.ensures.value (parts c.self.invariant c.self.view_is).repeats in
+    let split : IsSplitAt repeats c.args.unit from = rw c.as_slice-repeats.ensures.value c.repeats_to-from.ensures in
+    none_left (ranges_seen c.args.asked a) a.keepers repeats are c.args.unit c.args.asked.addr c.args.begin from split from (omega (arith, c.if-from-repeats.true)) (none_from (ranges_seen c.args.asked a) a.keepers repeats are c.args.unit c.args.asked.addr c.args.begin from split)
 
 pub loop-at-init : goal.loop-at-init
 loop-at-init g c =
@@ -59,4 +68,4 @@ pub returns-in-None-clause-near : goal.returns-in-None-clause-near
 returns-in-None-clause-near g c =
     let l = c.loop-at in
     let end : c.repeats_to-from.result + c.min.result ≡ l.at = omega arith in
-    none_left (ranges_seen c.args.asked c.args.self.now) c.args.self.now.keepers c.as_slice-repeats.result.now l.invariant.are c.args.unit c.args.asked.addr c.args.begin c.repeats_to-from.result l.invariant.split l.at (rw end at (sym c.number_at.ensures ∙ c.in-None.is)) l.invariant.none
+    none_left (ranges_seen c.args.asked c.args.self.now) c.args.self.now.keepers c.as_slice-repeats.result.now l.invariant.are c.args.unit c.args.asked.addr c.args.begin c.repeats_to-from.result l.invariant.split l.at (past_end c.as_slice-repeats.result.now l.at (rw end at (sym c.number_at.ensures ∙ c.in-None.is))) l.invariant.none

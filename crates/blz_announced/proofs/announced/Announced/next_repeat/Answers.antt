@@ -1,8 +1,8 @@
 use Rattle.std.proofs.Common.{arith}
+use Rattle.std.proofs.lemmas.Option.{slice_get_within}
 use Rattle.blz_announced.specs.Repeats.{IsBegunAt}
 use Rattle.blz_announced.specs.Seen.{seen}
 use Rattle.blz_announced.proofs.BegunSteps.{alike_kept, first_all, first_on}
-use Rattle.blz_announced.proofs.Copies.{within}
 use Rattle.blz_announced.proofs.announced.Announced.next_repeat.Goals as goal
 
 pub returns-in_default-clause-next : goal.returns-in_default-clause-next
@@ -22,6 +22,6 @@ pub loop-next-smaller : goal.loop-next-smaller
 loop-next-smaller g c =
     let a = c.args.self.now in
     let n : IsBegunAt a.kept.ranges c.args.asked.addr c.args.begin c.loop-next.place c.in-Some.next = rw c.in-Some.is at c.next_begun.ensures.next in
-    let lt = within a.kept.ranges c.in-Some.next n.alike.is in
+    let lt = slice_get_within a.kept.ranges c.in-Some.next _ n.alike.is in
     let behind = n.behind in
     omega arith
