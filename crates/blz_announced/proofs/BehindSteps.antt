@@ -11,12 +11,15 @@ use Rattle.blz_announced.specs.declared.announced.Asked.{Asked}
 use Rattle.blz_announced.specs.declared.announced.Place.{Place}
 use Rattle.blz_announced.specs.declared.announced.repeats.Near.{Near}
 use Rattle.blz_announced.specs.declared.announced.repeats.Near.TheVariants.{Found, NoneBefore, NoneLeft}
-use Rattle.blz_announced.proofs.PlaceSteps.{first_owner, own_behind, own_first, repeat_first}
+use Rattle.blz_announced.proofs.PlaceSteps.{behind_by, first_owner, IsBehindUnit}
 use Rattle.blz_announced.proofs.SeenRanges.{begun_seen, comes_seen}
 
 module _ (asked : Asked) (a : Announced) (at : Place) (begin : ℕ) (ends : EndsUnit asked a at begin) where
   pub first_up_to : FirstIsUpTo asked a at.unit
   first_up_to = first_owner (seen_by asked a) ends.have asked.addr at ends.placed
+
+  by : IsBehindUnit (seen_by asked a) ends.have asked.addr at ends.placed begin
+  by = behind_by (seen_by asked a) ends.have asked.addr at ends.placed begin ends.begins ends.last
 
   abbrev IsUpTo : Option ℕ → Option ℕ → Type 0
   IsUpTo bound found = IsOwnUpTo asked a at.unit begin bound found
@@ -36,9 +39,9 @@ module _ (asked : Asked) (a : Announced) (at : Place) (begin : ℕ) (ends : Ends
   as_begun o found e h = subst (λ (p : Option ℕ). Behind (begun a.kept.ranges p)) (sym e) (subst Behind (begun_seen asked a.kept.ranges o) h)
 
   own_up_to : (bound : Option ℕ) → NoneUpTo bound → (found : Option ℕ) (p : ℕ) → IsUpTo bound found → found ≡ Some p → Behind (begun a.kept.ranges found)
-  own_up_to None none found p u e = as_begun u.own found u.up_to_it (own_behind (seen_by asked a) ends.have asked.addr at ends.placed begin ends.begins ends.last u.own u.is none)
+  own_up_to None none found p u e = as_begun u.own found u.up_to_it (by.own u.own u.is none)
   own_up_to (Some bound) none found p u e = elim (cases_Bool (comes_first a.kept.ranges begin bound u.own)) [
-    | inl t ↦ as_begun u.own found (rw t at u.up_to_it) (own_first (seen_by asked a) ends.have asked.addr at ends.placed begin ends.begins ends.last u.own u.is bound none (comes_seen asked a.kept.ranges at.unit begin bound u.own u.is ∙ t))
+    | inl t ↦ as_begun u.own found (rw t at u.up_to_it) (by.own_first u.own u.is bound none (comes_seen asked a.kept.ranges at.unit begin bound u.own u.is ∙ t))
     | inr f ↦ absurd (let k = sym (rw f at u.up_to_it) ∙ e in cc)
   ]
 
@@ -56,8 +59,8 @@ module _ (asked : Asked) (a : Announced) (at : Place) (begin : ℕ) (ends : Ends
   comes_there unit o t e = false≢true (sym (ap (comes_first a.kept.ranges begin unit) e) ∙ t)
 
   pub repeat_up_to : (repeat : Option Place) → Repeats repeat → (found : Option ℕ) → IsUpTo (unit_at repeat) found → found ≡ None → Behind repeat
-  repeat_up_to None r found u e = subst (λ (o : Option ℕ). Behind (begun (ranges_seen asked a) o)) (sym u.up_to_it ∙ e) (own_behind (seen_by asked a) ends.have asked.addr at ends.placed begin ends.begins ends.last u.own u.is r)
+  repeat_up_to None r found u e = subst (λ (o : Option ℕ). Behind (begun (ranges_seen asked a) o)) (sym u.up_to_it ∙ e) (by.own u.own u.is r)
   repeat_up_to (Some repeat) r found u e = elim (cases_Bool (comes_first a.kept.ranges begin repeat.unit u.own)) [
     | inl t ↦ absurd (comes_there repeat.unit u.own t (sym (rw t at u.up_to_it) ∙ e))
-    | inr f ↦ repeat_first (seen_by asked a) ends.have asked.addr at ends.placed begin ends.begins ends.last u.own u.is repeat r (comes_seen asked a.kept.ranges at.unit begin repeat.unit u.own u.is ∙ f)
+    | inr f ↦ by.repeat u.own u.is repeat r (comes_seen asked a.kept.ranges at.unit begin repeat.unit u.own u.is ∙ f)
   ]

@@ -148,16 +148,22 @@ module _ (a : Announced) (rows : HaveKeepers a.kept.ranges a.keepers) (addr : �
         let le = rows.before at.unit w.keeper w.row in
         omega arith
 
+    abbrev Next : Option Place → Type 0
+    Next found = Stands found (next all addr (full_place list at))
+
+    -- what is next, by what was found of the ranges that begin at a number or below it
+    pub record IsBehindUnit (begin : ℕ) : Type 0 where
+      pub own : (o : Option ℕ) → IsNextOwn kept at.unit addr begin o → IsNextRepeat kept a.keepers at.unit addr begin None → Next (begun kept o)
+      pub own_first : (o : Option ℕ) → IsNextOwn kept at.unit addr begin o → (bound : ℕ) → NoRepeatBefore kept a.keepers at.unit addr begin bound → comes_first kept begin bound o ≡ true → Next (begun kept o)
+      pub repeat : (o : Option ℕ) → IsNextOwn kept at.unit addr begin o → (r : Place) → IsNextRepeat kept a.keepers at.unit addr begin (Some r) → comes_first kept begin r.unit o ≡ false → Next (Some r)
+
     -- by the begin as it was read
-    module _ (begin : ℕ) (is_begin : w.span.begin ≡ begin) where
-      pub own_behind : IsLast kept addr begin at.place → (o : Option ℕ) → IsNextOwn kept at.unit addr begin o → IsNextRepeat kept a.keepers at.unit addr begin None → Stands (begun kept o) (next all addr (full_place list at))
-      own_behind = subst (λ (b : ℕ). IsLast kept addr b at.place → (o : Option ℕ) → IsNextOwn kept at.unit addr b o → IsNextRepeat kept a.keepers at.unit addr b None → Stands (begun kept o) (next all addr (full_place list at))) is_begin (λ last o own repeat. own_stands last o own repeat)
-
-      pub own_first : IsLast kept addr begin at.place → (o : Option ℕ) → IsNextOwn kept at.unit addr begin o → (bound : ℕ) → NoRepeatBefore kept a.keepers at.unit addr begin bound → comes_first kept begin bound o ≡ true → Stands (begun kept o) (next all addr (full_place list at))
-      own_first = subst (λ (b : ℕ). IsLast kept addr b at.place → (o : Option ℕ) → IsNextOwn kept at.unit addr b o → (bound : ℕ) → NoRepeatBefore kept a.keepers at.unit addr b bound → comes_first kept b bound o ≡ true → Stands (begun kept o) (next all addr (full_place list at))) is_begin (λ last o own bound none e. own_first_stands last o own bound none e)
-
-      pub repeat_first : IsLast kept addr begin at.place → (o : Option ℕ) → IsNextOwn kept at.unit addr begin o → (r : Place) → IsNextRepeat kept a.keepers at.unit addr begin (Some r) → comes_first kept begin r.unit o ≡ false → Stands (Some r) (next all addr (full_place list at))
-      repeat_first = subst (λ (b : ℕ). IsLast kept addr b at.place → (o : Option ℕ) → IsNextOwn kept at.unit addr b o → (r : Place) → IsNextRepeat kept a.keepers at.unit addr b (Some r) → comes_first kept b r.unit o ≡ false → Stands (Some r) (next all addr (full_place list at))) is_begin (λ last o own r repeat e. repeat_stands last o own r repeat e)
+    pub behind_by : (begin : ℕ) → w.span.begin ≡ begin → IsLast kept addr begin at.place → IsBehindUnit begin
+    behind_by begin is_begin = subst (λ (b : ℕ). IsLast kept addr b at.place → IsBehindUnit b) is_begin (λ last. record {
+      own = own_stands last;
+      own_first = own_first_stands last;
+      repeat = repeat_stands last;
+    })
 
 -- ---- looks
 
