@@ -11,7 +11,7 @@ use Rattle.blz_ranges.specs.Owned.{Owned, filled_up, own_all, owned}
 use Rattle.blz_ranges.proofs.OwnedItems.{length_filled, length_owned, owned_more}
 use Rattle.blz_ranges.proofs.ListEnds.{in_front, at_end, last_or}
 use Rattle.blz_announced.specs.declared.keepers.Keepers.{Keepers}
-use Rattle.blz_announced.specs.Copies.{Copy, KeptRanges, all_ranges, copies, copies_of, list_of, told, with_list, AreEnds, AreKeptOnce, AreRepeats, HaveKeepers, IsListOf, IsOnceMore, IsWithKeeper, IsWithUnit}
+use Rattle.blz_announced.specs.Copies.{Copy, KeptRanges, all_ranges, copies, copies_of, kept_of, list_of, told, with_list, AreEnds, AreKeptOnce, AreRepeats, HaveKeepers, IsListOf, IsOnceMore, IsWithKeeper, IsWithUnit}
 use Rattle.blz_announced.proofs.Copies.{in_either, IsBehind}
 use Rattle.blz_announced.proofs.NextCopies.{mapped, some_is}
 
@@ -322,16 +322,16 @@ module _ (spans new all : List Span) (owners more : List ℕ) (k next : Keepers)
       }
 
   abbrev view : KeptRanges
-  view = record { ranges = owned spans owners; keepers = k.of_units.items }
+  view = kept_of spans owners k.of_units.items
 
-  put_view : record { ranges = owned all more; keepers = next.of_units.items } ≡ with_list view new
+  put_view : kept_of all more next.of_units.items ≡ with_list view new
   put_view = rw (more_owned, units, is_unit) refl
 
-  pub put_unit : IsWithUnit view new (record { ranges = owned all more; keepers = next.of_units.items })
-  put_unit = subst (IsWithUnit view new) (sym put_view) (list_unit view once.are.have new)
-
-  pub put_list : IsListOf (record { ranges = owned all more; keepers = next.of_units.items }) new (Some (length k.of_units.items))
-  put_list = subst (λ (v : KeptRanges). IsListOf v new (Some (length k.of_units.items))) (sym put_view) (is_own, own_list (owned spans owners) k.of_units.items once.are.have new)
+  pub put_list : IsWithKeeper view new (kept_of all more next.of_units.items, Some (length k.of_units.items))
+  put_list = subst (λ (v : KeptRanges). IsWithKeeper view new (v, Some (length k.of_units.items))) (sym put_view) (record {
+    with_unit = list_unit view once.are.have new;
+    list = (is_own, own_list (owned spans owners) k.of_units.items once.are.have new);
+  })
 
 pub none_kept : (k : Keepers) → k.of_units.items ≡ [] → k.ends.items ≡ [] → k.repeats.items ≡ [] → AreKeptOnce [] [] k 0 0
 unfolding copies_of

@@ -118,6 +118,10 @@ pub record KeptRanges : Type 0 where
   pub ranges : List (Owned Span)
   pub keepers : List ℕ
 
+-- the same by its parts
+abbrev pub kept_of : List Span → List ℕ → List ℕ → KeptRanges
+kept_of spans owners keepers = record { ranges = owned spans owners; keepers = keepers }
+
 abbrev pub all_kept : KeptRanges → List (Owned Span)
 all_kept k = all_ranges k.ranges k.keepers
 

@@ -3,7 +3,7 @@ ghost use Rattle.std.specs.Prelude.{◌≡◌, ◌<◌, [], length, IfOk, IfSome
 ghost use Rattle.std.specs.Bool.{OnTrue};
 ghost use Rattle.std.specs.List.{slice_get};
 ghost use Rattle.blz_ranges.specs.Owned.{owned};
-ghost use Rattle.blz_announced.specs.Copies.{AreKeepers, IsListOf, IsOnceMore, IsWithKeeper, IsWithUnit};
+ghost use Rattle.blz_announced.specs.Copies.{AreKeepers, IsListOf, IsOnceMore, IsWithKeeper};
 
 use crate::keepers::Keepers;
 use blz_ranges::{Span, own};
@@ -24,13 +24,11 @@ pub struct KeptRanges {
 }
 
 impl Model for KeptRanges {
-    ghost use Rattle.std.specs.Prelude.{◌≡◌, length};
-    ghost use Rattle.blz_ranges.specs.Owned.{owned};
-    ghost use Rattle.blz_announced.specs.Copies.{KeptRanges, AreKeptOnce};
+    ghost use Rattle.blz_announced.specs.Copies.{kept_of, AreKeptOnce, KeptRanges};
 
     ghost Value = { KeptRanges };
 
-    ghost view = { λ k. record { ranges = owned k.spans.items k.owners.items; keepers = k.keepers.of_units.items } };
+    ghost view = { λ k. kept_of k.spans.items k.owners.items k.keepers.of_units.items };
 
     ghost invariant = { λ k. AreKeptOnce k.spans.items k.owners.items k.keepers k.last k.from };
 }
@@ -91,8 +89,7 @@ impl KeptRanges {
 
     /// One unit more, with ranges of its own.
     fn with_list(mut self, spans: &[Span]) -> Result<KeptRanges, AllocError>
-        ensures unit { IfOk result (IsWithUnit self spans.now) }
-        ensures keeper { IfOk result (λ k. IsListOf k spans.now (Some (length self.keepers))) }
+        ensures { IfOk result (λ k. IsWithKeeper self spans.now (k, Some (length self.keepers))) }
     {
         let unit = self.keepers.of_units.len();
         let from = self.spans.len();

@@ -7,4 +7,4 @@ pub returns-then-is_some : goal.returns-then-is_some
 returns-then-is_some c = known_unit c.args.self c.in_ok-ranges.ranges c.args.spans.now c.keeper_of-known.result c.keeper_of-known.ensures (sym c.is_some.ensures ∙ c.if-is_some.true) c.in_ok-ranges.ensures
 
 pub returns-then-is_empty : goal.returns-then-is_empty
-returns-then-is_empty c = none_unit c.args.self c.in_ok-ranges-2.ranges c.args.spans.now c.in_ok-ranges-2.ensures.unit (eqb-true _ 0 (sym c.is_empty.ensures ∙ c.if-is_empty.true))
+returns-then-is_empty c = none_unit c.args.self c.in_ok-ranges-2.ranges c.args.spans.now c.in_ok-ranges-2.ensures.with_unit (eqb-true _ 0 (sym c.is_empty.ensures ∙ c.if-is_empty.true))
