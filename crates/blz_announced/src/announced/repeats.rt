@@ -11,7 +11,7 @@ use blz_ranges::{Grouped, Span, number_at};
 use std::alloc::{AllocError, Global};
 use std::sync::ledger::Ledger;
 
-/// What the next few units tell that are not their own keepers.
+/// What the next of the units tell that are not their own keepers.
 #[derive(Clone, Copy)]
 pub enum Near {
     /// This is the first that has a range that begins alike.
