@@ -50,12 +50,37 @@ def one_range_list_of_calls_within_one_another_and_beside_others(n):
     return calls_of_tails(pairs(n), [0] * n, 1, 1)
 
 
+def calls_of_each_function(lists, offsets):
+    """Functions, each with calls that name the lists at some offsets within others."""
+    shapes = {ROOT: lined_root(), OUTER: subprogram(RANGE, 1), CALL: Abbreviation(DW_TAG_INLINED_SUBROUTINE, 0, RANGES)}
+    data, first = range_lists(lists + b"\0")
+    begins = [BASE + 4 * k for k in range(len(offsets))]
+    calls = [b"".join(entry(shapes, CALL, first + offset) for offset in named) for named in offsets]
+    below = b"".join(entry(shapes, OUTER, begin, 4) + each + b"\0" for begin, each in zip(begins, calls))
+    return Attack(one_lined_unit(shapes, below, rnglists=data), begins)
+
+
 @shape
 def one_range_list_of_a_call_of_each_function(n):
-    shapes = {ROOT: lined_root(), OUTER: subprogram(RANGE, 1), CALL: Abbreviation(DW_TAG_INLINED_SUBROUTINE, 0, RANGES)}
-    data, first = range_lists(pairs(n) + b"\0")
-    below = b"".join(entry(shapes, OUTER, BASE + 4 * k, 4) + entry(shapes, CALL, first) + b"\0" for k in range(n))
-    return Attack(one_lined_unit(shapes, below, rnglists=data), [BASE + 4 * k for k in range(n)])
+    return calls_of_each_function(pairs(n), [[0]] * n)
+
+
+@shape
+def two_range_lists_of_a_call_of_each_function_in_turn(n):
+    one = pairs(n) + b"\0"
+    return calls_of_each_function(one + pairs(n), [[0], [len(one)]] * n)
+
+
+@shape
+def two_range_lists_of_calls_of_each_function(n):
+    one = pairs(n) + b"\0"
+    return calls_of_each_function(one + pairs(n), [[0, len(one)]] * n)
+
+
+@shape
+def tails_of_a_range_list_of_a_call_of_each_function(n):
+    lists = pairs_of_a_size(n)
+    return calls_of_each_function(b"".join(lists), [[begin] for begin in begins_of(lists)])
 
 
 @shape
