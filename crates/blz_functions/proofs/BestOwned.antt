@@ -149,20 +149,20 @@ module _ {A : Type 0} (span : A → Span) where
       ap (λ (n : ℕ). owner_at list n) e
       ∙ (ap (λ (x : Option (Owned A)). option_map (λ (y : Owned A). y.owner) x) h.is ∙ ap (λ (y : Owned Span). Some y.owner) h.item_is)
 
-abbrev itself : Span → Span
+abbrev pub itself : Span → Span
 itself s = s
 
-found : (at addr : ℕ) (list : List (Owned Span)) → IsFound itself at list (best_by (λ n s. covers s addr) at (items_of list)) (best_owned list addr)
+pub found_span : (at addr : ℕ) (list : List (Owned Span)) → IsFound itself at list (best_by (λ n s. covers s addr) at (items_of list)) (best_owned list addr)
 unfolding best_by best_owned
-found at addr [] = tt
-found at addr (x ∷ list) =
+found_span at addr [] = tt
+found_span at addr (x ∷ list) =
     elim (cases_Bool (covers x.item addr)) [
-      | inl t ↦ rw t (found_better itself at x list (best_by (λ n s. covers s addr) (at + 1) (items_of list)) (best_owned list addr) (found (at + 1) addr list))
-      | inr f ↦ rw f (found_behind itself at x list (best_by (λ n s. covers s addr) (at + 1) (items_of list)) (best_owned list addr) (found (at + 1) addr list))
+      | inl t ↦ rw t (found_better itself at x list (best_by (λ n s. covers s addr) (at + 1) (items_of list)) (best_owned list addr) (found_span (at + 1) addr list))
+      | inr f ↦ rw f (found_behind itself at x list (best_by (λ n s. covers s addr) (at + 1) (items_of list)) (best_owned list addr) (found_span (at + 1) addr list))
     ]
 
 pub owner_of_best : (list : List (Owned Span)) (addr : ℕ) → best_owner list addr ≡ option_map (λ (o : Owned Span). o.owner) (best_owned list addr)
-owner_of_best list addr = found_owner itself list (best_by (λ n s. covers s addr) 0 (items_of list)) (best_owned list addr) (found 0 addr list)
+owner_of_best list addr = found_owner itself list (best_by (λ n s. covers s addr) 0 (items_of list)) (best_owned list addr) (found_span 0 addr list)
 
 -- ---- lists that answer alike
 
@@ -190,6 +190,11 @@ never_best_again spans list n addr owner =
 pub never_best_none : (list : List (Owned Span)) → AreNeverBest [] list
 unfolding best_owned
 never_best_none list addr owner = better_none (best_owned list addr)
+
+-- the ranges of a list that is all of one owner
+pub items_all : (n : ℕ) (spans : List Span) → items_of (own_all n spans) ≡ spans
+items_all n [] = refl
+items_all n (s ∷ rest) = ap (λ (l : List Span). s ∷ l) (items_all n rest)
 
 pub own_appended : (n : ℕ) (front back : List Span) → own_all n (front ++ back) ≡ own_all n front ++ own_all n back
 own_appended n [] back = refl

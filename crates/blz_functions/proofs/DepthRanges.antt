@@ -1,21 +1,21 @@
 -- The ranges of one depth among those of all, and the best of them.
 use Rattle.std.proofs.Common.{◌≡◌, ℕ, suc, ◌+◌, Bool, false, eqb, List, [], ◌∷◌, ◌++◌, map, Option, Some, None, refl, sym, ap, ◌∙◌, arith, inl, inr}
-use Rattle.std.specs.Prelude.{option_map, ◌&&◌, ◌<◌, ◌≤◌, nat_lt}
+use Rattle.std.specs.Prelude.{option_map, ◌&&◌}
 use Rattle.std.specs.List.{slice_get}
-use Rattle.std.proofs.lemmas.Bool.{cases_Bool, eq-eqb, lt-ltb, ltb-false, ltb-true}
+use Rattle.std.proofs.lemmas.Bool.{cases_Bool, eq-eqb}
 use Rattle.std.proofs.lemmas.List.{append-nil}
 use Rattle.std.proofs.lemmas.Option.{slice_get-map}
 use Rattle.blz_ranges.specs.declared.grouped.Grouped.{Grouped}
 use Rattle.blz_ranges.specs.declared.placed.Placed.{Placed}
 use Rattle.blz_ranges.specs.declared.span.Span.{Span}
-use Rattle.blz_ranges.specs.Best.{best_by, covers, passes, place_of}
-use Rattle.blz_ranges.specs.Groups.{best_in, group_is, in_group, spans_of}
+use Rattle.blz_ranges.specs.Best.{best, best_by, covers, passes, place_of}
+use Rattle.blz_ranges.specs.Groups.{group_is, in_group, spans_of}
 use Rattle.blz_ranges.specs.Owned.{Owned, items_of, own_all}
 use Rattle.blz_functions.specs.BestOwned.{AnswersAs, best_owned}
 use Rattle.blz_functions.specs.Chain.{at_depth, call_range}
-use Rattle.blz_functions.specs.DepthRanges.{SearchedRanges, first_list, found_at, found_by, of_depth, searched_at, searched_by, shared_in, ungrouped}
+use Rattle.blz_functions.specs.DepthRanges.{SearchedRanges, call_of, found_at, found_by, of_depth, searched_at, searched_by, shared_in, spans_shared, ungrouped}
 use Rattle.blz_functions.specs.declared.depth_ranges.SharedList.{SharedList}
-use Rattle.blz_functions.proofs.BestOwned.{IsFound, best_renamed, found_behind, found_better, found_owner, owned_by}
+use Rattle.blz_functions.proofs.BestOwned.{IsFound, best_renamed, found_behind, found_better, found_owner, found_span, items_all, itself, owned_by}
 
 -- ---- the ranges of one call more
 
@@ -86,51 +86,26 @@ owner_at_depth ranges addr depth =
     found_owner span_in ranges (best_by test 0 (spans_of (items_of ranges))) (best_owned (of_depth depth ranges) addr) (found test depth addr 0 ranges (tested ranges depth addr))
 
 -- the call that is found is that of the best of the ranges that are searched
-renamed : (call : ℕ) (o : Option (Owned Span)) → option_map (λ (n : ℕ). call) (option_map (λ (x : Owned Span). x.owner) o) ≡ option_map (λ (x : Owned Span). x.owner) (option_map (owned_by call) o)
-renamed call None = refl
-renamed call (Some x) = refl
+placed_alike : (call : ℕ) (list : List (Owned Span)) (p : Option Placed) (o : Option (Owned Span)) → IsFound itself 0 list p o → option_map (λ (n : ℕ). call) (place_of p) ≡ option_map (λ (x : Owned Span). x.owner) (option_map (owned_by call) o)
+placed_alike call list None None h = refl
+placed_alike call list None (Some o) h = absurd h
+placed_alike call list (Some p) None h = absurd h
+placed_alike call list (Some p) (Some o) h = refl
+
+owner_by_list : (s : SharedList) (addr : ℕ) → call_of s addr ≡ option_map (λ (x : Owned Span). x.owner) (best_owned (own_all s.named.call (spans_shared s)) addr)
+owner_by_list s addr =
+    let call = s.named.call in
+    let list = own_all call (spans_shared s) in
+    let same : items_of list ≡ spans_shared s = items_all call (spans_shared s) in
+    let alike = placed_alike call list (best_by (λ n t. covers t addr) 0 (items_of list)) (best_owned list addr) (found_span 0 addr list) in
+    let renamed : best_owned list addr ≡ option_map (owned_by call) (best_owned list addr) = ap (λ (l : List Span). best_owned (own_all call l) addr) (sym same) ∙ best_renamed call list addr in
+    ap (λ (l : List Span). option_map (λ (n : ℕ). call) (best l addr)) (sym same) ∙ (alike ∙ ap (option_map (λ (x : Owned Span). x.owner)) (sym renamed))
 
 owner_found_by : (list : List (Owned Grouped)) (addr depth : ℕ) (o : Option SharedList) → found_by list addr depth o ≡ option_map (λ (x : Owned Span). x.owner) (best_owned (searched_by list depth o) addr)
 owner_found_by list addr depth None = owner_at_depth list addr depth
-owner_found_by list addr depth (Some s) =
-    ap (option_map (λ (n : ℕ). s.call)) (owner_at_depth list addr s.group)
-    ∙ (renamed s.call (best_owned (of_depth s.group list) addr) ∙ ap (option_map (λ (x : Owned Span). x.owner)) (sym (best_renamed s.call (of_depth s.group list) addr)))
+owner_found_by list addr depth (Some s) = owner_by_list s addr
 
--- a place that is found is that of a range with an owner
-owner_placed : (list : List (Owned Grouped)) (call n : ℕ) (p : Option Placed) (o : Option (Owned Span)) → IsFound span_in 0 list p o → place_of p ≡ Some n → option_map (λ (k : ℕ). call) (option_map (λ (x : Owned Span). x.owner) o) ≡ Some call
-owner_placed list call n None o h e = absurd cc
-owner_placed list call n (Some p) None h e = absurd h
-owner_placed list call n (Some p) (Some o) h e = refl
-
-owner_missed : (list : List (Owned Grouped)) (call : ℕ) (p : Option Placed) (o : Option (Owned Span)) → IsFound span_in 0 list p o → place_of p ≡ None → option_map (λ (k : ℕ). call) (option_map (λ (x : Owned Span). x.owner) o) ≡ None
-owner_missed list call None None h e = refl
-owner_missed list call None (Some o) h e = absurd h
-owner_missed list call (Some p) o h e = absurd cc
-
-found_in : (ranges : List (Owned Grouped)) (group addr : ℕ) → IsFound span_in 0 ranges (best_by (in_group (items_of ranges) group (passes addr None)) 0 (spans_of (items_of ranges))) (best_owned (of_depth group ranges) addr)
-found_in ranges group addr = found (in_group (items_of ranges) group (passes addr None)) group addr 0 ranges (tested ranges group addr)
-
--- what is found of a depth that shares a list
-pub found_shared : (r : SearchedRanges) (addr depth n : ℕ) (s : SharedList) → depth < first_list → shared_in r.shared depth ≡ Some s → best_in (items_of r.list) s.group addr ≡ Some n → Some s.call ≡ found_at r addr depth
-found_shared r addr depth n s lt is e =
-    rw (lt-ltb depth first_list lt, is) (sym (ap (option_map (λ (k : ℕ). s.call)) (owner_at_depth r.list addr s.group) ∙ owner_placed r.list s.call n _ (best_owned (of_depth s.group r.list) addr) (found_in r.list s.group addr) e))
-
-pub missed_shared : (r : SearchedRanges) (addr depth : ℕ) (s : SharedList) → depth < first_list → shared_in r.shared depth ≡ Some s → best_in (items_of r.list) s.group addr ≡ None → None ≡ found_at r addr depth
-missed_shared r addr depth s lt is e =
-    rw (lt-ltb depth first_list lt, is) (sym (ap (option_map (λ (k : ℕ). s.call)) (owner_at_depth r.list addr s.group) ∙ owner_missed r.list s.call _ (best_owned (of_depth s.group r.list) addr) (found_in r.list s.group addr) e))
-
--- and of one that shares none
-pub found_own : (r : SearchedRanges) (addr depth : ℕ) → depth < first_list → shared_in r.shared depth ≡ None → at_depth r.list addr depth ≡ found_at r addr depth
-found_own r addr depth lt is = rw (lt-ltb depth first_list lt, is) refl
-
-no_owner : (addr : ℕ) → option_map (λ (x : Owned Span). x.owner) (best_owned [] addr) ≡ None
-unfolding best_owned
-no_owner addr = refl
-
--- what is searched has the same best ranges as all ranges at each depth, and no ranges lie deeper
-pub same_found : (r : SearchedRanges) (all : List (Owned Grouped)) (addr depth : ℕ) → (first_list ≤ depth → of_depth depth all ≡ []) → (depth < first_list → AnswersAs (searched_at r depth) (of_depth depth all)) → at_depth all addr depth ≡ found_at r addr depth
-same_found r all addr depth deep same =
-    elim (cases_Bool (nat_lt depth first_list)) [
-      | inl lt ↦ rw lt (owner_at_depth all addr depth ∙ (ap (option_map (λ (x : Owned Span). x.owner)) (sym (same (ltb-true depth first_list lt) addr)) ∙ sym (owner_found_by r.list addr depth (shared_in r.shared depth))))
-      | inr ge ↦ rw ge (owner_at_depth all addr depth ∙ (ap (λ (l : List (Owned Span)). option_map (λ (x : Owned Span). x.owner) (best_owned l addr)) (deep (ltb-false depth first_list ge)) ∙ no_owner addr))
-    ]
+-- what is searched has the same best ranges as all ranges at each depth
+pub same_found : (r : SearchedRanges) (all : List (Owned Grouped)) (addr depth : ℕ) → AnswersAs (searched_at r depth) (of_depth depth all) → at_depth all addr depth ≡ found_at r addr depth
+same_found r all addr depth same =
+    owner_at_depth all addr depth ∙ (ap (option_map (λ (x : Owned Span). x.owner)) (sym (same addr)) ∙ sym (owner_found_by r.list addr depth (shared_in r.shared depth)))

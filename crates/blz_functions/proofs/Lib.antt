@@ -21,5 +21,6 @@ pub mod ReadLists
 pub mod SearchedRanges
 pub mod Searching
 pub mod DepthRanges
+pub mod NamedLists
 pub mod DepthLists
 pub mod SearchedCalls

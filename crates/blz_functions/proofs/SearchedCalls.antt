@@ -25,24 +25,24 @@ use Rattle.blz_functions.specs.Searching.{GivesAs, IsGiven, IsMet}
 use Rattle.blz_functions.specs.declared.depth_lists.DepthLists.{DepthLists}
 use Rattle.blz_functions.specs.declared.description.Description.{Description}
 use Rattle.blz_functions.specs.declared.inlined_functions.InlinedFunction.{InlinedFunction}
-use Rattle.blz_functions.proofs.DepthLists.{none_of_depth, none_searched_at}
+use Rattle.blz_functions.proofs.DepthLists.{none_searched_at}
 use Rattle.blz_functions.proofs.DepthRanges.{same_found}
 use Rattle.blz_functions.proofs.Searching.{met_given}
 
 -- ---- one call more
 
-pub none_searched : (u : UnitParts) (some : SearchedCalls) (lists : DepthLists) → some.calls ≡ [] → StandFor u some.ranges lists [] → AreSearchedCalls u some lists no_calls
+pub none_searched : (u : UnitParts) (some : SearchedCalls) (lists : DepthLists) → some.calls ≡ [] → StandFor u some.ranges lists.depths.items [] → AreSearchedCalls u some lists no_calls
 none_searched u some lists none stand = record { calls = none; ranges = stand }
 
 pub call_given : (u : UnitParts) (calls : List InlinedFunction) (ranges : SearchedRanges) (all : CallLists) (new : DepthLists) (depth call : ℕ) (d : Description) (o : Option (List Span)) → calls ≡ all.calls → call ≡ length calls → o ≡ ranges_in u d.ranges
-    → IsGiven (λ s. StandFor u ranges new (all.ranges ++ map (call_range depth call) s)) o → IsGiven (AreSearchedCalls u (record { calls = calls ++ call_by d ∷ []; ranges = ranges }) new) (call_added u all depth d)
+    → IsGiven (λ s. StandFor u ranges new.depths.items (all.ranges ++ map (call_range depth call) s)) o → IsGiven (AreSearchedCalls u (record { calls = calls ++ call_by d ∷ []; ranges = ranges }) new) (call_added u all depth d)
 unfolding call_added
 call_given u calls ranges all new depth call d o same count is h =
     let number : call ≡ length all.calls = count ∙ ap length same in
     record {
       value = with_call all (call_by d) depth h.value;
       is = rw (← is, h.is) refl;
-      fits = record { calls = ap (λ (l : List InlinedFunction). l ++ call_by d ∷ []) same; ranges = subst (λ (n : ℕ). StandFor u ranges new (all.ranges ++ map (call_range depth n) h.value)) number h.fits };
+      fits = record { calls = ap (λ (l : List InlinedFunction). l ++ call_by d ∷ []) same; ranges = subst (λ (n : ℕ). StandFor u ranges new.depths.items (all.ranges ++ map (call_range depth n) h.value)) number h.fits };
     }
 
 -- ---- an entry more
@@ -60,12 +60,12 @@ entry_fails refer u all depth e w wanted kind same h = marks_on kind (described_
 
 pub same_asked : (u : UnitParts) (some : SearchedCalls) (all : CallLists) (lists : DepthLists) → AreSearchedCalls u some lists all → by_all_ranges all ≡ asked_calls some
 same_asked u some all lists h =
-    let at = fun_ext (λ addr. fun_ext (λ depth. same_found some.ranges all.ranges addr depth (h.ranges.deep depth) (h.ranges.answers depth))) in
+    let at = fun_ext (λ addr. fun_ext (λ depth. same_found some.ranges all.ranges addr depth (h.ranges.answers depth))) in
     rw (h.calls, at) refl
 
 pub none_asked : (l : SearchedCalls) → l.calls ≡ [] → l.ranges.list ≡ [] → l.ranges.shared ≡ [] → by_all_ranges no_calls ≡ asked_calls l
 none_asked l none list shared =
-    let at = fun_ext (λ addr. fun_ext (λ depth. same_found l.ranges [] addr depth (λ le. none_of_depth depth) (λ lt. none_searched_at l.ranges depth list shared))) in
+    let at = fun_ext (λ addr. fun_ext (λ depth. same_found l.ranges [] addr depth (none_searched_at l.ranges depth list shared))) in
     rw (none, at) refl
 
 pub asked_given : (u : UnitParts) (some : SearchedCalls) (all : CallLists) (lists : DepthLists) (o : Option CallLists) → AreSearchedCalls u some lists all → o ≡ Some all → or_invalid (if_asked o) ≡ Good (asked_calls some)

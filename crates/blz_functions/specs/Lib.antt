@@ -14,5 +14,6 @@ pub mod Searching
 pub mod SearchedFunctions
 pub mod AskedCalls
 pub mod DepthRanges
+pub mod KeptLists
 pub mod DepthLists
 pub mod SearchedCalls

@@ -1,5 +1,5 @@
 -- The ranges that are searched for the inlined calls of a function: those of an entry of a list stand once at each depth,
--- however many calls of the depth name a list that it belongs to, and once for all depths that have those of one list alone.
+-- however many calls of the depth name a list that it belongs to, and a depth that has those of one list alone may share it with others.
 use Rattle.std.specs.Prelude.{◌≡◌}
 use Rattle.blz_functions.specs.CallTree.{CallLists}
 use Rattle.blz_functions.specs.DepthLists.{StandFor}
@@ -10,4 +10,4 @@ use Rattle.blz_functions.specs.declared.depth_lists.DepthLists.{DepthLists}
 -- The ranges that are searched give the same calls as all ranges do.
 pub record AreSearchedCalls (u : UnitParts) (some : SearchedCalls) (lists : DepthLists) (all : CallLists) : Type 0 where
   pub calls : some.calls ≡ all.calls
-  pub ranges : StandFor u some.ranges lists all.ranges
+  pub ranges : StandFor u some.ranges lists.depths.items all.ranges

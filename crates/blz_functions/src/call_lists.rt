@@ -6,6 +6,7 @@ ghost use Rattle.blz_functions.specs.AskedCalls.{asked_calls, calls_asked, if_as
 ghost use Rattle.blz_functions.specs.CallTree.{call_by, call_added, calls_from};
 ghost use Rattle.blz_functions.specs.CallWalk.{call_if, call_met};
 ghost use Rattle.blz_functions.specs.Describing.{specs_of};
+ghost use Rattle.blz_functions.specs.KeptLists.{AreKeptLists};
 ghost use Rattle.blz_ranges.specs.Keyed.{IsAccepted, group_key};
 ghost use Rattle.blz_functions.specs.Leaves.{source_in};
 ghost use Rattle.blz_functions.specs.Opened.{open_view, CanBeOpened};
@@ -17,6 +18,7 @@ use crate::depth_lists::DepthLists;
 use crate::depth_ranges::DepthRanges;
 use crate::description::Description;
 use crate::inlined_functions::{InlinedFunction, InlinedFunctions};
+use crate::kept_lists::KeptLists;
 use crate::levels::Levels;
 use crate::links::Links;
 use crate::open_unit::OpenUnit;
@@ -26,6 +28,7 @@ use blz_entry::{Entries, Entry, Passing, Span, invalid};
 use blz_error::Result;
 use std::alloc::{AllocError, Global};
 use std::marker::Model;
+use std::mem;
 
 /// Inlined calls, and their ranges that are searched. What several lists of ranges share is read once at each depth, and its
 /// ranges stand here for the first call of the depth that names one, which is the one that their addresses have.
@@ -81,7 +84,9 @@ impl CallLists {
         depth: usize,
         description: &Description,
     ) -> Result<CallLists>
-        ensures { Adds (AreSearchedCalls (open_view unit.now)) self lists.old lists.new result (λ all. call_added (open_view unit.now) all depth description.now) }
+        requires kept { AreKeptLists (open_view unit.now) lists.old.kept }
+        ensures added { Adds (AreSearchedCalls (open_view unit.now)) self lists.old lists.new result (λ all. call_added (open_view unit.now) all depth description.now) }
+        ensures kept { AreKeptLists (open_view unit.now) lists.new.kept }
     {
         let CallLists {
             mut calls,
@@ -114,7 +119,9 @@ impl CallLists {
         depth: Option<usize>,
         description: &Option<Description>,
     ) -> Result<CallLists>
-        ensures { Adds (AreSearchedCalls (open_view unit.now)) self lists.old lists.new result (λ all. call_if (open_view unit.now) all depth description.now) }
+        requires kept { AreKeptLists (open_view unit.now) lists.old.kept }
+        ensures added { Adds (AreSearchedCalls (open_view unit.now)) self lists.old lists.new result (λ all. call_if (open_view unit.now) all depth description.now) }
+        ensures kept { AreKeptLists (open_view unit.now) lists.new.kept }
     {
         match (depth, description) {
             (Some(depth), Some(description)) => self.with(unit, lists, depth, description),
@@ -135,8 +142,10 @@ impl CallLists {
         depth: Option<usize>,
     ) -> Result<CallLists>
         requires source { entries.old.source ≡ source_in (open_view unit.now) }
+        requires kept { AreKeptLists (open_view unit.now) lists.old.kept }
         requires met { entries.old.pending ≡ specs_of (open_view unit.now) entry.now.code }
         ensures value { Meets (AreSearchedCalls (open_view unit.now)) self lists.old lists.new entries.new.place result (λ all. call_met (F.refer (F.linkage links.old)) (open_view unit.now) all depth entry.now entries.old) }
+        ensures kept { AreKeptLists (open_view unit.now) lists.new.kept }
         ensures pending { IfOk result (λ _. entries.new.pending ≡ []) }
         ensures source { entries.new.source ≡ entries.old.source }
         ensures ahead { entries.old.place ≤ entries.new.place }
@@ -154,14 +163,17 @@ impl CallLists {
         unit: &OpenUnit<'_, '_>,
         links: &mut F,
         entries: &mut Entries<'_, '_>,
+        lists: &mut DepthLists,
     ) -> Result<CallLists>
         requires pending { entries.old.pending ≡ [] }
+        requires fresh { lists.old.depths.items ≡ [] }
+        requires kept { AreKeptLists (open_view unit.now) lists.old.kept }
         requires source { entries.old.source ≡ source_in (open_view unit.now) }
         ensures value { Gives asked_calls result (or_invalid (if_asked (calls_from (F.refer (F.linkage links.old)) (open_view unit.now) entries.old.place))) }
+        ensures kept { AreKeptLists (open_view unit.now) lists.new.kept }
         ensures same { F.linkage links.new ≡ F.linkage links.old }
     {
         let mut calls = CallLists::new(alloc);
-        let mut lists = DepthLists::new(alloc);
         let mut levels = Levels::new(alloc)?;
         while levels.is_open() {
             entries.pass_over(Passing::Leaves, dwarf::DW_TAG_inlined_subroutine);
@@ -171,7 +183,7 @@ impl CallLists {
                 Err(fault) => return Err(fault),
             };
             let depth = levels.call_depth(entry.tag);
-            calls = match calls.with_entry(unit, links, &mut lists, entries, &entry, depth) {
+            calls = match calls.with_entry(unit, links, lists, entries, &entry, depth) {
                 Ok(more) => more,
                 Err(fault) => return Err(fault),
             };
@@ -182,15 +194,18 @@ impl CallLists {
 
     /// The calls of the function whose entry stands at a place. InvalidDwarf exactly where no entry of the unit stands
     /// there, where it or an entry below it is not closed or has no value, or where the name or the ranges of a call have
-    /// none.
+    /// none. Lists that calls of the unit name again and again are kept, whether or not the calls have a value.
     pub fn read<F: Links>(
         alloc: Global,
         unit: &OpenUnit<'_, '_>,
         links: &mut F,
+        kept: &mut KeptLists,
         place: usize,
     ) -> Result<CallLists>
-        requires { CanBeOpened unit.now }
+        requires opened { CanBeOpened unit.now }
+        requires kept { AreKeptLists (open_view unit.now) kept.old }
         ensures value { Gives asked_calls result (or_invalid (calls_asked (F.refer (F.linkage links.old)) (open_view unit.now) place)) }
+        ensures kept { AreKeptLists (open_view unit.now) kept.new }
         ensures same { F.linkage links.new ≡ F.linkage links.old }
     {
         let mut entries = unit.entries(place)?;
@@ -209,7 +224,10 @@ impl CallLists {
         if !entry.children {
             return Ok(CallLists::new(alloc));
         }
-        CallLists::read_below(alloc, unit, links, &mut entries)
+        let mut lists = DepthLists::new(alloc, mem::replace(kept, KeptLists::new(alloc)));
+        let calls = CallLists::read_below(alloc, unit, links, &mut entries, &mut lists);
+        *kept = lists.into_kept();
+        calls
     }
 
     /// The calls with an index of their ranges. Only want of memory is refused.

@@ -1,31 +1,38 @@
-//! Ranges of inlined calls in groups, and which group is searched for a depth.
-ghost use Rattle.std.specs.Prelude.{◌≡◌, ◌++◌, [], Some, length, map, OnOk, option_copied};
+//! Ranges of inlined calls by their depths, and the depths that share a list.
+ghost use Rattle.std.specs.Prelude.{◌≡◌, ◌+◌, ◌*◌, ◌^◌, ◌-◌, ◌≤◌, ◌++◌, [], Some, length, map, OnOk};
+ghost use Rattle.std.specs.Option.{option_map};
 ghost use Rattle.std.specs.BTreeMap.{IsEmpty, Updates, get};
 ghost use Rattle.std.specs.Ordering.{nat_cmp};
 ghost use Rattle.blz_functions.specs.Chain.{call_range};
-ghost use Rattle.blz_functions.specs.DepthRanges.{ranges_view};
-ghost use Rattle.blz_ranges.specs.Groups.{grouped};
+ghost use Rattle.blz_functions.specs.DepthRanges.{call_of, ranges_view, spans_shared};
+ghost use Rattle.blz_ranges.specs.Groups.{AreApart, grouped};
 
+use crate::kept_lists::KeptList;
+use blz_bytes::Steps;
 use blz_entry::Span;
 use blz_ranges::{Grouped, own};
 use std::alloc::{AllocError, Global};
 use std::collections::BTreeMap;
+use std::ops::Deref;
+use std::sync::Arc;
+use std::sync::ledger::Ledger;
 
-/// The groups from here on are those of lists that several depths name; below, each depth has its own.
-pub const FIRST_LIST: usize = 0x8000_0000_0000_0000;
-
-/// A list whose ranges are all that the calls of a depth have.
+/// A list of ranges, and the first call of a depth that names it.
 #[derive(Clone, Copy, Drop)]
-pub struct SharedList {
-    /// The group of its ranges.
-    pub group: usize,
+pub struct NamedList {
     /// Where the list begins.
     pub offset: u64,
-    /// The first call of the depth that names it.
     pub call: usize,
 }
 
-/// Ranges in groups, each with the number of its call, and the depths that share the group of a list.
+/// A list whose ranges are all that the calls of a depth have.
+#[derive(Drop)]
+pub struct SharedList {
+    pub named: NamedList,
+    pub list: Arc<KeptList>,
+}
+
+/// Ranges in groups, one for each depth, each with the number of its call, and the depths that share a list.
 #[derive(Drop)]
 pub struct DepthRanges {
     pub list: Vec<Grouped>,
@@ -46,6 +53,20 @@ fn group(
     Ok(())
 }
 
+impl SharedList {
+    /// The call that an address has, if a range of the list covers it.
+    pub(crate) fn call_of<L: Ledger>(&self, addr: u64, steps: &mut Steps<L>) -> Option<usize>
+        ensures call { result ≡ call_of self.now addr }
+        ensures cost { AreApart (spans_shared self.now) → 2 ^ (steps.new - steps.old) ≤ 4 * (2 * length (spans_shared self.now) + 1) }
+        ensures later { steps.old ≤ steps.new }
+    {
+        match self.list.deref().best_at(addr, steps) {
+            Some(_) => Some(self.named.call),
+            None => None,
+        }
+    }
+}
+
 impl DepthRanges {
     pub(crate) fn new(alloc: Global) -> DepthRanges
         ensures list { result.list.items ≡ [] }
@@ -59,28 +80,31 @@ impl DepthRanges {
         }
     }
 
-    /// Puts the ranges of a call into a group.
+    /// Puts the ranges of a call to those of a depth.
     pub(crate) fn put(
         &mut self,
-        place: usize,
+        depth: usize,
         call: usize,
         spans: &[Span],
     ) -> std::result::Result<(), AllocError>
         requires { length self.old.list.items ≡ length self.old.owners.items }
         ensures fits { OnOk result (length self.new.list.items ≡ length self.new.owners.items) }
-        ensures put { OnOk result ((ranges_view self.new).list ≡ (ranges_view self.old).list ++ map (call_range place call) spans.now) }
+        ensures put { OnOk result ((ranges_view self.new).list ≡ (ranges_view self.old).list ++ map (call_range depth call) spans.now) }
         ensures same { self.new.shared ≡ self.old.shared }
     {
-        group(&mut self.list, place, spans)?;
+        group(&mut self.list, depth, spans)?;
         own(&mut self.owners, call, self.list.len())?;
         Ok(())
     }
 
     /// The list that a depth shares.
-    pub(crate) fn shared(&self, depth: usize) -> Option<SharedList>
-        ensures { result ≡ get nat_cmp self.now.shared depth }
+    pub(crate) fn shared(&self, depth: usize) -> Option<NamedList>
+        ensures { result ≡ option_map (λ s. s.named) (get nat_cmp self.now.shared depth) }
     {
-        self.shared.get(&depth).copied()
+        match self.shared.get(&depth) {
+            Some(list) => Some(list.named),
+            None => None,
+        }
     }
 
     /// Lets a depth share a list.

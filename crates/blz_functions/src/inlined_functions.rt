@@ -2,13 +2,12 @@
 ghost use Rattle.std.specs.Prelude.{◌≡◌, ℕ, ◌+◌, ◌*◌, ◌^◌, ◌-◌, ◌<◌, ◌≤◌, true, length, map, Option, IfOk};
 ghost use Rattle.blz_functions.specs.AskedCalls.{IsPathInTrees, asked_by, asked_chain};
 ghost use Rattle.blz_functions.specs.Chain.{owner_found};
-ghost use Rattle.blz_functions.specs.DepthRanges.{found_at, ranges_view};
-ghost use Rattle.blz_ranges.specs.Groups.{AreApartInGroups};
+ghost use Rattle.blz_functions.specs.DepthRanges.{count_at, found_at, ranges_view, AreApartAt};
 ghost use Rattle.blz_ranges.specs.Keyed.{IsAccepted, group_key};
-ghost use Rattle.blz_ranges.specs.Owned.{owned, items_of, owner_at};
+ghost use Rattle.blz_ranges.specs.Owned.{owned};
 ghost use Rattle.blz_functions.specs.FunctionRanges.{CallRanges};
 
-use crate::depth_ranges::{DepthRanges, FIRST_LIST, SharedList};
+use crate::depth_ranges::{DepthRanges, SharedList};
 use blz_bytes::{Orders, Steps};
 use blz_entry::StrPlace;
 use blz_ranges::{GroupIndex, fitted, group_keys, number_at};
@@ -30,8 +29,8 @@ pub struct InlinedFunction {
     pub call_column: u32,
 }
 
-/// The inlined calls of a function, with their ranges in groups: one for each depth, and one for each list that several depths
-/// have alone.
+/// The inlined calls of a function, with their ranges in groups, one for each depth, and the depths that have those of a list
+/// of the unit alone.
 #[derive(Drop)]
 pub struct InlinedFunctions {
     calls: Vec<InlinedFunction>,
@@ -98,20 +97,16 @@ impl InlinedFunctions {
         steps: &mut Steps<L>,
     ) -> Option<usize>
         ensures best { result ≡ found_at self.now.ranges addr depth }
-        ensures cost { self.now.ordered ≡ true → AreApartInGroups (items_of self.now.ranges.list) → 2 ^ (steps.new - steps.old) ≤ 4 * (2 * length self.now.ranges.list + 1) }
+        ensures cost { self.now.ordered ≡ true → AreApartAt self.now.ranges depth → 2 ^ (steps.new - steps.old) ≤ 4 * (2 * count_at self.now.ranges depth + 1) }
         ensures later { steps.old ≤ steps.new }
     {
-        if depth >= FIRST_LIST {
-            return None;
+        match self.shared.get(&depth) {
+            Some(list) => list.call_of(addr, steps),
+            None => {
+                let place = self.index.best_in(depth, addr, steps);
+                self.owner(place)
+            },
         }
-        if let Some(list) = self.shared.get(&depth).copied() {
-            return match self.index.best_in(list.group, addr, steps) {
-                Some(_) => Some(list.call),
-                None => None,
-            };
-        }
-        let place = self.index.best_in(depth, addr, steps);
-        self.owner(place)
     }
 
     fn owner(&self, place: Option<usize>) -> Option<usize>

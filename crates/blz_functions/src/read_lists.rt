@@ -88,6 +88,11 @@ impl ReadLists {
         }
     }
 
+    /// Whether no list was read but such as have few entries.
+    pub(crate) fn is_empty(&self) -> bool {
+        self.tell.is_empty()
+    }
+
     /// Whether a list tells a range, if it was read.
     fn find(&self, tail: RangeTail) -> Option<bool>
         ensures { (u : UnitParts) (ranges : List (Owned Span)) → AreRead u ranges self.now → IfSome result (IsRead u ranges tail) }

@@ -4,6 +4,7 @@ ghost use Rattle.std.specs.List.{slice_get};
 ghost use Rattle.blz_model.specs.Part.{Gives};
 ghost use Rattle.blz_info.specs.Marks.{or_invalid};
 ghost use Rattle.blz_functions.specs.AskedCalls.{asked_calls};
+ghost use Rattle.blz_functions.specs.KeptLists.{AreKeptLists};
 ghost use Rattle.blz_functions.specs.SearchedFunctions.{asked_of};
 ghost use Rattle.blz_units.specs.BuiltUnits.{built, root_in, BuiltFits, IsReadable};
 ghost use Rattle.blz_reader.specs.Growing.{LinesOrdered};
@@ -18,7 +19,7 @@ use crate::references::{References, open_in};
 use blz_bytes::Orders;
 use blz_entry::{UnitHeader, UnitRoot, invalid};
 use blz_error::{Error, Result, Str};
-use blz_functions::{CallLists, FunctionLists};
+use blz_functions::{CallLists, FunctionLists, KeptLists};
 use blz_line::Lines;
 use blz_model::Cache;
 use blz_units::built_unit::{BuiltUnit, may_be_split};
@@ -105,20 +106,23 @@ impl<'r, 's, 'b> Reader<'r, 's, 'b> {
         built: &mut BuiltUnits,
         number: usize,
         unit: &BuiltUnit,
+        kept: &mut KeptLists,
         place: usize,
     ) -> Result<CallLists>
         requires readable { IsReadable self.now.dwarf.now }
         requires fits { BuiltFor self.now built.old }
         requires unit { BuiltFits (reader_files self.now) unit.now }
+        requires kept { AreKeptLists (as_seen self.now unit.now) kept.old }
         requires is { as_read self.now read_unit number ≡ Some (as_seen self.now unit.now) }
         ensures value { Gives asked_calls result (or_invalid (as_read self.now calls_in place (as_seen self.now unit.now))) }
         ensures fits { BuiltFor self.now built.new }
+        ensures kept { AreKeptLists (as_seen self.now unit.now) kept.new }
     {
         let dwarf = lent(&*self.dwarf);
         let open = open_in(&*unit, &dwarf);
         let others = mem::replace(built, self.no_units());
         let mut links = References::new(self.alloc, dwarf, &*self.table, number, open, others);
-        let lists = CallLists::read(self.alloc, &open, &mut links, place);
+        let lists = CallLists::read(self.alloc, &open, &mut links, kept, place);
         *built = links.into_built();
         lists
     }
@@ -150,8 +154,10 @@ impl<'r, 's, 'b> Reader<'r, 's, 'b> {
         ensures value { Gives asked_calls result (or_invalid (as_read self.now place_calls number place)) }
         ensures fits { BuiltFor self.now built.new }
     {
-        let unit = self.take_unit(built, number)?;
-        let lists = self.calls_of(built, number, &unit, place);
+        let mut unit = self.take_unit(built, number)?;
+        let mut kept = mem::replace(&mut unit.lists, KeptLists::new(self.alloc));
+        let lists = self.calls_of(built, number, &unit, &mut kept, place);
+        unit.lists = kept;
         self.put_unit(built, number, Cache::Value(unit));
         lists
     }

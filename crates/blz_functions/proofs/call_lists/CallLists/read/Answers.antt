@@ -43,11 +43,11 @@ returns-then-not-entry-clause-value g c =
     asked_is _ u c.args.place _ (calls_leaf _ u c.args.place c.in_ok-entries.entries b c.next_entry.new.self c.skip_attributes.new.self _ (rw c.in-Ok-Some.field-0-is at c.in-Ok-Some.ensures.value) c.in-Ok.ensures.value c.if-entry-eq0.false (not_true c.in-Ok-Some.entry.children c.if-not-entry.true))
     ∙ ap Good (none_asked c.new.result c.new.ensures.calls c.new.ensures.ranges c.new.ensures.shared)
 
-pub read_below-requires-clause-pending : goal.read_below-requires-clause-pending
-read_below-requires-clause-pending g c = skipped_pending c.next_entry.new.self c.skip_attributes.new.self c.in-Ok.ensures.value
+pub read_below-calls-requires-clause-pending : goal.read_below-calls-requires-clause-pending
+read_below-calls-requires-clause-pending g c = skipped_pending c.next_entry.new.self c.skip_attributes.new.self c.in-Ok.ensures.value
 
 pub returns-clause-value : goal.returns-clause-value
 returns-clause-value g c =
     let u = open_view c.args.unit.now in
     let b = begins u c.args.place c.in_ok-entries.entries c.in_ok-entries.ensures in
-    rw (asked_of_calls _ u c.args.place _ (calls_inside (g.F.Links.refer (g.F.Links.linkage c.args.links.now)) u c.args.place c.in_ok-entries.entries b c.next_entry.new.self c.skip_attributes.new.self c.in-Ok-Some.entry (rw c.in-Ok-Some.field-0-is at c.in-Ok-Some.ensures.value) c.in-Ok.ensures.value c.if-entry-eq0.false (not_false c.in-Ok-Some.entry.children c.if-not-entry.false))) c.read_below.ensures.value
+    rw (asked_of_calls _ u c.args.place _ (calls_inside (g.F.Links.refer (g.F.Links.linkage c.args.links.now)) u c.args.place c.in_ok-entries.entries b c.next_entry.new.self c.skip_attributes.new.self c.in-Ok-Some.entry (rw c.in-Ok-Some.field-0-is at c.in-Ok-Some.ensures.value) c.in-Ok.ensures.value c.if-entry-eq0.false (not_false c.in-Ok-Some.entry.children c.if-not-entry.false))) c.read_below-calls.ensures.value

@@ -7,6 +7,7 @@ use Rattle.blz_functions.specs.CallTree.{CallLists, no_calls}
 use Rattle.blz_functions.specs.CallWalk.{levels_behind}
 use Rattle.blz_functions.specs.Opened.{open_view}
 use Rattle.blz_functions.proofs.CallSteps.{calls_rest, first, one_more, no_more, none_next, rest_start, rest_end}
+use Rattle.blz_functions.proofs.DepthLists.{none_stand}
 use Rattle.blz_functions.proofs.MetEntries.{met_specs}
 use Rattle.blz_functions.proofs.PassedEntries.{calls_behind_passed}
 use Rattle.blz_functions.proofs.SearchedCalls.{asked_fails, asked_given, none_searched}
@@ -21,7 +22,8 @@ loop-entries-init g c = record {
   source = c.requires.source;
   same = refl;
   all = no_calls;
-  searched = none_searched (open_view c.args.unit.now) c.new-calls.result c.new-lists.result c.new-calls.ensures.calls (c.new-lists.ensures (open_view c.args.unit.now) c.new-calls.result.ranges c.new-calls.ensures.ranges c.new-calls.ensures.shared);
+  kept = c.requires.kept;
+  searched = none_searched (open_view c.args.unit.now) c.new-calls.result c.args.lists.now c.new-calls.ensures.calls (none_stand (open_view c.args.unit.now) c.new-calls.result.ranges c.args.lists.now.depths.items c.new-calls.ensures.ranges c.new-calls.ensures.shared c.requires.fresh);
   rest = rw c.in_ok-levels.ensures (rest_start (g.F.Links.refer (g.F.Links.linkage c.args.links.now)) (open_view c.args.unit.now) c.args.entries.now.place);
 }
 
@@ -78,6 +80,7 @@ loop-entries-preserved g c =
       source = c.with_entry.ensures.source ∙ (c.next_entry.ensures.source ∙ (p.source ∙ k.source));
       same = c.with_entry.ensures.same ∙ k.same;
       all = m.value.0;
+      kept = c.with_entry.ensures.kept;
       searched = m.fits.0;
       rest = ap (λ (ls : List Above). calls_rest refer u ls (m.value.0, c.with_entry.new.entries.place) >>= first) c.in_ok-pass.ensures
           ∙ (ap (λ (n : ℕ). calls_rest refer u (levels_behind levels c.in-Ok-Some.entry) (m.value.0, n) >>= first) (sym m.fits.1)

@@ -1,6 +1,7 @@
 use Rattle.std.proofs.Common.{◌≡◌, ◌-◌, []}
 use Rattle.blz_model.specs.Reads.{◌>>=◌}
 use Rattle.blz_functions.specs.CallTree.{CallLists, calls_from}
+use Rattle.blz_functions.specs.KeptLists.{AreKeptLists}
 use Rattle.blz_functions.specs.Leaves.{source_in}
 use Rattle.blz_functions.specs.Opened.{open_view}
 use Rattle.blz_functions.specs.SearchedCalls.{AreSearchedCalls}
@@ -13,6 +14,7 @@ invariant-loop-entries g l = record {
   source : l.entries.source ≡ source_in (open_view l.unit);
   same : g.F.Links.linkage l.links ≡ g.F.Links.linkage l.fn.links;
   all : CallLists;
+  kept : AreKeptLists (open_view l.unit) l.lists.kept;
   searched : AreSearchedCalls (open_view l.unit) l.calls l.lists all;
   rest : (calls_rest (g.F.Links.refer (g.F.Links.linkage l.fn.links)) (open_view l.unit) l.levels (all, l.entries.place) >>= first) ≡ calls_from (g.F.Links.refer (g.F.Links.linkage l.fn.links)) (open_view l.unit) l.fn.entries.place;
 }

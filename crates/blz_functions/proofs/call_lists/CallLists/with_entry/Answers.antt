@@ -6,7 +6,7 @@ use Rattle.blz_functions.proofs.call_lists.CallLists.with_entry.Goals as goal
 pub returns-in-Ok-clause-value : goal.returns-in-Ok-clause-value
 returns-in-Ok-clause-value g c = λ all searched.
     let is = good_some _ (c.in-Ok.description, c.of_entry.new.entries.place) c.in-Ok.ensures.value in
-    entry_given _ (open_view c.args.unit.now) all c.with_described.new.lists c.args.depth c.args.entry.now c.args.entries.now _ c.in-Ok.description c.of_entry.new.entries.place c.with_described.result c.is_some.ensures is (c.with_described.ensures all searched)
+    entry_given _ (open_view c.args.unit.now) all c.with_described.new.lists c.args.depth c.args.entry.now c.args.entries.now _ c.in-Ok.description c.of_entry.new.entries.place c.with_described.result c.is_some.ensures is (c.with_described.ensures.added all searched)
 
 pub returns-in-Err-clause-value : goal.returns-in-Err-clause-value
 returns-in-Err-clause-value g c = λ all searched.

@@ -32,5 +32,5 @@ returns-clause-value c = λ all h.
     record {
       value = a.read ++ a.known;
       is = a.is;
-      fits = stands_as u _ (record { list = r.list ++ map (call_range depth c.args.call) a.read; shared = r.shared }) _ _ put (ap (λ (m : BTreeMap ℕ SharedList). m.entries) c.in_ok-put.ensures.same) (own_added u r c.args.self.now _ all depth c.args.call c.append.new.self a.read a.known h c.requires.small c.requires.there refl refl refl c.requires.absent a.never_best (a.are_read c.args.call));
+      fits = stands_as u _ (record { list = r.list ++ map (call_range depth c.args.call) a.read; shared = r.shared }) _ _ put (ap (λ (m : BTreeMap ℕ SharedList). m.entries) c.in_ok-put.ensures.same) (own_added u r c.args.self.now.depths.items _ all depth c.args.call c.append.new.self a.read a.known h c.requires.there refl c.requires.absent a.never_best (a.are_read c.args.call));
     }

@@ -21,8 +21,8 @@ returns-clause-put c =
     let old = c.args.self.now.list.items in
     let owners = c.args.self.now.owners.items in
     let out = c.group.new.ranges in
-    let new = map (grouped c.args.place) c.args.spans.now in
+    let new = map (grouped c.args.depth) c.args.spans.now in
     let size : vec_len out ≡ length out.items = search rules in
     let more : out.items ≡ old ++ new = c.in_ok-group.ensures in
     let owned_by : c.own.new.owners.items ≡ filled_up owners c.args.call (length (old ++ new)) = c.in_ok-own.ensures ∙ rw (c.len.ensures, size, more) refl in
-    rw (more, owned_by) (ranges_put old owners c.args.spans.now c.args.place c.args.call c.requires)
+    rw (more, owned_by) (ranges_put old owners c.args.spans.now c.args.depth c.args.call c.requires)
