@@ -5,14 +5,12 @@ use Rattle.std.specs.List.{position_from}
 use Rattle.std.specs.Str.{bytes_eq}
 use Rattle.std.proofs.lemmas.List.{length-map, length-drop}
 use Rattle.std.proofs.lemmas.Option.{slice_get_cases}
-use Rattle.blz_error.specs.declared.kind.ErrorKind.{ErrorKind}
-use Rattle.blz_error.specs.declared.kind.ErrorKind.TheVariants.{InvalidInput}
-use Rattle.blz_model.specs.Part.{Part, Good, Broken, ◌>>=◌, all_good, or_mark}
+use Rattle.blz_model.specs.Part.{Part, Good, Broken, ◌>>=◌, all_good}
 use Rattle.blz_model.specs.Texts.{name_at}
 use Rattle.blz_model.proofs.PartLemmas.{bind_good}
 use Rattle.blz_image.specs.Headers.{header_of}
 use Rattle.blz_image.specs.Images.{Elf, elf_of, name_table, names_of, section_named, section_called, data_named, image_section, image_section_data, image_data_named}
-use Rattle.blz_image.specs.Sections.{sections_of, data_of}
+use Rattle.blz_image.specs.Sections.{sections_of}
 use Rattle.blz_image.specs.declared.section.Section.{Section}
 use Rattle.blz_resolver.specs.DebugSections.{Located, data_numbered, located, name_of}
 use Rattle.blz_resolver.specs.declared.debug_section.DebugSection.{DebugSection}

@@ -1,5 +1,6 @@
 -- The book that is read of a bundle by its units, and what stays of them over a call.
 use Rattle.std.specs.Prelude.{◌≡◌, ℕ, true}
+use Rattle.blz_info.specs.declared.text.Texts.{Texts}
 use Rattle.blz_units.specs.BuiltUnits.{files_view}
 use Rattle.blz_index.specs.UnitsWarm.{units_table, announced_ordered, units_prepared, functions_kept, functions_ordered, lines_kept, CanBeAsked}
 use Rattle.blz_index.specs.declared.units.Units.{Units}
@@ -9,6 +10,10 @@ use Rattle.blz_resolver.specs.declared.book_reader.BookReader.{BookReader}
 
 abbrev pub book_of : BookReader → Units → Book
 book_of r u = record { images = bundle_view r.bundle; files = files_view r.dwarf; table = units_table u }
+
+-- what is said of texts and a book, of those of a reader and its units
+abbrev pub as_read : {A : Type 0} → BookReader → Units → (Texts → Book → A) → A
+as_read r u said = said r.dwarf.texts (book_of r u)
 
 -- The units are those of the files.
 abbrev pub Reads : BookReader → Units → Type 0

@@ -1,5 +1,5 @@
 //! Lists of calls of a resolver: no answer depends on the calls before it.
-ghost use Rattle.std.specs.Prelude.{◌≡◌, IfOk};
+ghost use Rattle.std.specs.Prelude.{IfOk};
 ghost use Rattle.blz_resolver.specs.Commands.{IsReply, AreReplies};
 ghost use Rattle.blz_resolver.specs.Resolver.{SameBundle, has_debug};
 

@@ -1,5 +1,5 @@
 //! The places of a function and of the calls inlined in it.
-ghost use Rattle.std.specs.Prelude.{◌≡◌, true, false, is_some, map, None, Some, IfOk};
+ghost use Rattle.std.specs.Prelude.{◌≡◌, true, false, is_some, map, None, IfOk};
 ghost use Rattle.std.specs.Option.{option_map};
 ghost use Rattle.blz_elf.specs.CallViews as shown;
 ghost use Rattle.blz_line.specs.Lookups.{location_view};

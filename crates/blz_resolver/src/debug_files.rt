@@ -1,14 +1,14 @@
 //! The debug information of all images of a bundle.
-ghost use Rattle.std.specs.Prelude.{◌≡◌, Some, IfOk, IfSome};
+ghost use Rattle.std.specs.Prelude.{◌≡◌, IfOk, IfSome};
 ghost use Rattle.std.specs.FinMap as map;
 ghost use Rattle.std.specs.Option.{option_map};
 ghost use Rattle.blz_model.specs.Part.{Gives};
 ghost use Rattle.blz_info.specs.FileSections.{sections_view};
 ghost use Rattle.blz_split.specs.PackageParts.{package_view, package_of};
 ghost use Rattle.blz_units.specs.BuiltUnits.{bytes_of, files_view, AreSupTexts, AreTextsOf, ArePacked, IsReadable};
-ghost use Rattle.blz_resolver.specs.Books.{as_sup, beside, debug_images, files_in, if_there, sup_image};
+ghost use Rattle.blz_resolver.specs.Books.{as_sup, debug_images, files_in, if_there, sup_image};
 ghost use Rattle.blz_bundle.specs.BundleViews.{bundle_view, companion_view};
-ghost use Rattle.blz_resolver.specs.DebugViews.{debug_view, IsWholeFile};
+ghost use Rattle.blz_resolver.specs.DebugViews.{debug_view};
 ghost use Rattle.blz_resolver.specs.FileViews.{images_view, package_info, package_strings, sup_info, sup_line_str, IsSup};
 ghost use Rattle.blz_bundle.specs.Images.{debug_file};
 

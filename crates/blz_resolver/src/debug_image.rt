@@ -1,5 +1,5 @@
 //! The debug information of one image.
-ghost use Rattle.std.specs.Prelude.{◌≡◌, ◌<◌, ◌^◌, length};
+ghost use Rattle.std.specs.Prelude.{◌≡◌};
 ghost use Rattle.std.specs.FinMap as map;
 ghost use Rattle.blz_model.specs.Part.{Gives};
 ghost use Rattle.blz_info.specs.FileSections.{sections_view};

@@ -1,15 +1,13 @@
 //! The debug information of a bundle with its units.
-ghost use Rattle.std.specs.Prelude.{◌≡◌, ◌<◌, ◌≤◌, ◌-◌, true, false, length, map, IfOk, Option, option_map};
+ghost use Rattle.std.specs.Prelude.{◌≡◌, ◌<◌, ◌≤◌, ◌-◌, true, false, length, map, IfOk, option_map};
 ghost use Rattle.std.specs.FinMap as finite;
 ghost use Rattle.blz_model.specs.Part.{Gives, Exactly, all_good};
 ghost use Rattle.blz_elf.specs.AnswerView.{answer_view};
 ghost use Rattle.blz_elf.specs.Asked.{asks_code_info, asks_inlined_fns};
 ghost use Rattle.blz_elf.specs.Listings.{ShowsAll};
 ghost use Rattle.blz_info.specs.Marks.{or_invalid};
-ghost use Rattle.blz_ranges.specs.Keyed.{IsAccepted, begin_key};
-ghost use Rattle.blz_ranges.specs.Owned.{items_of};
 ghost use Rattle.blz_units.specs.UnitTables.{units_of};
-ghost use Rattle.blz_index.specs.UnitsWarm.{units_table, units_prepared, lines_kept, announced_kept, announced_ordered, UnitsFit, UnitsGrow, AreCold};
+ghost use Rattle.blz_index.specs.UnitsWarm.{AnnouncedOrdered, units_table, units_prepared, lines_kept, UnitsFit, UnitsGrow, AreCold};
 ghost use Rattle.blz_resolver.specs.AddressAnswers.{answer_of};
 ghost use Rattle.blz_resolver.specs.Books.{files_in, frame_of};
 ghost use Rattle.blz_bundle.specs.BundleViews.{bundle_view};
@@ -55,7 +53,7 @@ fn read_units<O: Orders>(alloc: Global, orders: &mut O, files: &DebugFiles<'_>) 
     requires { files.now.none ≡ finite.empty }
     ensures value { Gives units_table result (or_invalid (units_of (files_in (images_view files.now)))) }
     ensures fits { IfOk result (UnitsFit (files_in (images_view files.now))) }
-    ensures accepted { IfOk result (λ u. IsAccepted O.pair_places (map begin_key (items_of (announced_kept u))) (announced_ordered u)) }
+    ensures accepted { IfOk result (AnnouncedOrdered O.pair_places) }
     ensures cold { IfOk result AreCold }
 {
     let dwarf = files.dwarf();
@@ -75,7 +73,7 @@ impl<'b> DebugInfo<'b> {
         requires { IsOfDebugFile (bundle_view bundle.now) parser.old }
         ensures frame { Gives (info_book (bundle_view bundle.now)) result (frame_of (bundle_view bundle.now)) }
         ensures fits { IfOk result (HasBook (bundle_view bundle.now)) }
-        ensures accepted { IfOk result (λ d. IsAccepted O.pair_places (map begin_key (items_of (announced_kept d.units))) (announced_ordered d.units)) }
+        ensures accepted { IfOk result (λ d. AnnouncedOrdered O.pair_places d.units) }
         ensures cold { IfOk result (λ d. AreCold d.units) }
         ensures same { parser.new ≡ parser.old }
     {

@@ -1,14 +1,13 @@
 //! The functions of a name, as they are listed.
-ghost use Rattle.std.specs.Prelude.{◌≡◌, ℕ, ◌<◌, true, [], map, length, Some, slice_get};
+ghost use Rattle.std.specs.Prelude.{◌≡◌, true, map};
 ghost use Rattle.std.specs.Option.{unwrap_or};
 ghost use Rattle.blz_model.specs.Part.{Gives, Exactly, all_good};
 ghost use Rattle.blz_elf.specs.Infos.{info_view};
 ghost use Rattle.blz_index.specs.UnitsWarm.{functions_kept, AllKept};
-ghost use Rattle.blz_functions.specs.declared.functions.Function.{Function};
 ghost use Rattle.blz_resolver.specs.AddressAnswers.{size_of};
 ghost use Rattle.blz_bundle.specs.BundleViews.{bundle_view};
-ghost use Rattle.blz_resolver.specs.FunctionNames.{place_if, function_info, numbered_info, infos_or_symbols, addresses_in};
-ghost use Rattle.blz_resolver.specs.Reading.{book_of, Reads, Keeps};
+ghost use Rattle.blz_resolver.specs.FunctionNames.{place_if, function_info, numbered_info, addresses_in};
+ghost use Rattle.blz_resolver.specs.Reading.{as_read, Reads, Keeps};
 ghost use Rattle.blz_resolver.specs.Sources.{IsOfDebugFile};
 
 use crate::book_reader::BookReader;
@@ -73,7 +72,7 @@ impl<'b> BookReader<'_, 'b> {
     ) -> Result<SymInfo<'b>>
         requires reads { Reads self.now units.now }
         requires kept { functions_kept units.now at.0 ≡ true }
-        ensures { Exactly info_view result (numbered_info self.now.dwarf.texts (book_of self.now units.now) asked at) }
+        ensures { Exactly info_view result (as_read self.now units.now numbered_info asked at) }
     {
         let function = self.function_numbered(units, at)?;
         self.function_info(alloc, asked, &function)
@@ -88,7 +87,7 @@ impl<'b> BookReader<'_, 'b> {
     ) -> Result<SymInfos<'b>>
         requires reads { Reads self.now units.now }
         requires kept { AllKept units.now found.now }
-        ensures { Gives (λ v. v) result (all_good (map (numbered_info self.now.dwarf.texts (book_of self.now units.now) asked) found.now)) }
+        ensures { Gives (λ v. v) result (all_good (map (as_read self.now units.now numbered_info asked) found.now)) }
     {
         let mut infos = Vec::with_capacity(alloc, found.len())?;
         for at in found {
@@ -111,7 +110,7 @@ impl<'b> BookReader<'_, 'b> {
     ) -> Result<SymInfos<'b>>
         requires reads { Reads self.now units.old }
         requires parser { IsOfDebugFile (bundle_view self.now.bundle) parser.old }
-        ensures value { Gives (λ v. v) result (addresses_in self.now.dwarf.texts (book_of self.now units.old) name.now opts.now.file_offset) }
+        ensures value { Gives (λ v. v) result (as_read self.now units.old addresses_in name.now opts.now.file_offset) }
         ensures keeps { Keeps self.now units.old units.new }
         ensures same { parser.new ≡ parser.old }
     {

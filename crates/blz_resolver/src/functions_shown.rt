@@ -1,12 +1,10 @@
 //! Shows the functions of a listing.
-ghost use Rattle.std.specs.Prelude.{◌≡◌, ◌<◌, true, false, map, length, option_map};
-ghost use Rattle.blz_elf.specs.Listings.{Shows, ShowsAll, listing_of, listing_if};
-ghost use Rattle.blz_info.specs.Marks.{or_invalid};
+ghost use Rattle.std.specs.Prelude.{◌≡◌, ◌<◌, false, map, length};
+ghost use Rattle.blz_elf.specs.Listings.{Shows, ShowsAll, listing_of};
 ghost use Rattle.blz_index.specs.UnitsWarm.{units_table};
-ghost use Rattle.blz_functions.specs.declared.functions.Function.{Function};
 ghost use Rattle.blz_bundle.specs.BundleViews.{bundle_view};
-ghost use Rattle.blz_resolver.specs.FunctionNames.{function_info, named_only, unit_listing, units_listing, functions_listing};
-ghost use Rattle.blz_resolver.specs.Reading.{book_of, Reads, Keeps};
+ghost use Rattle.blz_resolver.specs.FunctionNames.{function_info, named_only, unit_listing, functions_listing};
+ghost use Rattle.blz_resolver.specs.Reading.{as_read, Reads, Keeps};
 
 use crate::book_reader::BookReader;
 use blz_bytes::Orders;
@@ -52,7 +50,7 @@ impl<'b> BookReader<'_, 'b> {
         requires reads { Reads self.now units.old }
         requires there { unit < length (units_table units.old).kept }
         requires goes_on { V.stopped visit.old ≡ false }
-        ensures shows { Shows (unit_listing self.now.dwarf.texts (book_of self.now units.old) asked unit) (V.shown visit.old) (V.shown visit.new) (V.stopped visit.new) result }
+        ensures shows { Shows (as_read self.now units.old unit_listing asked unit) (V.shown visit.old) (V.shown visit.new) (V.stopped visit.new) result }
         ensures keeps { Keeps self.now units.old units.new }
     {
         units.fill_functions(alloc, orders, &self.dwarf, unit)?;
@@ -74,7 +72,7 @@ impl<'b> BookReader<'_, 'b> {
     ) -> Result<()>
         requires reads { Reads self.now units.old }
         requires goes_on { V.stopped visit.old ≡ false }
-        ensures shows { ShowsAll (functions_listing self.now.dwarf.texts (book_of self.now units.old) asked) (V.shown visit.old) (V.shown visit.new) (V.stopped visit.new) result }
+        ensures shows { ShowsAll (as_read self.now units.old functions_listing asked) (V.shown visit.old) (V.shown visit.new) (V.stopped visit.new) result }
         ensures keeps { Keeps self.now units.old units.new }
     {
         for unit in 0..units.len() {

@@ -1,10 +1,9 @@
 //! The addresses of names, and places of the file.
-ghost use Rattle.std.specs.Prelude.{◌≡◌, true, false, is_some, option_map};
+ghost use Rattle.std.specs.Prelude.{◌≡◌, false, is_some};
 ghost use Rattle.blz_model.specs.Part.{Gives, Exactly};
 ghost use Rattle.blz_elf.specs.Listings.{ShowsAll};
 ghost use Rattle.blz_image.specs.Segments.{image_address_of};
 ghost use Rattle.blz_bundle.specs.BundleViews.{bundle_view};
-ghost use Rattle.blz_resolver.specs.FormatKinds.{IsMemoryOrFormat};
 ghost use Rattle.blz_resolver.specs.FunctionNames.{addresses_of, listing_in};
 ghost use Rattle.blz_resolver.specs.Resolver.{Stays, HasBookIf, has_debug, UnitsStayIf, units_in};
 ghost use Rattle.blz_resolver.specs.Sources.{IsOf, asked_file};

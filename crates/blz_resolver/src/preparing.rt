@@ -9,7 +9,6 @@ ghost use Rattle.blz_bundle.specs.BundleViews.{bundle_view};
 ghost use Rattle.blz_resolver.specs.FormatKinds.{IsFormatKind};
 ghost use Rattle.blz_resolver.specs.Looks.{LooksFewIf};
 ghost use Rattle.blz_resolver.specs.Resolver.{ArePrepared, HasBookIf, Grows, UnitsGrowIf, has_debug, lines_in, rows_filled, units_in};
-ghost use Rattle.blz_resolver.specs.Sources.{IsOf, asked_file};
 ghost use Rattle.blz_resolver.specs.UnitRowsRead.{unit_count_of};
 
 use crate::ElfResolver;

@@ -1,10 +1,8 @@
 //! One bundle, as it is asked.
-ghost use Rattle.std.specs.Prelude.{◌≡◌, true, false, is_some, map, None, Option, IfOk, IfErr, IfSome};
+ghost use Rattle.std.specs.Prelude.{◌≡◌, true, false, is_some, None, IfOk, IfErr, IfSome};
 ghost use Rattle.blz_model.specs.Part.{Gives};
 ghost use Rattle.blz_elf.specs.AnswerView.{answer_view};
-ghost use Rattle.blz_ranges.specs.Keyed.{IsAccepted, begin_key};
-ghost use Rattle.blz_ranges.specs.Owned.{items_of};
-ghost use Rattle.blz_index.specs.UnitsWarm.{announced_kept, announced_ordered, AreCold};
+ghost use Rattle.blz_index.specs.UnitsWarm.{AnnouncedOrdered, AreCold};
 ghost use Rattle.blz_resolver.specs.AddressAnswers.{answer_of};
 ghost use Rattle.blz_resolver.specs.Books.{framed};
 ghost use Rattle.blz_bundle.specs.BundleViews.{bundle_view};
@@ -81,7 +79,7 @@ impl<'b> ElfResolver<'b> {
         ensures frame { Gives (λ _. tt) result (framed (bundle_view bundle.now)) }
         ensures images { IfOk result (λ r. r.images ≡ bundle_view bundle.now) }
         ensures has_debug { IfOk result (λ r. has_debug r ≡ true) }
-        ensures accepted { IfOk result (λ r. IfSome r.units (λ u. IsAccepted O.pair_places (map begin_key (items_of (announced_kept u))) (announced_ordered u))) }
+        ensures accepted { IfOk result (λ r. IfSome r.units (AnnouncedOrdered O.pair_places)) }
         ensures cold { IfOk result (λ r. IfSome r.units AreCold) }
         ensures is_prepared { IfOk result (λ r. r.prepared ≡ false) }
         ensures kinds { IfErr result (λ e. IsMemoryOrFormat e.kind) }

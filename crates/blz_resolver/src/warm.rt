@@ -1,14 +1,13 @@
 //! What is kept of a bundle, without its images.
-ghost use Rattle.std.specs.Prelude.{◌≡◌, true, Option};
+ghost use Rattle.std.specs.Prelude.{◌≡◌, true};
 ghost use Rattle.std.specs.FinMap as finite;
 ghost use Rattle.std.specs.Option.{option_map};
 ghost use Rattle.blz_model.specs.Part.{Good};
 ghost use Rattle.blz_split.specs.PackageParts.{package_view, package_of};
-ghost use Rattle.blz_resolver.specs.Books.{debug_images, framed, if_there, sup_image};
+ghost use Rattle.blz_resolver.specs.Books.{framed, if_there, sup_image};
 ghost use Rattle.blz_bundle.specs.BundleViews.{bundle_view, companion_view};
 ghost use Rattle.blz_resolver.specs.DebugSections.{debug_parts};
 ghost use Rattle.blz_resolver.specs.DebugViews.{parts_view, debug_view};
-ghost use Rattle.blz_resolver.specs.FileViews.{images_view};
 ghost use Rattle.blz_bundle.specs.Images.{debug_file};
 ghost use Rattle.blz_resolver.specs.Resolver.{HasBook, HasBookIf, has_debug, units_in};
 ghost use Rattle.blz_resolver.specs.Sources.{IsOf};

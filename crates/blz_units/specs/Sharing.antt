@@ -1,10 +1,13 @@
 -- What the units of some sections share: tables of abbreviations, headers of line programs and what they cover, by their
 -- offsets.
-use Rattle.std.specs.Prelude.{◌≡◌, ℕ, List, Some, IfSome, is_some}
+use Rattle.std.specs.Prelude.{◌≡◌, ℕ, List, Result, Some, IfSome, is_some}
 use Rattle.std.specs.BTreeMap.{get}
 use Rattle.std.specs.declared.cmp.Ordering.{Ordering}
+use Rattle.blz_error.specs.Fault.{Fault}
+use Rattle.blz_model.specs.Part.{Gives}
 use Rattle.blz_info.specs.Contents.{Contents}
 use Rattle.blz_info.specs.FileSections.{FileSections}
+use Rattle.blz_info.specs.Marks.{or_invalid}
 use Rattle.blz_entry.specs.declared.root.UnitRoot.{UnitRoot}
 use Rattle.blz_info.specs.declared.units.UnitHeader.{UnitHeader}
 use Rattle.blz_functions.specs.Leaves.{lying}
@@ -30,6 +33,10 @@ program_cmp = order.ghosts.cmp
 -- what the sequences of the line program at an offset cover, for each unit that reads it so
 abbrev pub AreSpansAt : FileSections → ℕ → LinesKey → List Span → Type 0
 AreSpansAt s at key spans = (h : UnitHeader) (r : UnitRoot) → lines_key h r ≡ key → sequences_of (maybe_table (lying s) h r (Some at)) ≡ spans
+
+-- whether there is a header of a line program at an offset, or why it can't be told
+abbrev pub IsHeaderAt : Contents → ℕ → ℕ → Result (Unit {0}) Fault → Type 0
+IsHeaderAt line at address_size result = Gives (λ _. tt) result (or_invalid (line_header line at address_size))
 
 -- It is known of headers whether they can be read at an offset with a size of addresses.
 abbrev pub AreHeaders : Contents → LineHeaders → Type 0

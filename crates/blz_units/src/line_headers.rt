@@ -1,13 +1,11 @@
 //! Whether there are headers of line programs, each read once.
 ghost use Rattle.std.specs.Prelude.{◌≡◌, is_some};
 ghost use Rattle.std.specs.BTreeMap.{get};
-ghost use Rattle.blz_model.specs.Part.{Gives};
 ghost use Rattle.blz_info.specs.Contents.{Contents};
 ghost use Rattle.blz_info.specs.FileSections.{sections_view};
-ghost use Rattle.blz_info.specs.Marks.{or_invalid};
 ghost use Rattle.blz_units.specs.BuiltUnits.{line_header};
 ghost use Rattle.blz_units.specs.SharedTables.{table_cmp};
-ghost use Rattle.blz_units.specs.Sharing.{AreHeaders};
+ghost use Rattle.blz_units.specs.Sharing.{AreHeaders, IsHeaderAt};
 
 use blz_entry::{Sections, invalid};
 use blz_error::{ErrorKind, Result};
@@ -23,7 +21,7 @@ pub struct LineHeaders {
 
 /// Asks for the header of the line program at an offset.
 fn read_header(alloc: Global, sections: &Sections<'_, '_>, at: u64, address_size: u8) -> Result<()>
-    ensures { Gives (λ _. tt) result (or_invalid (line_header (sections_view sections.now).line at address_size)) }
+    ensures { IsHeaderAt (sections_view sections.now).line at address_size result }
 {
     LineHeader::parse(alloc, sections, at, address_size)?;
     Ok(())
@@ -71,7 +69,7 @@ impl LineHeaders {
         address_size: u8,
     ) -> Result<()>
         requires { AreHeaders (sections_view sections.now).line self.old }
-        ensures value { Gives (λ _. tt) result (or_invalid (line_header (sections_view sections.now).line at address_size)) }
+        ensures value { IsHeaderAt (sections_view sections.now).line at address_size result }
         ensures headers { AreHeaders (sections_view sections.now).line self.new }
     {
         let Err(fault) = read_header(alloc, sections, at, address_size) else {
@@ -97,7 +95,7 @@ impl LineHeaders {
         address_size: u8,
     ) -> Result<()>
         requires { AreHeaders (sections_view sections.now).line self.old }
-        ensures value { Gives (λ _. tt) result (or_invalid (line_header (sections_view sections.now).line at address_size)) }
+        ensures value { IsHeaderAt (sections_view sections.now).line at address_size result }
         ensures headers { AreHeaders (sections_view sections.now).line self.new }
     {
         match self.has_header(at, address_size) {

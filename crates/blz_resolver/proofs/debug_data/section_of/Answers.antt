@@ -1,4 +1,4 @@
-use Rattle.std.proofs.Common.{rules, ◌≡◌}
+use Rattle.std.proofs.Common.{rules}
 use Rattle.blz_resolver.proofs.NumberedSections.{located_numbered}
 use Rattle.blz_resolver.proofs.debug_data.section_of.Goals as goal
 

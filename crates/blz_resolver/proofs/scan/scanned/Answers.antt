@@ -1,6 +1,6 @@
 use Rattle.std.proofs.Common.{◌≡◌, ℕ, true, List, map, refl, sym, subst}
 use Rattle.blz_model.specs.Answers.{Answer}
-use Rattle.blz_model.specs.Part.{Part, Good, Broken, Gives, ◌>>=◌, all_good}
+use Rattle.blz_model.specs.Part.{Part, Good, Gives, ◌>>=◌, all_good}
 use Rattle.blz_elf.specs.AnswerView.{answer_view}
 use Rattle.blz_elf.specs.declared.opts.FindSymOpts.{FindSymOpts}
 use Rattle.blz_bundle.specs.BundleViews.{bundle_view}

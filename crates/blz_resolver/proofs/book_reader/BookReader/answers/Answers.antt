@@ -1,16 +1,10 @@
-use Rattle.std.proofs.Common.{◌≡◌, ◌++◌, ◌∷◌, ◌∙◌, [], map, ap, sym, subst, arith}
+use Rattle.std.proofs.Common.{◌≡◌, ◌++◌, ◌∷◌, ◌∙◌, [], map, arith}
 use Rattle.std.proofs.lemmas.List.{map_push, get_or_default, length-append}
-use Rattle.blz_model.specs.Answers.{Answer}
-use Rattle.blz_model.specs.Part.{Part, Gives}
-use Rattle.blz_model.proofs.PartLemmas.{all_on, all_start}
+use Rattle.blz_model.proofs.PartLemmas.{all_on}
 use Rattle.blz_elf.specs.AnswerView.{answer_view}
-use Rattle.blz_units.specs.UnitTables.{UnitTable}
-use Rattle.blz_bundle.specs.BundleViews.{bundle_view}
-use Rattle.blz_units.specs.BuiltUnits.{files_view}
-use Rattle.blz_resolver.specs.AddressAnswers.{answer_in, answers_in}
-use Rattle.blz_resolver.specs.Books.{Book}
+use Rattle.blz_resolver.specs.AddressAnswers.{answers_in}
 use Rattle.blz_resolver.specs.Reading.{book_of}
-use Rattle.blz_resolver.proofs.ReaderSteps.{keeps_same, keeps_on}
+use Rattle.blz_resolver.proofs.ReaderSteps.{keeps_on}
 use Rattle.blz_resolver.proofs.book_reader.BookReader.answers.Goals as goal
 
 pub loop-addr-preserved : goal.loop-addr-preserved

@@ -1,6 +1,6 @@
-use Rattle.std.proofs.Common.{List, map, refl, sym, ap, subst}
+use Rattle.std.proofs.Common.{List, map, refl, sym, subst}
 use Rattle.blz_model.specs.Answers.{Answer}
-use Rattle.blz_model.specs.Part.{Part, Gives, all_good}
+use Rattle.blz_model.specs.Part.{Part, Gives}
 use Rattle.blz_elf.specs.AnswerView.{answer_view}
 use Rattle.blz_bundle.specs.BundleViews.{bundle_view}
 use Rattle.blz_resolver.specs.declared.book_reader.BookReader.{BookReader}
