@@ -5,6 +5,7 @@ mod asked;
 mod entries;
 mod lent;
 mod listed;
+mod listed_calls;
 mod packages;
 mod ranges;
 mod small;

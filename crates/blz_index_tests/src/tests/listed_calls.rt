@@ -1,0 +1,101 @@
+//! Calls of several functions of a unit, all of which name one list of ranges.
+ghost use Rattle.std.specs.Prelude.{◌≡◌};
+ghost use Rattle.std.specs.FinMap as map;
+ghost use Rattle.blz_units.specs.BuiltUnits.{IsReadable};
+
+use super::small::{file_of, only_unit};
+use blz_bytes::ByStdSort;
+use blz_entry::{Section, Sections};
+use blz_images::codes::*;
+use blz_images::{Attribute, ByteOrder, DebugInfo};
+use blz_index::{Dwarf, InlinedSites};
+use blz_moves::RelocationMap;
+use std::alloc::{AllocError, Global};
+use std::test::Fail;
+
+// the odd addresses below 0x0a, as distances from the begin of the unit
+const LIST: &[u8] = &[4, 1, 2, 4, 3, 4, 4, 5, 6, 4, 7, 8, 4, 9, 10, 0];
+
+fn open_function(entries: &mut DebugInfo, begin: u64) -> Result<(), AllocError> {
+    entries.open(
+        DW_TAG_SUBPROGRAM,
+        &[
+            Attribute::address(DW_AT_LOW_PC, begin),
+            Attribute::data4(DW_AT_HIGH_PC, 8),
+        ],
+    )
+}
+
+// a call that names the list
+fn open_listed_call(entries: &mut DebugInfo, name: &str) -> Result<(), AllocError> {
+    entries.open(
+        DW_TAG_INLINED_SUBROUTINE,
+        &[
+            Attribute::text(DW_AT_NAME, name),
+            Attribute::section_offset(DW_AT_RANGES, 0),
+        ],
+    )
+}
+
+// two functions: with a call of the list, and with three of them, the second in the first
+fn functions_of_one_list(alloc: Global) -> Result<DebugInfo, AllocError> {
+    let mut entries = DebugInfo::new(alloc, ByteOrder::Little, 5);
+    entries.open_unit(0, 0x20)?;
+    open_function(&mut entries, 0)?;
+    open_listed_call(&mut entries, "a")?;
+    entries.close()?;
+    entries.close()?;
+    open_function(&mut entries, 8)?;
+    open_listed_call(&mut entries, "b")?;
+    open_listed_call(&mut entries, "c")?;
+    entries.close()?;
+    entries.close()?;
+    open_listed_call(&mut entries, "other")?;
+    entries.close()?;
+    entries.close()?;
+    entries.close_unit()?;
+    Ok(entries)
+}
+
+// the same file with the list
+fn with_list<'s, 'b>(dwarf: Dwarf<'s, 'b>, none: &'s RelocationMap) -> Dwarf<'s, 'b>
+    requires none { none.now ≡ map.empty }
+    requires readable { IsReadable dwarf }
+    ensures { IsReadable result }
+{
+    let rnglists = Section {
+        bytes: LIST,
+        moves: none,
+        order: ByteOrder::Little,
+    };
+    let main = Sections {
+        rnglists,
+        ..dwarf.main
+    };
+    Dwarf { main, ..dwarf }
+}
+
+// the name of the outermost call, and none where there is no call
+fn outermost<'b>(sites: &InlinedSites<'b>) -> &'b str {
+    match sites.get(0) {
+        Some(site) => site.name,
+        None => "",
+    }
+}
+
+#[test]
+fn a_call_of_a_list_is_found_in_each_function(rt: HostRuntime) -> Result<(), Fail> {
+    let alloc = rt.alloc();
+    let entries = functions_of_one_list(alloc)?;
+    let abbreviations = entries.abbreviations()?;
+    let none = RelocationMap::new(alloc);
+    let dwarf = with_list(file_of(entries.info(), &abbreviations, &[], &none), &none);
+    let orders = &mut ByStdSort;
+    let mut units = only_unit(alloc, orders, &dwarf)?;
+    // the first function has the ranges of the list for itself, and the second has those of the unit
+    let own = units.find_inlined_functions(alloc, orders, &dwarf, 5, 0, 0)?;
+    assert!(rt; own.len() == 1 && outermost(&own) == "a");
+    let kept = units.find_inlined_functions(alloc, orders, &dwarf, 5, 0, 1)?;
+    assert!(rt; kept.len() == 2 && outermost(&kept) == "b");
+    Ok(())
+}
