@@ -1,5 +1,5 @@
 -- The counts of the lines and the rest sum to the total.
-use Rattle.std.proofs.Common.{◌≡◌, ℕ, ◌+◌, ◌&&◌, ◌||◌, Bool, true, false, not, is_none, List, [], ◌∷◌, ◌++◌, map, sum_by, fold, refl, sym, ap, ◌∙◌, subst, Option, Some, None, if◌then◌else◌, arith}
+use Rattle.std.proofs.Common.{◌≡◌, ℕ, ◌+◌, ◌&&◌, ◌||◌, Bool, true, false, not, is_none, List, [], ◌∷◌, ◌++◌, map, sum_by, fold, refl, sym, ap, ◌∙◌, Option, Some, None, if◌then◌else◌, arith}
 use Rattle.std.proofs.lemmas.List.Folds.{list_any-append}
 use Rattle.std.proofs.lemmas.List.Sums.{sum_by-cons}
 use Rattle.std.proofs.lemmas.Map.Keys.{IsDistinct-head, IsDistinct-tail}

@@ -1,5 +1,5 @@
 -- What a line of hits gives, where it is refused.
-use Rattle.std.proofs.Common.{◌≡◌, ℕ, ◌+◌, ◌-◌, ◌^◌, Bool, true, false, nat_lt, refl, sym, ap, ◌∙◌, subst, Option, Some, None, if◌then◌else◌}
+use Rattle.std.proofs.Common.{◌≡◌, ℕ, ◌+◌, ◌-◌, ◌^◌, Bool, true, false, nat_lt, ap, Some, if◌then◌else◌}
 use Rattle.blz_error.specs.declared.kind.ErrorKind.{ErrorKind}
 use Rattle.blz_model.specs.Answers.{Answer}
 use Rattle.blz_model.specs.Part.{Part, Good, Broken}
@@ -15,8 +15,7 @@ use Rattle.blz_cover.specs.Changes.{added, total_of}
 use Rattle.blz_cover.specs.Counting.{found_at, mark_or}
 use Rattle.blz_cover.specs.Covers.{Cover, hit_fault, mark_fault}
 use Rattle.blz_cover.specs.declared.change.Change.{Change}
-use Rattle.blz_cover.specs.declared.fault.CoverFault.{CoverFault}
-use Rattle.blz_cover.specs.declared.fault.CoverFault.TheVariants.{Missing, Full, Mark, Memory}
+use Rattle.blz_cover.specs.declared.fault.CoverFault.TheVariants.{Full, Mark}
 
 broken_part : (p : Part Answer) (k : ErrorKind) (next : Found) → mark_fault p ≡ Some (Mark k) → (mark_or p next ≡ run.Mark k) × (p ≡ Broken k)
 broken_part (Good answer) k next is = cc

@@ -1,16 +1,16 @@
 -- What one more change does to all that a cover keeps.
-use Rattle.std.proofs.Common.{◌≡◌, ◌≢◌, ℕ, ◌+◌, ◌-◌, ◌^◌, ◌<◌, ◌≤◌, ◌==◌, ◌||◌, zero, suc, Bool, true, false, cond, List, [], ◌∷◌, ◌++◌, length, slice_get, refl, ap, sym, ◌∙◌, subst, nat_eq, sum_by, is_none, if◌then◌else◌, Option, Some, None, ◌⊎◌, inl, inr, arith}
-use Rattle.std.proofs.lemmas.Bool.{cases_eq, eqb-true, eq-eqb, ne_eqb}
+use Rattle.std.proofs.Common.{◌≡◌, ℕ, ◌+◌, ◌-◌, ◌^◌, ◌<◌, ◌≤◌, ◌==◌, ◌||◌, zero, suc, Bool, true, false, cond, List, [], ◌∷◌, ◌++◌, length, slice_get, refl, ap, sym, ◌∙◌, subst, nat_eq, sum_by, is_none, if◌then◌else◌, Option, Some, None, ◌⊎◌, inl, inr, arith}
+use Rattle.std.proofs.lemmas.Bool.{eqb-true, eq-eqb}
 use Rattle.std.proofs.lemmas.List.Folds.{list_any-append}
 use Rattle.std.proofs.lemmas.List.Sums.{sum_by-cons}
 use Rattle.std.proofs.lemmas.Map.Keys.{any_passes_from_place}
 use Rattle.std.specs.List.{list_any}
-use Rattle.blz_cover.specs.Changes.{is_added, added_by, left_at, count_of, total_of, added, taken}
-use Rattle.blz_cover.specs.Coverage.{CountedLine, counted, covered_by, seen_lines, count_at, rest_by}
+use Rattle.blz_cover.specs.Changes.{is_added, added_by, left_at, count_of, added, taken}
+use Rattle.blz_cover.specs.Coverage.{CountedLine, counted, covered_by, seen_lines, rest_by}
 use Rattle.std.proofs.lemmas.Option.{slice_get-map, slice_get_within}
 use Rattle.std.specs.Option.{option_map}
 use Rattle.blz_cover.specs.Kept.{HasCount, HasRoom, NoneMissing, LinesStand, StandsAt, HomeStands, TallyStands, TallyStandsIf, Stands, has_change, lines_at, rest_at, home_for, lines_for}
-use Rattle.blz_cover.specs.LineEntries.{LineEntry, first_and_count, recount, found_or_last, is_entry_of}
+use Rattle.blz_cover.specs.LineEntries.{LineEntry, first_and_count, found_or_last, is_entry_of}
 use Rattle.blz_cover.specs.SourceLines.{SourceLine, path_of, is_same, is_at}
 use Rattle.blz_cover.specs.declared.change.Change.{Change}
 use Rattle.blz_cover.specs.declared.tally.Home.{Home}

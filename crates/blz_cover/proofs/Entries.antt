@@ -1,11 +1,10 @@
 -- A table of lines as a plain list.
-use Rattle.std.proofs.Common.{◌≡◌, ◌≢◌, ℕ, ◌+◌, ◌<◌, ◌==◌, ◌||◌, zero, suc, Bool, true, false, cond, List, [], ◌∷◌, ◌++◌, length, map, slice_get, refl, ap, sym, ◌∙◌, Option, Some, None, is_some, not, if◌then◌else◌, arith, add-one}
+use Rattle.std.proofs.Common.{◌≡◌, ◌≢◌, ℕ, ◌+◌, ◌||◌, zero, suc, Bool, true, false, cond, List, [], ◌∷◌, ◌++◌, length, map, slice_get, refl, ap, ◌∙◌, Option, Some, None, is_some, not, arith}
 use Rattle.std.specs.Prelude.{nat_lt}
-use Rattle.std.specs.List.{list_any, position, position_or_len, prefix_len}
+use Rattle.std.specs.List.{list_any, position, position_or_len}
 use Rattle.std.proofs.lemmas.List.{map-append}
 use Rattle.std.specs.Map.{lookup, keys_of, values_of}
-use Rattle.std.specs.Option.{option_map}
-use Rattle.indexmap.specs.IndexMap.{set_value_at, insert_entry}
+use Rattle.indexmap.specs.IndexMap.{set_value_at}
 use Rattle.blz_error.specs.Texts.{Bytes}
 use Rattle.blz_cover.specs.LineEntries.{LineEntry, is_entry_of, found_or_last, met, recount}
 use Rattle.blz_cover.specs.LineKeys.{entry_view}

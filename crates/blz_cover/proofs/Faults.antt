@@ -1,7 +1,6 @@
 -- When a change is refused.
-use Rattle.std.proofs.Common.{◌≡◌, ℕ, ◌+◌, ◌-◌, ◌^◌, ◌<◌, ◌≤◌, Bool, true, false, List, nat_lt, refl, sym, ap, ◌∙◌, subst, Option, Some, None, is_some, if◌then◌else◌, arith}
+use Rattle.std.proofs.Common.{◌≡◌, ℕ, ◌+◌, ◌-◌, ◌^◌, ◌<◌, ◌≤◌, Bool, true, false, nat_lt, refl, sym, ap, ◌∙◌, Some, None, is_some, arith}
 use Rattle.std.proofs.lemmas.Bool.Decides.{nat_tests}
-use Rattle.blz_error.specs.declared.kind.ErrorKind.{ErrorKind}
 use Rattle.blz_model.specs.Answers.{Answer}
 use Rattle.blz_model.specs.Part.{Part, Good, Broken}
 use Rattle.blz_elf.specs.declared.opts.FindSymOpts.TheVariants.{CodeInfo}
@@ -11,7 +10,7 @@ use Rattle.blz_cover.specs.Answers.{answer_at, is_answered, is_good, line_if_goo
 use Rattle.blz_cover.specs.Changes.{count_of, total_of}
 use Rattle.blz_cover.specs.Covers.{Cover, hit_fault, mark_fault, unhit_fault}
 use Rattle.blz_cover.specs.declared.fault.CoverFault.{CoverFault}
-use Rattle.blz_cover.specs.declared.fault.CoverFault.TheVariants.{Missing, Full, Mark, Memory}
+use Rattle.blz_cover.specs.declared.fault.CoverFault.TheVariants.{Missing}
 
 below : (n m : ℕ) → m ≤ n → nat_lt n m ≡ false
 below n m h = grind (arith, nat_tests)

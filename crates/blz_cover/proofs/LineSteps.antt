@@ -1,9 +1,9 @@
 -- What one more change does to the lines that are kept.
-use Rattle.std.proofs.Common.{◌≡◌, ◌≢◌, ℕ, ◌+◌, ◌<◌, ◌==◌, zero, suc, Bool, true, false, List, [], ◌∷◌, ◌++◌, length, slice_get, refl, ap, sym, ◌∙◌, subst, Option, Some, None, ◌⊎◌, inl, inr, ⊎_elim, if◌then◌else◌, arith, length-append}
+use Rattle.std.proofs.Common.{◌≡◌, ◌≢◌, ℕ, ◌+◌, zero, suc, Bool, true, false, List, [], ◌∷◌, ◌++◌, length, slice_get, refl, ap, sym, ◌∙◌, Option, Some, None, ◌⊎◌, inl, inr, if◌then◌else◌, arith, length-append}
 use Rattle.std.proofs.lemmas.Bool.{cases_eq}
 use Rattle.std.proofs.lemmas.Option.{slice_get_within}
-use Rattle.std.specs.List.{list_any, position_or_len}
-use Rattle.blz_cover.specs.Changes.{is_added, added, taken}
+use Rattle.std.specs.List.{list_any}
+use Rattle.blz_cover.specs.Changes.{added}
 use Rattle.blz_cover.specs.Coverage.{with_line, seen_with, seen_lines, count_at}
 use Rattle.blz_cover.specs.Kept.{NoneMissing, EntryStands, LinesStand, StandsAt}
 use Rattle.blz_cover.specs.LineEntries.{LineEntry, is_entry_of, found_or_last, met, recount}
@@ -12,8 +12,8 @@ use Rattle.blz_cover.specs.declared.change.Way.{Way}
 use Rattle.blz_cover.specs.declared.change.Way.TheVariants.{Added, Taken}
 use Rattle.blz_cover.specs.declared.change.Change.{Change}
 use Rattle.blz_cover.proofs.Entries.{length-recount}
-use Rattle.blz_cover.proofs.Lists.{slice_get-append, slice_get-last, slice_get-push, slice_get-first, position_or_len-none, fails_at, list_any-alike, position_or_len-alike, apart_at}
-use Rattle.blz_cover.proofs.Seen.{is_same_equiv, seen_lines-push, seen_lines-taken, seen_lines-rest, seen_lines-again, seen_lines-new, seen_lines-IsDistinct, unseen_adds_nothing}
+use Rattle.blz_cover.proofs.Lists.{slice_get-append, slice_get-push, slice_get-first, position_or_len-none, fails_at, list_any-alike, position_or_len-alike, apart_at}
+use Rattle.blz_cover.proofs.Seen.{is_same_equiv, seen_lines-push, seen_lines-new, seen_lines-IsDistinct, unseen_adds_nothing}
 use Rattle.blz_cover.proofs.Sums.{left_at-other, left_at-added_here, left_at-nothing}
 
 -- an entry of a recounted list is an old one, counted where it stands at the index

@@ -4,19 +4,19 @@ use Rattle.std.specs.FinMap as map
 use Rattle.blz_error.specs.Texts.{Bytes}
 use Rattle.blz_error.specs.declared.kind.ErrorKind.{ErrorKind}
 use Rattle.blz_error.specs.declared.kind.ErrorKind.TheVariants as kind
-use Rattle.blz_model.specs.Part.{Part, Good, Broken, Fails}
+use Rattle.blz_model.specs.Part.{Good, Broken, Fails}
 use Rattle.blz_program.specs.Reading.{FindsNothing, Holds}
-use Rattle.blz_program.specs.Runs.{Found, Text, Mark, Malformed, Line, IsMade}
+use Rattle.blz_program.specs.Runs.{Found, Mark, IsMade}
 use Rattle.blz_program.specs.declared.outcome.Outcome.{Outcome}
 use Rattle.blz_program.specs.declared.outcome.Outcome.TheVariants.{Done, Refused, Usage, BadLine, WriteFailed, OutOfMemory}
-use Rattle.blz_program.proofs.Ends.{HasKindCause-format, HasKindCause-weaker, IsMade-weaker}
+use Rattle.blz_program.proofs.Ends.{HasKindCause-format, HasKindCause-weaker}
 use Rattle.blz_resolver.specs.Books.{framed}
 use Rattle.blz_resolver.specs.Contents.{Contents}
 use Rattle.blz_resolver.specs.FormatKinds.{IsFormatKind, IsMemoryOrFormat}
 use Rattle.blz_resolver.specs.Images.{ImageSet}
 use Rattle.blz_resolver.specs.Opening.{Opens, default_dirs}
 use Rattle.blz_resolver.specs.Outcomes.{HasKindCause}
-use Rattle.blz_cover.specs.Counting.{Finds, FindsCover, FindsFor, FindsHits, FindsInBundle, IsCounted, found_for, found_in_bundle, found_in_hits, found_opened, mark_or}
+use Rattle.blz_cover.specs.Counting.{FindsCover, FindsFor, FindsHits, FindsInBundle, IsCounted, found_for, found_in_hits, found_opened, mark_or}
 
 -- what was counted is what a file of hits gives
 pub IsMade-counted : {Z : Type 0} (r : Result (Vec ℕ Z) Outcome) (found : Found) (F : Type 0) → IsCounted r found → IsMade (λ f. f ≡ found) F r

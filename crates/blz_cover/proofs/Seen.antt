@@ -1,5 +1,5 @@
 -- The lines that a list of changes has met.
-use Rattle.std.proofs.Common.{◌≡◌, ℕ, ◌+◌, ◌<◌, ◌&&◌, ◌||◌, Bool, true, false, List, [], ◌∷◌, ◌++◌, length, refl, ap, sym, ◌∙◌, sum_by, fold, Option, Some, None, arith, if◌then◌else◌}
+use Rattle.std.proofs.Common.{◌≡◌, ℕ, ◌+◌, ◌||◌, Bool, true, false, List, [], ◌∷◌, ◌++◌, refl, ap, ◌∙◌, sum_by, fold, Option, Some, None, arith, if◌then◌else◌}
 use Rattle.std.specs.Cmp.{IsEquivalence, and_equiv, on_equiv, nat_eq_equiv}
 use Rattle.std.specs.Cmp.Lexicographic.{on_texts_equal}
 use Rattle.std.specs.List.{list_any, IsDistinct}
@@ -7,7 +7,7 @@ use Rattle.std.proofs.lemmas.List.Folds.{list_any-append}
 use Rattle.std.proofs.lemmas.List.Sums.{fold_push, sum_by-cons}
 use Rattle.std.proofs.lemmas.Map.Steps.{list_any_congr}
 use Rattle.std.proofs.lemmas.Map.Keys.{IsDistinct-push}
-use Rattle.blz_cover.specs.Changes.{is_added, added_by, added, taken}
+use Rattle.blz_cover.specs.Changes.{added_by, added, taken}
 use Rattle.blz_cover.specs.Coverage.{with_line, seen_with, seen_lines}
 use Rattle.blz_cover.specs.SourceLines.{SourceLine, path_of, is_same, is_at}
 use Rattle.blz_cover.specs.declared.change.Way.{Way}

@@ -1,12 +1,10 @@
 -- Sums over changes: what a test of addresses splits into, and what one more change does.
-use Rattle.std.proofs.Common.{◌≡◌, ℕ, ◌+◌, ◌-◌, ◌≤◌, ◌==◌, ◌&&◌, Bool, true, false, List, [], ◌∷◌, ◌++◌, refl, ap, sym, ◌∙◌, sum_by, arith, if◌then◌else◌}
+use Rattle.std.proofs.Common.{◌≡◌, ℕ, ◌+◌, ◌-◌, ◌≤◌, ◌==◌, ◌&&◌, Bool, true, false, List, [], ◌∷◌, ◌++◌, refl, ◌∙◌, sum_by, arith, if◌then◌else◌}
 use Rattle.std.proofs.lemmas.List.Sums.{sum_by-cons, sum_by_push}
 use Rattle.std.proofs.lemmas.Bool.{eqb-true}
 use Rattle.std.specs.Prelude.{not}
 use Rattle.blz_cover.specs.Changes.{is_added, is_taken, added_by, taken_by, left_at, count_of, total_of, added, taken}
 use Rattle.blz_cover.specs.Kept.{NoneMissing}
-use Rattle.blz_cover.specs.declared.change.Way.{Way}
-use Rattle.blz_cover.specs.declared.change.Way.TheVariants.{Added, Taken}
 use Rattle.blz_cover.specs.declared.change.Change.{Change}
 
 -- a sum whose items split

@@ -1,5 +1,5 @@
 -- The text of lines from an index on.
-use Rattle.std.proofs.Common.{◌≡◌, ℕ, ◌+◌, zero, suc, List, [], ◌∷◌, ◌++◌, drop, slice_get, refl, ap, arith}
+use Rattle.std.proofs.Common.{◌≡◌, ℕ, ◌+◌, zero, suc, List, [], ◌∷◌, ◌++◌, drop, slice_get, refl, arith}
 use Rattle.blz_cover.specs.CoverText.{line_text_if, lines_text}
 use Rattle.blz_cover.specs.Coverage.{CountedLine}
 

@@ -1,7 +1,7 @@
 -- At which line of a source an address stands, by the answer that its debug information gives.
 use Rattle.std.specs.Prelude.{ℕ, Bool, true, false, [], Option, Some, None}
 use Rattle.blz_error.specs.Texts.{Bytes}
-use Rattle.blz_model.specs.Answers.{Site, Resolved, Answer, Known, Unknown}
+use Rattle.blz_model.specs.Answers.{Site, Answer, Known, Unknown}
 use Rattle.blz_model.specs.Part.{Part, Good, Broken}
 use Rattle.blz_elf.specs.declared.opts.FindSymOpts.TheVariants.{CodeInfo}
 use Rattle.blz_resolver.specs.AddressAnswers.{answer_of}

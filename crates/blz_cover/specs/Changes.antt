@@ -1,5 +1,5 @@
 -- What a list of changes leaves: the sum of what was added, less the sum of what was taken.
-use Rattle.std.specs.Prelude.{ℕ, ◌-◌, ◌≤◌, ◌==◌, ◌&&◌, Bool, true, false, List, sum_by, if◌then◌else◌}
+use Rattle.std.specs.Prelude.{ℕ, ◌-◌, ◌==◌, ◌&&◌, Bool, true, false, List, sum_by, if◌then◌else◌}
 use Rattle.blz_cover.specs.declared.change.Way.{Way}
 use Rattle.blz_cover.specs.declared.change.Way.TheVariants.{Added, Taken}
 use Rattle.blz_cover.specs.declared.change.Change.{Change}

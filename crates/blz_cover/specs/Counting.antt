@@ -4,7 +4,6 @@ use Rattle.std.specs.FinMap as map
 use Rattle.std.specs.Prelude.{codes}
 use Rattle.std.specs.declared.vec.Vec.{Vec}
 use Rattle.blz_error.specs.Texts.{Bytes}
-use Rattle.blz_error.specs.declared.kind.ErrorKind.{ErrorKind}
 use Rattle.blz_error.specs.declared.kind.ErrorKind.TheVariants.{NotFound}
 use Rattle.blz_model.specs.Part.{Part, Good, Broken}
 use Rattle.blz_program.specs.Outcomes.{ProgramTexts}

@@ -1,5 +1,5 @@
 -- The counts of lines that a list of changes gives, where it is known at which line each address stands.
-use Rattle.std.specs.Prelude.{ℕ, ◌&&◌, Bool, true, false, List, [], ◌∷◌, ◌++◌, fold, map, Option, Some, None, is_none, if◌then◌else◌}
+use Rattle.std.specs.Prelude.{ℕ, List, [], ◌∷◌, ◌++◌, fold, map, Option, Some, None, is_none, if◌then◌else◌}
 use Rattle.std.specs.List.{list_any}
 use Rattle.blz_error.specs.Texts.{Bytes}
 use Rattle.blz_cover.specs.Changes.{is_added, left_at}

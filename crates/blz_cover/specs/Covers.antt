@@ -1,11 +1,10 @@
 -- What a cover stands for, and what its calls are refused for.
-use Rattle.std.specs.Prelude.{◌≡◌, ℕ, ◌+◌, ◌-◌, ◌^◌, nat_lt, Bool, true, false, List, [], ◌∷◌, ◌++◌, Option, Some, None, Result, Ok, Err, ⊤, if◌then◌else◌}
-use Rattle.blz_error.specs.declared.kind.ErrorKind.{ErrorKind}
+use Rattle.std.specs.Prelude.{◌≡◌, ℕ, ◌+◌, ◌-◌, ◌^◌, nat_lt, List, [], ◌∷◌, ◌++◌, Option, Some, None, Result, Ok, Err, ⊤, if◌then◌else◌}
 use Rattle.blz_model.specs.Answers.{Answer}
 use Rattle.blz_model.specs.Part.{Part, Good, Broken}
 use Rattle.blz_resolver.specs.Images.{ImageSet}
 use Rattle.blz_cover.specs.Answers.{answer_at, source_line}
-use Rattle.blz_cover.specs.Changes.{count_of, total_of, added, taken}
+use Rattle.blz_cover.specs.Changes.{count_of, total_of}
 use Rattle.blz_cover.specs.Coverage.{CountedLine, covered_by, rest_by}
 use Rattle.blz_cover.specs.declared.change.Change.{Change}
 use Rattle.blz_cover.specs.declared.fault.CoverFault.{CoverFault}

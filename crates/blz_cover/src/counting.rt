@@ -1,5 +1,5 @@
 //! Counting the hits of a file.
-ghost use Rattle.std.specs.Prelude.{◌≡◌, ◌+◌, ◌<◌, ◌≤◌, ◌∷◌, [], ℕ, true, List, IfErr, OnOk, length};
+ghost use Rattle.std.specs.Prelude.{◌≡◌, ◌+◌, ◌<◌, ◌∷◌, [], true, List, IfErr, OnOk};
 ghost use Rattle.blz_error.specs.Texts.{Bytes};
 ghost use Rattle.blz_program.specs.Runs.{Text};
 ghost use Rattle.blz_program.specs.TextLines.{lines_of};

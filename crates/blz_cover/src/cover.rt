@@ -3,7 +3,7 @@ ghost use Rattle.std.specs.Prelude.{◌≡◌, ◌+◌, ◌≤◌, ◌<◌, ◌^
 ghost use Rattle.std.specs.Option.{option_map};
 ghost use Rattle.blz_resolver.specs.Resolver.{has_debug};
 ghost use Rattle.blz_cover.specs.Answers.{answer_at, is_answered, source_line};
-ghost use Rattle.blz_cover.specs.Changes.{added, count_of, taken, total_of};
+ghost use Rattle.blz_cover.specs.Changes.{added, taken, total_of};
 ghost use Rattle.blz_cover.specs.Covers.{AnswersFault, AppliesChange, IsMark, changed, covered, hit_fault, mark_fault, rest_of, unhit_fault};
 ghost use Rattle.blz_cover.specs.Kept.{has_change};
 ghost use Rattle.blz_cover.specs.LineViews.{line_view, source_view};

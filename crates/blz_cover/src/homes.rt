@@ -1,5 +1,5 @@
 //! Counting at lines and at the rest.
-ghost use Rattle.std.specs.Prelude.{◌≡◌, ◌+◌, ◌-◌, ◌≤◌, ◌<◌, ◌^◌, slice_get, Some, IfOk, OnOk, OnErr};
+ghost use Rattle.std.specs.Prelude.{◌≡◌, ◌+◌, ◌-◌, IfOk, OnOk, OnErr};
 ghost use Rattle.std.specs.Option.{option_map};
 ghost use Rattle.blz_cover.specs.Kept.{home_for, lines_at, lines_for, rest_at, HasRoom, HasCount};
 ghost use Rattle.blz_cover.specs.LineViews.{source_view};

@@ -1,5 +1,5 @@
 //! Lines of sources with their counts, in the order in which they were met.
-ghost use Rattle.std.specs.Prelude.{◌≡◌, ◌+◌, ◌-◌, ◌≤◌, ◌<◌, ◌^◌, [], ◌∷◌, ◌++◌, length, slice_get, IfOk, OnErr};
+ghost use Rattle.std.specs.Prelude.{◌≡◌, ◌+◌, ◌-◌, ◌≤◌, ◌<◌, ◌^◌, [], length, slice_get, IfOk, OnErr};
 ghost use Rattle.std.specs.Option.{option_map};
 ghost use Rattle.blz_cover.specs.LineEntries.{LineEntry, first_and_count, recount, met, found_or_last};
 ghost use Rattle.blz_cover.specs.LineKeys.{count_view};

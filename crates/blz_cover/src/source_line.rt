@@ -1,11 +1,9 @@
 //! The line of a source at which an address stands.
-ghost use Rattle.std.specs.Prelude.{◌≡◌, true, false, IfOk, OnOk};
+ghost use Rattle.std.specs.Prelude.{◌≡◌};
 ghost use Rattle.std.specs.Option.{option_map};
 ghost use Rattle.blz_elf.specs.AnswerView.{answer_view};
 ghost use Rattle.blz_elf.specs.CallViews.{site_view};
-ghost use Rattle.blz_model.specs.Part.{Exactly};
-ghost use Rattle.blz_resolver.specs.Resolver.{has_debug};
-ghost use Rattle.blz_cover.specs.Answers.{answer_at, dir_bytes, line_in, line_of_site, source_line, is_answered};
+ghost use Rattle.blz_cover.specs.Answers.{dir_bytes, line_in, line_of_site};
 ghost use Rattle.blz_cover.specs.LineViews.{source_view};
 
 use blz_bytes::{DirPath, Steps};

@@ -1,5 +1,5 @@
 //! Files that are asked again and again.
-ghost use Rattle.std.specs.Prelude.{◌≡◌, ◌⊎◌, ◌≤◌, ◌<◌, [], Some, None, false, length, slice_get, IfOk, IfErr, OnErr};
+ghost use Rattle.std.specs.Prelude.{◌≡◌, ◌⊎◌, ◌≤◌, ◌<◌, [], Some, false, length, slice_get, IfOk, IfErr, OnErr};
 ghost use Rattle.blz_model.specs.Part.{Gives};
 ghost use Rattle.blz_elf.specs.Listings.{ShowsAll};
 ghost use Rattle.blz_links.specs.Counts.{Rose};

@@ -1,5 +1,5 @@
 //! Names that are asked of a resolver.
-ghost use Rattle.std.specs.Prelude.{◌≡◌, true, false, map, IfOk};
+ghost use Rattle.std.specs.Prelude.{◌≡◌, map, IfOk};
 ghost use Rattle.blz_model.specs.Part.{Gives, all_good};
 ghost use Rattle.blz_bundle.specs.BundleViews.{bundle_view};
 ghost use Rattle.blz_resolver.specs.Resolver.{SameBundle, has_debug};

@@ -5,7 +5,7 @@ ghost use Rattle.blz_model.specs.Part.{Good, Broken};
 ghost use Rattle.blz_links.specs.Counts.{Rose};
 ghost use Rattle.blz_bundle.specs.Outcomes.{HasKindCause};
 ghost use Rattle.blz_inspector.specs.SourceViews.{elf_asked};
-ghost use Rattle.blz_inspector.specs.Uses.{OpensAlone, OpensAsked, image_alone, told_by};
+ghost use Rattle.blz_inspector.specs.Uses.{OpensAlone, OpensAsked, told_by};
 
 use crate::source::Elf;
 use blz_bundle::OwnedBundle;

@@ -1,5 +1,5 @@
 //! The files of a unit, judged by the name that is asked.
-ghost use Rattle.std.specs.Prelude.{◌≡◌, ◌≢◌, ℕ, Option, Some, IfOk, slice_get};
+ghost use Rattle.std.specs.Prelude.{◌≡◌, ◌≢◌, ℕ, Some, IfOk, slice_get};
 ghost use Rattle.blz_resolver.specs.RowsViews.{rows_view};
 ghost use Rattle.blz_rows.specs.Judging.{verdict_of};
 ghost use Rattle.blz_rows.specs.declared.verdict.Verdict.{Verdict};

@@ -1,4 +1,4 @@
-use Rattle.std.proofs.Common.{◌+◌, ◌++◌, ◌∷◌, [], sym}
+use Rattle.std.proofs.Common.{◌+◌, ◌++◌, ◌∷◌, []}
 use Rattle.blz_cover.specs.Counting.{counted_from}
 use Rattle.blz_cover.specs.declared.change.Change.{Change}
 use Rattle.blz_cover.proofs.Counted.{found_at-mark}

@@ -1,11 +1,6 @@
-use Rattle.std.proofs.Common.{inl, inr, ◌⊎◌, ◌≡◌}
 use Rattle.blz_error.specs.declared.kind.ErrorKind.TheVariants as kinds
-use Rattle.blz_program.proofs.Ends.{HasKindCause-weaker, IsMade-refusal}
-use Rattle.blz_program.specs.Runs.{Mark}
-use Rattle.blz_model.specs.Part.{Broken}
+use Rattle.blz_program.proofs.Ends.{IsMade-refusal}
 use Rattle.blz_resolver.specs.Counts.{Rose}
-use Rattle.blz_resolver.specs.Opening.{Opens, default_dirs}
-use Rattle.blz_resolver.specs.Outcomes.{HasKindCause}
 use Rattle.blz_cover.specs.Counting.{FindsCover}
 use Rattle.blz_cover.proofs.Made.{opening_cause}
 use Rattle.blz_cover.proofs.program.made_of_files.Goals as goal

@@ -1,6 +1,6 @@
 use Rattle.std.proofs.Common.{◌+◌, ◌^◌, ◌<◌, IsSome, refl, ap, sym, subst, arith}
 use Rattle.blz_cover.specs.Changes.{total_of}
-use Rattle.blz_cover.proofs.CoverSteps.{stands_added, has_room, tally-le-total, tally_known, tally_unknown}
+use Rattle.blz_cover.proofs.CoverSteps.{stands_added, has_room, tally-le-total}
 use Rattle.blz_cover.proofs.cover.Cover.add_known.Goals as goal
 
 pub overflow_add-tally : goal.overflow_add-tally

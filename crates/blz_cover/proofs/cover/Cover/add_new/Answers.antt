@@ -1,8 +1,7 @@
-use Rattle.std.proofs.Common.{ℕ, ◌≡◌, ◌+◌, ◌^◌, ◌<◌, Bool, true, false, IsOk, OnOk, Result, Ok, Err, Option, Some, cond, nat_eq, refl, ap, sym, subst, ◌∙◌, arith}
-use Rattle.std.specs.HashMap.{get}
+use Rattle.std.proofs.Common.{ℕ, ◌≡◌, ◌+◌, ◌^◌, ◌<◌, true, false, IsOk, OnOk, Result, Ok, Err, Option, Some, cond, nat_eq, ap, sym, subst, ◌∙◌, arith}
 use Rattle.blz_cover.specs.Answers.{is_answered, source_line}
 use Rattle.blz_cover.specs.Changes.{total_of}
-use Rattle.blz_cover.specs.Kept.{has_change, home_for}
+use Rattle.blz_cover.specs.Kept.{has_change}
 use Rattle.blz_cover.specs.declared.tally.Home.{Home}
 use Rattle.blz_cover.specs.declared.tally.Tally.{Tally}
 use Rattle.blz_cover.proofs.CoverSteps.{stands_new, has_room_new}

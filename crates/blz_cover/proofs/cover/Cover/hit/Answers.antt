@@ -1,4 +1,4 @@
-use Rattle.std.proofs.Common.{◌≡◌, true, ◌+◌, ◌-◌, ◌^◌, ◌≤◌, refl, ap, sym, subst, ◌∙◌, arith}
+use Rattle.std.proofs.Common.{◌≡◌, true, ◌+◌, ◌-◌, ◌^◌, ◌≤◌, refl, ap, subst, arith}
 use Rattle.blz_cover.specs.Answers.{is_answered}
 use Rattle.blz_cover.specs.Changes.{total_of}
 use Rattle.blz_cover.specs.Covers.{Cover}

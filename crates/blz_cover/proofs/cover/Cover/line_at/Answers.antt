@@ -1,6 +1,6 @@
-use Rattle.std.proofs.Common.{ℕ, ◌≡◌, true, is_some, slice_get, ap, sym, subst, refl, ◌∙◌}
+use Rattle.std.proofs.Common.{is_some, slice_get, ap, sym, ◌∙◌}
 use Rattle.std.specs.Option.{option_map}
-use Rattle.blz_cover.specs.Answers.{is_answered, source_line}
+use Rattle.blz_cover.specs.Answers.{source_line}
 use Rattle.blz_cover.specs.Coverage.{CountedLine}
 use Rattle.blz_cover.specs.Covers.{Cover, covered}
 use Rattle.blz_cover.specs.SourceLines.{SourceLine}

@@ -1,6 +1,5 @@
-use Rattle.std.proofs.Common.{refl, ap, sym, nat_eq}
+use Rattle.std.proofs.Common.{ap, nat_eq}
 use Rattle.std.specs.Map.{lookup}
-use Rattle.blz_cover.specs.Answers.{is_answered, source_line}
 use Rattle.blz_cover.proofs.CoverSteps.{stands_at_first}
 use Rattle.blz_cover.proofs.cover.Cover.new.Goals as goal
 

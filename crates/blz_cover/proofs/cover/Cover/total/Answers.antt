@@ -1,4 +1,4 @@
-use Rattle.std.proofs.Common.{◌≡◌, ◌+◌, ap, sym, subst, sum_by, ◌∙◌}
+use Rattle.std.proofs.Common.{◌+◌, ap, sym, sum_by, ◌∙◌}
 use Rattle.blz_cover.specs.Covers.{Cover, covered, rest_of}
 use Rattle.blz_cover.proofs.CountLaw.{counts_and_rest}
 use Rattle.blz_cover.proofs.cover.Cover.total.Goals as goal

@@ -1,7 +1,5 @@
-use Rattle.std.proofs.Common.{◌-◌, ◌≤◌, IsSome, refl, ap, sym, subst, ◌∙◌, arith}
-use Rattle.blz_cover.specs.Answers.{is_answered}
+use Rattle.std.proofs.Common.{◌-◌, ◌≤◌, IsSome, refl, sym, subst, arith}
 use Rattle.blz_cover.specs.Changes.{count_of}
-use Rattle.blz_cover.specs.Covers.{unhit_fault}
 use Rattle.blz_cover.proofs.CoverSteps.{stands_taken, has_count, tally-le-total, tally_known, tally_unknown, count_of-unknown}
 use Rattle.blz_cover.proofs.Faults.{unhit_fault-none, unhit_fault-missing}
 use Rattle.blz_cover.proofs.cover.Cover.unhit.Goals as goal
