@@ -1,34 +1,48 @@
 //! Files and sinks of the system, and a sink in memory.
+use blz_checks::Checks;
 use blz_resolver::files::{Files, FilesFault};
 use blz_resolver::outside::{MemorySink, RealFiles, RealSink, Sink};
 use std::test::Fail;
 
 #[test]
 fn a_memory_sink_has_the_bytes_that_it_took(rt: HostRuntime) -> Result<(), Fail> {
-    let mut sink = MemorySink::with_room(rt.alloc(), 5, 3)?;
-    assert_eq!(rt; sink.put(b"abcd"), Ok(3));
-    assert_eq!(rt; sink.put(b"defg"), Ok(2));
-    assert_eq!(rt; sink.bytes(), b"abcde".as_slice());
-    Ok(())
+    let mut checks = Checks::new();
+    let mut sink = MemorySink::with_room(rt.alloc(), 5, 3).expect(&rt, "refused");
+    checks.same(sink.put(b"abcd"), Ok(3));
+    checks.same(sink.put(b"defg"), Ok(2));
+    checks.same(sink.bytes(), b"abcde".as_slice());
+    checks.result()
 }
 
 #[test]
 fn real_files_pass_the_system_on(rt: HostRuntime) -> Result<(), Fail> {
+    let mut checks = Checks::new();
     let alloc = rt.alloc();
     let mut files = RealFiles::new(&rt);
-    assert!(rt; files.read(alloc, "/dev/null")?.is_empty());
-    assert!(rt; files.exists("/dev/null")?);
-    assert!(rt; files.canonical(alloc, "/dev/null")?.is_some());
-    assert_eq!(rt; files.stamp("/dev/null")?.size, 0);
-    assert!(rt; matches!(files.read(alloc, "no such file"), Err(FilesFault::NotFound)));
-    Ok(())
+    checks.holds(
+        files
+            .read(alloc, "/dev/null")
+            .expect(&rt, "refused")
+            .is_empty(),
+    );
+    checks.holds(files.exists("/dev/null").expect(&rt, "refused"));
+    checks.holds(
+        files
+            .canonical(alloc, "/dev/null")
+            .expect(&rt, "refused")
+            .is_some(),
+    );
+    checks.same(files.stamp("/dev/null").expect(&rt, "refused").size, 0);
+    checks.holds(matches!(files.read(alloc, "no such file"), Err(FilesFault::NotFound)));
+    checks.result()
 }
 
 #[test]
 fn a_real_sink_writes_on(rt: HostRuntime) -> Result<(), Fail> {
+    let mut checks = Checks::new();
     let mut bytes = Vec::new(rt.alloc());
     let mut sink = RealSink::new(&mut bytes);
-    assert_eq!(rt; sink.put(b"abc"), Ok(3));
-    assert_eq!(rt; bytes.as_slice(), b"abc".as_slice());
-    Ok(())
+    checks.same(sink.put(b"abc"), Ok(3));
+    checks.same(bytes.as_slice(), b"abc".as_slice());
+    checks.result()
 }

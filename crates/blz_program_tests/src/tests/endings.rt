@@ -1,4 +1,5 @@
 //! How a run ends: its status, its text and its line.
+use blz_checks::Checks;
 use blz_error::ErrorKind;
 use blz_program::{LineFault, Outcome, Program, finish, read_file};
 use blz_resolver::files::MemoryFiles;
@@ -22,6 +23,7 @@ fn refused(alloc: Global, outcome: Outcome) -> Result<(u8, MemorySink), AllocErr
 
 #[test]
 fn an_outcome_has_its_status_and_line(rt: HostRuntime) -> Result<(), Fail> {
+    let mut checks = Checks::new();
     let alloc = rt.alloc();
     let outcomes = [
         (
@@ -43,59 +45,65 @@ fn an_outcome_has_its_status_and_line(rt: HostRuntime) -> Result<(), Fail> {
         ),
     ];
     for (outcome, status, line) in outcomes {
-        let (ended, err) = refused(alloc, outcome)?;
-        assert_eq!(rt; ended, status);
-        assert_eq!(rt; err.bytes(), line.as_bytes());
+        let (ended, err) = refused(alloc, outcome).expect(&rt, "refused");
+        checks.same(ended, status);
+        checks.same(err.bytes(), line.as_bytes());
     }
-    Ok(())
+    checks.result()
 }
 
 #[test]
 fn a_text_is_written_whole_or_the_sink_has_failed(rt: HostRuntime) -> Result<(), Fail> {
+    let mut checks = Checks::new();
     let alloc = rt.alloc();
-    let mut out = MemorySink::with_room(alloc, 7, 2)?;
-    let mut err = MemorySink::with_room(alloc, 100, 100)?;
-    assert_eq!(rt;
+    let mut out = MemorySink::with_room(alloc, 7, 2).expect(&rt, "refused");
+    let mut err = MemorySink::with_room(alloc, 100, 100).expect(&rt, "refused");
+    checks.same(
         finish(
             &PROGRAM,
-            Ok(Vec::from_slice(alloc, b"text\n")?),
+            Ok(Vec::from_slice(alloc, b"text\n").expect(&rt, "refused")),
             &mut out,
-            &mut err
+            &mut err,
         ),
-        0
+        0,
     );
-    assert_eq!(rt; err.bytes(), b"".as_slice());
-    assert_eq!(rt;
+    checks.same(err.bytes(), b"".as_slice());
+    checks.same(
         finish(
             &PROGRAM,
-            Ok(Vec::from_slice(alloc, b"more\n")?),
+            Ok(Vec::from_slice(alloc, b"more\n").expect(&rt, "refused")),
             &mut out,
-            &mut err
+            &mut err,
         ),
-        3
+        3,
     );
-    assert_eq!(rt; out.bytes(), b"text\nmo".as_slice());
-    assert_eq!(rt; err.bytes(), b"prog: write failed\n".as_slice());
-    Ok(())
+    checks.same(out.bytes(), b"text\nmo".as_slice());
+    checks.same(err.bytes(), b"prog: write failed\n".as_slice());
+    checks.result()
 }
 
 #[test]
 fn a_file_is_read_or_its_fault_is_told(rt: HostRuntime) -> Result<(), Fail> {
+    let mut checks = Checks::new();
     let alloc = rt.alloc();
     let mut files = MemoryFiles::new(alloc);
-    files.put("a", Vec::from_slice(alloc, b"bytes")?)?;
-    files.fail_at(3, true)?;
-    assert_eq!(rt;
-        read_file(alloc, &mut files, "a")?.as_slice(),
-        b"bytes".as_slice()
+    files
+        .put("a", Vec::from_slice(alloc, b"bytes").expect(&rt, "refused"))
+        .expect(&rt, "refused");
+    files.fail_at(3, true).expect(&rt, "refused");
+    checks.same(
+        read_file(alloc, &mut files, "a")
+            .expect(&rt, "refused")
+            .as_slice(),
+        b"bytes".as_slice(),
     );
     match read_file(alloc, &mut files, "b") {
-        Ok(_) => assert!(rt; false),
-        Err(error) => assert!(rt; error.kind() == ErrorKind::NotFound),
+        Ok(_) => checks.holds(false),
+        Err(error) => checks.same(error.kind(), ErrorKind::NotFound),
     }
     match read_file(alloc, &mut files, "a") {
-        Ok(_) => assert!(rt; false),
-        Err(error) => assert!(rt; error.kind() == ErrorKind::PermissionDenied),
+        Ok(_) => checks.holds(false),
+        Err(error) => checks.same(error.kind(), ErrorKind::PermissionDenied),
     }
-    Ok(())
+    checks.result()
 }

@@ -1,32 +1,36 @@
 //! Printed numbers and paths.
 use blz_bytes::DirPath;
+use blz_checks::Checks;
 use blz_program::{push_decimal, push_hex, push_path};
 use std::test::Fail;
 
 #[test]
 fn a_number_has_sixteen_hexadecimal_digits(rt: HostRuntime) -> Result<(), Fail> {
+    let mut checks = Checks::new();
     let mut out = Vec::new(rt.alloc());
-    push_hex(&mut out, 0x12_3456_789a_bcde)?;
-    push_hex(&mut out, u64::MAX)?;
-    push_hex(&mut out, 0)?;
-    assert_eq!(rt;
+    push_hex(&mut out, 0x12_3456_789a_bcde).expect(&rt, "refused");
+    push_hex(&mut out, u64::MAX).expect(&rt, "refused");
+    push_hex(&mut out, 0).expect(&rt, "refused");
+    checks.same(
         out.as_slice(),
-        b"00123456789abcdeffffffffffffffff0000000000000000".as_slice()
+        b"00123456789abcdeffffffffffffffff0000000000000000".as_slice(),
     );
-    Ok(())
+    checks.result()
 }
 
 #[test]
 fn a_number_is_printed_in_decimal(rt: HostRuntime) -> Result<(), Fail> {
+    let mut checks = Checks::new();
     let mut out = Vec::new(rt.alloc());
-    push_decimal(&mut out, 0)?;
-    push_decimal(&mut out, u64::MAX)?;
-    assert_eq!(rt; out.as_slice(), b"018446744073709551615".as_slice());
-    Ok(())
+    push_decimal(&mut out, 0).expect(&rt, "refused");
+    push_decimal(&mut out, u64::MAX).expect(&rt, "refused");
+    checks.same(out.as_slice(), b"018446744073709551615".as_slice());
+    checks.result()
 }
 
 #[test]
 fn a_file_is_joined_to_its_directory(rt: HostRuntime) -> Result<(), Fail> {
+    let mut checks = Checks::new();
     let paths = [
         ("/src", "lib", "/src/lib"),
         ("/src/", "lib", "/src/lib"),
@@ -35,8 +39,8 @@ fn a_file_is_joined_to_its_directory(rt: HostRuntime) -> Result<(), Fail> {
     ];
     for (dir, file, path) in paths {
         let mut out = Vec::new(rt.alloc());
-        push_path(&mut out, &DirPath::new(dir.as_bytes()), file.as_bytes())?;
-        assert_eq!(rt; out.as_slice(), path.as_bytes());
+        push_path(&mut out, &DirPath::new(dir.as_bytes()), file.as_bytes()).expect(&rt, "refused");
+        checks.same(out.as_slice(), path.as_bytes());
     }
-    Ok(())
+    checks.result()
 }
