@@ -1,3 +1,4 @@
+use blz_checks::Checks;
 use blz_error::{Cause, Error, ErrorExt, ErrorKind, IntoCowStr, IntoError, Mismatch, Result, Str};
 use std::alloc::{AllocError, Global};
 use std::test::Fail;
@@ -11,84 +12,101 @@ fn chain(alloc: Global) -> Error {
 
 #[test]
 fn prints_a_chain_in_three_ways(rt: HostRuntime) -> std::result::Result<(), Fail> {
+    let mut checks = Checks::new();
     let alloc = rt.alloc();
     let error = chain(alloc);
     let mut text = String::new(alloc);
-    error.plain_text(&mut text)?;
-    assert_eq!(rt; text.as_str(), "outer context");
+    error.plain_text(&mut text).expect(&rt, "refused");
+    checks.same(text.as_str(), "outer context");
 
     text.clear();
-    error.full_text(&mut text)?;
-    assert_eq!(rt;
+    error.full_text(&mut text).expect(&rt, "refused");
+    checks.same(
         text.as_str(),
-        "outer context: inner context: some invalid data"
+        "outer context: inner context: some invalid data",
     );
 
     text.clear();
-    error.report_text(&mut text)?;
+    error.report_text(&mut text).expect(&rt, "refused");
     let report = "Error: outer context\n\nCaused by:\n    inner context\n    some invalid data";
-    assert_eq!(rt; text.as_str(), report);
-    assert_eq!(rt; format!(in alloc; "{error}")?.as_str(), "outer context");
-    assert_eq!(rt; format!(in alloc; "{error:?}")?.as_str(), report);
-    Ok(())
+    checks.same(text.as_str(), report);
+    checks.same(
+        format!(in alloc; "{error}").expect(&rt, "refused").as_str(),
+        "outer context",
+    );
+    checks.same(
+        format!(in alloc; "{error:?}")
+            .expect(&rt, "refused")
+            .as_str(),
+        report,
+    );
+    checks.result()
 }
 
 #[test]
 fn prints_an_error_of_one_text(rt: HostRuntime) -> std::result::Result<(), Fail> {
+    let mut checks = Checks::new();
     let alloc = rt.alloc();
     let error = Error::from(AllocError);
     let mut text = String::new(alloc);
-    error.full_text(&mut text)?;
-    error.report_text(&mut text)?;
-    assert_eq!(rt; text.as_str(), "out of memoryError: out of memory");
-    assert!(rt; error.source().is_none());
-    Ok(())
+    error.full_text(&mut text).expect(&rt, "refused");
+    error.report_text(&mut text).expect(&rt, "refused");
+    checks.same(text.as_str(), "out of memoryError: out of memory");
+    checks.holds(error.source().is_none());
+    checks.result()
 }
 
 #[test]
 fn walks_the_causes(rt: HostRuntime) -> std::result::Result<(), Fail> {
+    let mut checks = Checks::new();
     let error = chain(rt.alloc());
-    let inner = error.source().ok_or("no cause")?;
-    assert_eq!(rt; inner.text(), "inner context");
-    let innermost = inner.source().ok_or("no second cause")?;
-    assert_eq!(rt; innermost.text(), "some invalid data");
-    assert!(rt; innermost.source().is_none());
-    Ok(())
+    let inner = error.source().expect(&rt, "no cause");
+    checks.same(inner.text(), "inner context");
+    let innermost = inner.source().expect(&rt, "no second cause");
+    checks.same(innermost.text(), "some invalid data");
+    checks.holds(innermost.source().is_none());
+    checks.result()
 }
 
 #[test]
 fn keeps_kind_and_mismatch_under_a_context(rt: HostRuntime) -> std::result::Result<(), Fail> {
+    let mut checks = Checks::new();
     let alloc = rt.alloc();
-    let mismatch = Mismatch::new([1, 2].to_vec(alloc)?, [3].to_vec(alloc)?);
+    let mismatch = Mismatch::new(
+        [1, 2].to_vec(alloc).expect(&rt, "refused"),
+        [3].to_vec(alloc).expect(&rt, "refused"),
+    );
     let failed: Result<u8> = Err(Error::with_mismatch(
         ErrorKind::InvalidData,
         Str::fixed("checksum"),
         mismatch,
     ));
-    let text = String::from_str(alloc, "opening")?;
-    let error = failed.context(alloc, text).err().ok_or("no error")?;
-    assert_eq!(rt; error.kind(), ErrorKind::InvalidData);
-    let mismatch = error.mismatch().ok_or("no mismatch")?;
-    assert_eq!(rt; mismatch.actual(), [1, 2].as_slice());
-    assert_eq!(rt; mismatch.expected(), [3].as_slice());
-    Ok(())
+    let text = String::from_str(alloc, "opening").expect(&rt, "refused");
+    let error = failed.context(alloc, text).err().expect(&rt, "no error");
+    checks.same(error.kind(), ErrorKind::InvalidData);
+    let mismatch = error.mismatch().expect(&rt, "no mismatch");
+    checks.same(mismatch.actual(), [1, 2].as_slice());
+    checks.same(mismatch.expected(), [3].as_slice());
+    checks.result()
 }
 
 #[test]
 fn a_value_stays(rt: HostRuntime) -> std::result::Result<(), Fail> {
+    let mut checks = Checks::new();
     let alloc = rt.alloc();
     let good: Result<u8> = Ok(5);
     let good = good
         .context(alloc, "first")
         .with_context(alloc, || "second");
-    assert_eq!(rt; good.ok().ok_or("an error")?, 5);
+    checks.same(good.ok().expect(&rt, "an error"), 5);
     let some = Some(7u8).ok_or_not_found(|| "nothing");
-    assert_eq!(rt; some.ok().ok_or("an error")?, 7);
-    Ok(())
+    checks.same(some.ok().expect(&rt, "an error"), 7);
+    checks.result()
 }
 
 #[test]
 fn makes_errors_of_what_is_not_there(rt: HostRuntime) -> std::result::Result<(), Fail> {
+    let mut checks = Checks::new();
     let alloc = rt.alloc();
     let none: Option<u8> = None;
     let errors = [
@@ -105,15 +123,19 @@ fn makes_errors_of_what_is_not_there(rt: HostRuntime) -> std::result::Result<(),
         ),
     ];
     for (answer, kind) in errors {
-        let error = answer.err().ok_or("a value")?;
-        assert_eq!(rt; error.kind(), kind);
-        assert_eq!(rt; format!(in alloc; "{error}")?.as_str(), "lost");
+        let error = answer.err().expect(&rt, "a value");
+        checks.same(error.kind(), kind);
+        checks.same(
+            format!(in alloc; "{error}").expect(&rt, "refused").as_str(),
+            "lost",
+        );
     }
-    Ok(())
+    checks.result()
 }
 
 #[test]
 fn names_the_kinds(rt: HostRuntime) -> std::result::Result<(), Fail> {
+    let mut checks = Checks::new();
     let texts = [
         (ErrorKind::NotFound, "entity not found"),
         (ErrorKind::PermissionDenied, "permission denied"),
@@ -130,8 +152,13 @@ fn names_the_kinds(rt: HostRuntime) -> std::result::Result<(), Fail> {
         (ErrorKind::Other, "other error"),
     ];
     for (kind, text) in texts {
-        assert_eq!(rt; format!(in rt.alloc(); "{kind}")?.as_str(), text);
+        checks.same(
+            format!(in rt.alloc(); "{kind}")
+                .expect(&rt, "refused")
+                .as_str(),
+            text,
+        );
     }
-    assert_eq!(rt; ErrorKind::WriteZero.as_bytes(), b"write zero\0".as_slice());
-    Ok(())
+    checks.same(ErrorKind::WriteZero.as_bytes(), b"write zero\0".as_slice());
+    checks.result()
 }
