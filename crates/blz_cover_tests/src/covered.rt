@@ -4,6 +4,7 @@ ghost use Rattle.blz_resolver.specs.Resolver.{has_debug};
 
 use crate::one_line::one_line;
 use blz_bytes::{ByStdSort, Steps};
+use blz_checks::Checks;
 use blz_cover::{Cover, CoverFault};
 use blz_error::ErrorKind;
 use blz_images::ByteOrder;
@@ -60,7 +61,7 @@ fn only_count(cover: &Cover<'_, '_>) -> Option<u64> {
     }
 }
 
-fn prepared<'b>(alloc: Global, image: &'b [u8]) -> Result<ElfResolver<'b>, Fail>
+fn prepared<'b>(alloc: Global, image: &'b [u8]) -> blz_error::Result<ElfResolver<'b>>
     ensures has_debug { IfOk result (λ r. has_debug r ≡ true) }
     ensures is_prepared { IfOk result (λ r. r.prepared ≡ true) }
 {
@@ -71,44 +72,47 @@ fn prepared<'b>(alloc: Global, image: &'b [u8]) -> Result<ElfResolver<'b>, Fail>
 
 #[test]
 fn hits_count_at_their_line_or_in_the_rest(rt: HostRuntime) -> Result<(), Fail> {
+    let mut checks = Checks::new();
     let alloc = rt.alloc();
-    let image = one_line(alloc, ByteOrder::Big, 1)?;
-    let resolver = prepared(alloc, &image)?;
+    let image = one_line(alloc, ByteOrder::Big, 1).expect(&rt, "refused");
+    let resolver = prepared(alloc, &image).expect(&rt, "refused");
     let mut cover = Cover::new(alloc, &resolver);
-    assert_eq!(rt; hit_four::<Brand>(&mut cover, Blank::new(1)), Ok(()));
-    assert_eq!(rt; only_count(&cover), Some(5));
-    assert_eq!(rt; (cover.rest(), cover.total()), (6, 11));
-    Ok(())
+    checks.same(hit_four::<Brand>(&mut cover, Blank::new(1)), Ok(()));
+    checks.same(only_count(&cover), Some(5));
+    checks.same((cover.rest(), cover.total()), (6, 11));
+    checks.result()
 }
 
 #[test]
 fn refused_changes_leave_the_counts(rt: HostRuntime) -> Result<(), Fail> {
+    let mut checks = Checks::new();
     let alloc = rt.alloc();
-    let image = one_line(alloc, ByteOrder::Little, 1)?;
-    let resolver = prepared(alloc, &image)?;
+    let image = one_line(alloc, ByteOrder::Little, 1).expect(&rt, "refused");
+    let resolver = prepared(alloc, &image).expect(&rt, "refused");
     let mut cover = Cover::new(alloc, &resolver);
-    assert_eq!(rt; hit_four::<Brand>(&mut cover, Blank::new(1)), Ok(()));
+    checks.same(hit_four::<Brand>(&mut cover, Blank::new(1)), Ok(()));
     let (taken, missing, full) = three_changes::<Brand>(&mut cover, Blank::new(1));
-    assert_eq!(rt; taken, Ok(()));
-    assert_eq!(rt; missing, Err(CoverFault::Missing(2)));
-    assert_eq!(rt; full, Err(CoverFault::Full(10)));
-    assert_eq!(rt; only_count(&cover), Some(4));
-    assert_eq!(rt; (cover.rest(), cover.total()), (6, 10));
-    Ok(())
+    checks.same(taken, Ok(()));
+    checks.same(missing, Err(CoverFault::Missing(2)));
+    checks.same(full, Err(CoverFault::Full(10)));
+    checks.same(only_count(&cover), Some(4));
+    checks.same((cover.rest(), cover.total()), (6, 10));
+    checks.result()
 }
 
 #[test]
 fn a_broken_line_refuses_its_address(rt: HostRuntime) -> Result<(), Fail> {
+    let mut checks = Checks::new();
     let alloc = rt.alloc();
     // the file of the second row lies outside the table
-    let image = one_line(alloc, ByteOrder::Little, 9)?;
-    let resolver = prepared(alloc, &image)?;
+    let image = one_line(alloc, ByteOrder::Little, 9).expect(&rt, "refused");
+    let resolver = prepared(alloc, &image).expect(&rt, "refused");
     let mut cover = Cover::new(alloc, &resolver);
-    assert_eq!(rt;
+    checks.same(
         hit_four::<Brand>(&mut cover, Blank::new(1)),
-        Err(CoverFault::Mark(ErrorKind::InvalidDwarf))
+        Err(CoverFault::Mark(ErrorKind::InvalidDwarf)),
     );
-    assert_eq!(rt; only_count(&cover), Some(3));
-    assert_eq!(rt; (cover.rest(), cover.total()), (0, 3));
-    Ok(())
+    checks.same(only_count(&cover), Some(3));
+    checks.same((cover.rest(), cover.total()), (0, 3));
+    checks.result()
 }

@@ -1,7 +1,8 @@
 //! What is folded from stacks.
 
 use blz_bytes::ByStdSort;
-use blz_error::ErrorKind;
+use blz_checks::Checks;
+use blz_error::{Error, ErrorKind, Str};
 use blz_fold::{Folded, Names, fold, parse_stacks};
 use blz_images::realistic_walk;
 use blz_model::ByteOrder;
@@ -24,52 +25,56 @@ fn are(names: &Names, texts: &[&str]) -> bool {
 }
 
 // what is folded from the three stacks
-fn folded(alloc: Global) -> Result<Folded, Fail> {
+fn folded(alloc: Global) -> blz_error::Result<Folded> {
     let image = realistic_walk(alloc, ByteOrder::Little)?;
     let Ok(stacks) = parse_stacks(alloc, STACKS) else {
-        return Err(Fail::from("refused"));
+        let refused = Str::fixed("the stacks are refused");
+        return Err(Error::new(ErrorKind::InvalidData, refused));
     };
-    Ok(fold(alloc, &mut ByStdSort, &lone(&image), &stacks)?)
+    fold(alloc, &mut ByStdSort, &lone(&image), &stacks)
 }
 
 #[test]
 fn lines_have_the_sum_of_equal_stacks(rt: HostRuntime) -> Result<(), Fail> {
-    let folded = folded(rt.alloc())?;
+    let mut checks = Checks::new();
+    let folded = folded(rt.alloc()).expect(&rt, "refused");
     let wanted: [(&[&str], u64); 2] = [(&["main", "main", "square"], 7), (&["main", RUST], 2)];
-    assert_eq!(rt; folded.lines().len(), 2);
+    checks.same(folded.lines().len(), 2);
     for (line, (names, count)) in folded.lines().iter().zip(wanted) {
-        assert!(rt; are(&line.names, names));
-        assert_eq!(rt; line.count, count);
+        checks.holds(are(&line.names, names));
+        checks.same(line.count, count);
     }
-    Ok(())
+    checks.result()
 }
 
 #[test]
 fn nodes_have_the_sum_of_stacks_that_begin_with_them(rt: HostRuntime) -> Result<(), Fail> {
-    let folded = folded(rt.alloc())?;
+    let mut checks = Checks::new();
+    let folded = folded(rt.alloc()).expect(&rt, "refused");
     let wanted: [(u64, u64, &[&str]); 4] = [
         (9, 0, &["main"]),
         (7, 0, &["main", "main"]),
         (7, 7, &["main", "main", "square"]),
         (2, 2, &["main", RUST]),
     ];
-    assert_eq!(rt; folded.nodes().len(), 4);
+    checks.same(folded.nodes().len(), 4);
     for (node, (count, own, names)) in folded.nodes().iter().zip(wanted) {
-        assert!(rt; are(&node.names, names));
-        assert!(rt; node.names.get(names.len()).is_none());
-        assert_eq!(rt; (node.count, node.own), (count, own));
+        checks.holds(are(&node.names, names));
+        checks.holds(node.names.get(names.len()).is_none());
+        checks.same((node.count, node.own), (count, own));
     }
-    Ok(())
+    checks.result()
 }
 
 #[test]
 fn the_first_mark_refuses_all(rt: HostRuntime) -> Result<(), Fail> {
+    let mut checks = Checks::new();
     let Ok(stacks) = parse_stacks(rt.alloc(), b"") else {
         panic!(rt; "refused");
     };
     match fold(rt.alloc(), &mut ByStdSort, &lone(b"short"), &stacks) {
         Ok(_) => panic!(rt; "folded"),
-        Err(error) => assert_eq!(rt; error.kind(), ErrorKind::InvalidData),
+        Err(error) => checks.same(error.kind(), ErrorKind::InvalidData),
     }
-    Ok(())
+    checks.result()
 }

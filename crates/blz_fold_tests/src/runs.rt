@@ -1,13 +1,14 @@
 //! Whole runs over files and sinks in memory.
 
 use blz_bytes::ByStdSort;
+use blz_checks::Checks;
 use blz_fold::run_fold;
 use blz_images::realistic_walk;
 use blz_model::ByteOrder;
 use blz_resolver::files::MemoryFiles;
 use blz_resolver::outside::MemorySink;
-use blz_runs::{Ended, Ran, roomy, run_with};
-use std::alloc::Global;
+use blz_runs::{Ran, roomy, run_with};
+use std::alloc::{AllocError, Global};
 use std::test::Fail;
 
 const STACKS: &[u8] = b"3 1140;1150\n2 1140;1200\n4 1140;1150\n";
@@ -24,7 +25,7 @@ fn run_to(alloc: Global, files: &mut MemoryFiles, words: &[&str], out: MemorySin
 }
 
 // The image `prog`, and these stacks.
-fn holding(alloc: Global, order: ByteOrder, stacks: &[u8]) -> Result<MemoryFiles, Fail> {
+fn holding(alloc: Global, order: ByteOrder, stacks: &[u8]) -> Result<MemoryFiles, AllocError> {
     let mut files = MemoryFiles::new(alloc);
     files.put("prog", realistic_walk(alloc, order)?)?;
     files.put("stacks", Vec::from_slice(alloc, stacks)?)?;
@@ -32,30 +33,36 @@ fn holding(alloc: Global, order: ByteOrder, stacks: &[u8]) -> Result<MemoryFiles
 }
 
 // A run over these stacks.
-fn run_over(alloc: Global, stacks: &[u8], out: MemorySink) -> Result<Ended, Fail> {
+fn run_over(alloc: Global, stacks: &[u8], out: MemorySink) -> Ran {
     let mut files = holding(alloc, ByteOrder::Little, stacks)?;
-    Ok(run_to(alloc, &mut files, &["prog", "stacks"], out)?)
+    run_to(alloc, &mut files, &["prog", "stacks"], out)
 }
 
 #[test]
 fn lines_and_nodes_are_printed(rt: HostRuntime) -> Result<(), Fail> {
+    let mut checks = Checks::new();
     let alloc = rt.alloc();
     for order in [ByteOrder::Little, ByteOrder::Big] {
-        let mut files = holding(alloc, order, STACKS)?;
+        let mut files = holding(alloc, order, STACKS).expect(&rt, "refused");
         let runs: [(&[&str], &[u8]); 2] = [
             (&["prog", "stacks"], LINES),
             (&["--nodes", "prog", "stacks"], NODES),
         ];
         for (words, text) in runs {
-            let out = MemorySink::with_room(alloc, 200, 9)?;
-            assert!(rt; run_to(alloc, &mut files, words, out)?.is(0, text, b""));
+            let out = MemorySink::with_room(alloc, 200, 9).expect(&rt, "refused");
+            checks.holds(
+                run_to(alloc, &mut files, words, out)
+                    .expect(&rt, "refused")
+                    .is(0, text, b""),
+            );
         }
     }
-    Ok(())
+    checks.result()
 }
 
 #[test]
 fn each_list_of_stacks_has_its_lines_or_its_refusal(rt: HostRuntime) -> Result<(), Fail> {
+    let mut checks = Checks::new();
     let alloc = rt.alloc();
     let runs: [(&[u8], u8, &[u8], &[u8]); 5] = [
         // no stacks, and addresses that have no name
@@ -72,16 +79,26 @@ fn each_list_of_stacks_has_its_lines_or_its_refusal(rt: HostRuntime) -> Result<(
         (b"\n", 5, b"", b"blz_fold: line 1: bad stack\n"),
     ];
     for (stacks, status, text, line) in runs {
-        assert!(rt; run_over(alloc, stacks, roomy(alloc)?)?.is(status, text, line));
+        checks.holds(
+            run_over(alloc, stacks, roomy(alloc).expect(&rt, "refused"))
+                .expect(&rt, "refused")
+                .is(status, text, line),
+        );
     }
-    Ok(())
+    checks.result()
 }
 
 #[test]
 fn the_first_refusal_decides(rt: HostRuntime) -> Result<(), Fail> {
+    let mut checks = Checks::new();
     let alloc = rt.alloc();
-    let mut files = holding(alloc, ByteOrder::Little, b"x")?;
-    files.put("short", Vec::from_slice(alloc, b"short")?)?;
+    let mut files = holding(alloc, ByteOrder::Little, b"x").expect(&rt, "refused");
+    files
+        .put(
+            "short",
+            Vec::from_slice(alloc, b"short").expect(&rt, "refused"),
+        )
+        .expect(&rt, "refused");
     let runs: [(&[&str], u8, &[u8]); 4] = [
         (&["none", "none"], 1, b"blz_fold: entity not found\n"),
         (&["prog", "none"], 1, b"blz_fold: entity not found\n"),
@@ -89,39 +106,57 @@ fn the_first_refusal_decides(rt: HostRuntime) -> Result<(), Fail> {
         (&["short", "short"], 5, b"blz_fold: line 1: bad stack\n"),
     ];
     for (words, status, line) in runs {
-        assert!(rt; run_to(alloc, &mut files, words, roomy(alloc)?)?.is(status, b"", line));
+        checks.holds(
+            run_to(
+                alloc,
+                &mut files,
+                words,
+                roomy(alloc).expect(&rt, "refused"),
+            )
+            .expect(&rt, "refused")
+            .is(status, b"", line),
+        );
     }
-    Ok(())
+    checks.result()
 }
 
 #[test]
 fn a_read_that_fails_is_told_by_its_cause(rt: HostRuntime) -> Result<(), Fail> {
+    let mut checks = Checks::new();
     let alloc = rt.alloc();
-    let mut files = holding(alloc, ByteOrder::Little, STACKS)?;
-    files.fail_at(1, true)?;
-    files.fail_at(3, false)?;
+    let mut files = holding(alloc, ByteOrder::Little, STACKS).expect(&rt, "refused");
+    files.fail_at(1, true).expect(&rt, "refused");
+    files.fail_at(3, false).expect(&rt, "refused");
     for line in [
         b"blz_fold: permission denied\n".as_slice(),
         b"blz_fold: other error\n".as_slice(),
     ] {
-        let ended = run_to(alloc, &mut files, &["prog", "stacks"], roomy(alloc)?)?;
-        assert!(rt; ended.is(1, b"", line));
+        let ended = run_to(
+            alloc,
+            &mut files,
+            &["prog", "stacks"],
+            roomy(alloc).expect(&rt, "refused"),
+        )
+        .expect(&rt, "refused");
+        checks.holds(ended.is(1, b"", line));
     }
-    Ok(())
+    checks.result()
 }
 
 #[test]
 fn a_sink_that_fails_has_a_front_of_the_text(rt: HostRuntime) -> Result<(), Fail> {
-    let out = MemorySink::with_room(rt.alloc(), 10, 100)?;
-    let ended = run_over(rt.alloc(), STACKS, out)?;
-    assert!(rt; ended.is(3, b"main;main;", b"blz_fold: write failed\n"));
-    Ok(())
+    let mut checks = Checks::new();
+    let out = MemorySink::with_room(rt.alloc(), 10, 100).expect(&rt, "refused");
+    let ended = run_over(rt.alloc(), STACKS, out).expect(&rt, "refused");
+    checks.holds(ended.is(3, b"main;main;", b"blz_fold: write failed\n"));
+    checks.result()
 }
 
 #[test]
 fn other_words_are_told_the_usage(rt: HostRuntime) -> Result<(), Fail> {
+    let mut checks = Checks::new();
     let alloc = rt.alloc();
-    let mut files = holding(alloc, ByteOrder::Little, STACKS)?;
+    let mut files = holding(alloc, ByteOrder::Little, STACKS).expect(&rt, "refused");
     let words: [&[&str]; 4] = [
         &[],
         &["prog"],
@@ -129,11 +164,23 @@ fn other_words_are_told_the_usage(rt: HostRuntime) -> Result<(), Fail> {
         &["--nodes", "--nodes", "prog", "stacks"],
     ];
     for given in words {
-        let ended = run_to(alloc, &mut files, given, roomy(alloc)?)?;
-        assert!(rt; ended.is(2, b"", b"usage: [--nodes] IMAGE STACKS\n"));
+        let ended = run_to(
+            alloc,
+            &mut files,
+            given,
+            roomy(alloc).expect(&rt, "refused"),
+        )
+        .expect(&rt, "refused");
+        checks.holds(ended.is(2, b"", b"usage: [--nodes] IMAGE STACKS\n"));
     }
     // two words are paths, whatever they begin with
-    let paths = run_to(alloc, &mut files, &["--nodes", "stacks"], roomy(alloc)?)?;
-    assert_eq!(rt; paths.status, 1);
-    Ok(())
+    let paths = run_to(
+        alloc,
+        &mut files,
+        &["--nodes", "stacks"],
+        roomy(alloc).expect(&rt, "refused"),
+    )
+    .expect(&rt, "refused");
+    checks.same(paths.status, 1);
+    checks.result()
 }

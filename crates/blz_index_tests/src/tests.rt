@@ -7,5 +7,6 @@ mod lent;
 mod listed;
 mod listed_calls;
 mod packages;
+mod questions;
 mod ranges;
 mod small;

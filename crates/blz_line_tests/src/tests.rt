@@ -1,9 +1,10 @@
 //! Small line tables, with the rows that the standard or another reader gives for them.
 use blz_bytes::{AsTheyStand, ByteOrder};
+use blz_checks::Checks;
 use blz_entry::{
     RangeAttributes, Section, Sections, StrPart, StrPlace, Texts, UnitHeader, UnitKind, UnitRoot,
 };
-use blz_error::{ErrorKind, Result};
+use blz_error::{ErrorKind, IntoError, Result};
 use blz_line::{LineHeader, LineRow, Lines};
 use blz_moves::RelocationMap;
 use std::alloc::Global;
@@ -138,9 +139,9 @@ fn parsed(alloc: Global, line: &[u8], order: ByteOrder) -> Result<Option<Lines>>
     )
 }
 
-fn lines(alloc: Global, line: &[u8], order: ByteOrder) -> std::result::Result<Lines, Fail> {
+fn lines(alloc: Global, line: &[u8], order: ByteOrder) -> Result<Lines> {
     let lines = parsed(alloc, line, order)?;
-    Ok(lines.ok_or("no lines")?)
+    lines.ok_or_invalid_data(|| "no lines")
 }
 
 /// The line and the column of an address.
@@ -160,92 +161,102 @@ fn joined(alloc: Global, header: &[u8], program: &[u8]) -> Result<Vec<u8>> {
 
 #[test]
 fn opcodes_make_rows_in_both_byte_orders(rt: HostRuntime) -> std::result::Result<(), Fail> {
+    let mut checks = Checks::new();
     let alloc = rt.alloc();
     for (header, program, order) in [
         (HEADER, PROGRAM, ByteOrder::Little),
         (BIG_HEADER, BIG_PROGRAM, ByteOrder::Big),
     ] {
-        let table = joined(alloc, header, program)?;
-        let lines = lines(alloc, &table, order)?;
-        assert_eq!(rt; lines.sequences().len(), 1);
-        let sequence = lines.sequences().first().ok_or("no sequence")?;
-        assert_eq!(rt; (sequence.start, sequence.end), (0x1004, 0x1018));
+        let table = joined(alloc, header, program).expect(&rt, "refused");
+        let lines = lines(alloc, &table, order).expect(&rt, "refused");
+        checks.same(lines.sequences().len(), 1);
+        let sequence = lines.sequences().first().expect(&rt, "no sequence");
+        checks.same((sequence.start, sequence.end), (0x1004, 0x1018));
         let rows = sequence.rows();
-        assert_eq!(rt; rows.len(), 2);
+        checks.same(rows.len(), 2);
         for (row, address) in rows.iter().zip(&[0x1004u64, 0x1015]) {
-            assert_eq!(rt; row.address, *address);
-            assert_eq!(rt; (row.line, row.column), (2, 0));
+            checks.same(row.address, *address);
+            checks.same((row.line, row.column), (2, 0));
         }
-        assert!(rt; place(&lines, &table, 0x1010)? == Some((Some(2), Some(0))));
-        assert!(rt; place(&lines, &table, 0x1018)? == None);
+        checks.gives(place(&lines, &table, 0x1010), Some((Some(2), Some(0))));
+        checks.gives(place(&lines, &table, 0x1018), None);
     }
-    Ok(())
+    checks.result()
 }
 
 #[test]
 fn a_row_of_a_file_outside_the_table_is_refused(rt: HostRuntime) -> std::result::Result<(), Fail> {
+    let mut checks = Checks::new();
     let alloc = rt.alloc();
-    let table = joined(alloc, HEADER, OTHER_FILE)?;
-    let lines = lines(alloc, &table, ByteOrder::Little)?;
+    let table = joined(alloc, HEADER, OTHER_FILE).expect(&rt, "refused");
+    let lines = lines(alloc, &table, ByteOrder::Little).expect(&rt, "refused");
     match place(&lines, &table, 0x1000) {
-        Ok(_) => assert!(rt; false, "a file"),
-        Err(e) => assert!(rt; e.kind() == ErrorKind::InvalidDwarf),
+        Ok(_) => checks.holds(false),
+        Err(e) => checks.same(e.kind(), ErrorKind::InvalidDwarf),
     }
-    assert!(rt; place(&lines, &table, 0x1008)? == None);
-    Ok(())
+    checks.gives(place(&lines, &table, 0x1008), None);
+    checks.result()
 }
 
 #[test]
 fn the_rows_of_a_compiler(rt: HostRuntime) -> std::result::Result<(), Fail> {
+    let mut checks = Checks::new();
     let alloc = rt.alloc();
     for table in [VERSION_2, VERSION_5] {
-        let lines = lines(alloc, table, ByteOrder::Little)?;
+        let lines = lines(alloc, table, ByteOrder::Little).expect(&rt, "refused");
         for (addr, line, column) in [
             (0x1000u64, 3u32, 15u32),
             (0x1008, 4, 11),
             (0x1009, 4, 9),
             (0x100b, 7, 5),
         ] {
-            assert!(rt;
-                place(&lines, table, addr)? == Some((Some(line), Some(column))),
-                "at {addr}"
-            );
+            checks.gives(
+                place(&lines, table, addr),
+                Some((Some(line), Some(column))),
+            ) /* MSG ['"at {addr}"'] */;
         }
-        assert!(rt; place(&lines, table, 0x100c)? == None);
+        checks.gives(place(&lines, table, 0x100c), None);
     }
-    Ok(())
+    checks.result()
 }
 
 #[test]
 fn the_file_of_a_compiler(rt: HostRuntime) -> std::result::Result<(), Fail> {
+    let mut checks = Checks::new();
     let alloc = rt.alloc();
     for table in [VERSION_2, VERSION_5] {
-        let lines = lines(alloc, table, ByteOrder::Little)?;
+        let lines = lines(alloc, table, ByteOrder::Little).expect(&rt, "refused");
         let texts = texts(table);
-        let location = lines.find_location(&texts, 0x1000)?.ok_or("no location")?;
+        let location = lines
+            .find_location(&texts, 0x1000)
+            .expect(&rt, "refused")
+            .expect(&rt, "no location");
         let mut dir = Vec::new(alloc);
-        location.dir.write_to(&mut dir)?;
-        assert!(rt; dir.as_slice() == b"/src".as_slice());
-        assert!(rt; location.file == b"a.c".as_slice());
+        location.dir.write_to(&mut dir).expect(&rt, "refused");
+        checks.same(dir.as_slice(), b"/src".as_slice());
+        checks.same(location.file, b"a.c".as_slice());
     }
-    Ok(())
+    checks.result()
 }
 
 #[test]
-fn a_count_that_no_byte_backs(rt: HostRuntime) -> Result<()> {
+fn a_count_that_no_byte_backs(rt: HostRuntime) -> std::result::Result<(), Fail> {
+    let mut checks = Checks::new();
     let alloc = rt.alloc();
     let moves = RelocationMap::new(alloc);
     let sections = sections(ENDLESS, &moves, ByteOrder::Little);
-    let header = LineHeader::parse(alloc, &sections, 0, 8)?;
-    assert_eq!(rt; header.version, 5);
+    let header = LineHeader::parse(alloc, &sections, 0, 8).expect(&rt, "refused");
+    checks.same(header.version, 5);
     match parsed(alloc, ENDLESS, ByteOrder::Little) {
-        Ok(_) => assert!(rt; false, "a file"),
-        Err(e) => assert!(rt; e.kind() == ErrorKind::InvalidDwarf),
+        Ok(_) => checks.holds(false),
+        Err(e) => checks.same(e.kind(), ErrorKind::InvalidDwarf),
     }
-    Ok(())
+    checks.result()
 }
 
 #[test]
-fn a_row_takes_24_bytes(rt: HostRuntime) {
-    assert_eq!(rt; size_of::<LineRow>(), 24);
+fn a_row_takes_24_bytes() -> std::result::Result<(), Fail> {
+    let mut checks = Checks::new();
+    checks.same(size_of::<LineRow>(), 24);
+    checks.result()
 }

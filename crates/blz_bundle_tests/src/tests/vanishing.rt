@@ -1,6 +1,7 @@
 //! A file that is gone when it is read.
 use super::{DIGITS_CHECKSUM, bytes_of, holding, linked, refusal};
 use blz_bundle::OwnedBundle;
+use blz_checks::Checks;
 use blz_error::ErrorKind;
 use blz_images::{debug_altlink, with_build_id, with_section};
 use blz_links::{Files, FilesFault, MemoryFiles, Stamp};
@@ -46,23 +47,43 @@ impl Files for Vanishing {
 
 #[test]
 fn a_debug_file_that_vanishes_is_not_found(rt: HostRuntime) -> Result<(), Fail> {
+    let mut checks = Checks::new();
     let alloc = rt.alloc();
-    let mut files = holding(alloc, linked(alloc, "a.debug", DIGITS_CHECKSUM)?)?;
-    files.put("/x/a.debug", bytes_of(alloc, b"123456789")?)?;
+    let mut files = holding(
+        alloc,
+        linked(alloc, "a.debug", DIGITS_CHECKSUM).expect(&rt, "refused"),
+    )
+    .expect(&rt, "refused");
+    files
+        .put(
+            "/x/a.debug",
+            bytes_of(alloc, b"123456789").expect(&rt, "refused"),
+        )
+        .expect(&rt, "refused");
     let mut files = Vanishing { files };
     let opened = OwnedBundle::open(alloc, &mut files, "/x/a");
-    assert_eq!(rt; refusal(opened), Some(ErrorKind::NotFound));
-    Ok(())
+    checks.same(refusal(opened), Some(ErrorKind::NotFound));
+    checks.result()
 }
 
 #[test]
 fn a_shared_file_that_vanishes_is_not_found(rt: HostRuntime) -> Result<(), Fail> {
+    let mut checks = Checks::new();
     let alloc = rt.alloc();
-    let link = debug_altlink(alloc, "a.debug", b"12345678")?;
-    let mut files = holding(alloc, with_section(alloc, ".gnu_debugaltlink", &link)?)?;
-    files.put("/x/a.debug", with_build_id(alloc, b"12345678")?)?;
+    let link = debug_altlink(alloc, "a.debug", b"12345678").expect(&rt, "refused");
+    let mut files = holding(
+        alloc,
+        with_section(alloc, ".gnu_debugaltlink", &link).expect(&rt, "refused"),
+    )
+    .expect(&rt, "refused");
+    files
+        .put(
+            "/x/a.debug",
+            with_build_id(alloc, b"12345678").expect(&rt, "refused"),
+        )
+        .expect(&rt, "refused");
     let mut files = Vanishing { files };
     let opened = OwnedBundle::open(alloc, &mut files, "/x/a");
-    assert_eq!(rt; refusal(opened), Some(ErrorKind::NotFound));
-    Ok(())
+    checks.same(refusal(opened), Some(ErrorKind::NotFound));
+    checks.result()
 }

@@ -2,10 +2,12 @@
 
 ghost use Rattle.std.specs.Prelude.{◌≡◌, pos};
 
+use blz_checks::Checks;
 use blz_records::{
     ByteOrder, Elf32_Ehdr, Elf32_Rel, Elf32_Rela, Elf32_Shdr, Elf32_Sym, Elf64_Ehdr, Elf64_Rel,
     Elf64_Rela, Elf64_Shdr, Elf64_Sym, ElfN, Pod, SymType,
 };
+use std::test::Fail;
 
 // all fields are 0
 fn no_relocation() -> Elf64_Rela
@@ -17,55 +19,62 @@ fn no_relocation() -> Elf64_Rela
 }
 
 #[test]
-fn takes_the_symbol_of_a_relocation(rt: HostRuntime) {
+fn takes_the_symbol_of_a_relocation() -> Result<(), Fail> {
+    let mut checks = Checks::new();
     let mut narrow = Elf32_Rela::default();
     narrow.r_info = 0x500;
-    assert_eq!(rt; narrow.sym(), 5);
+    checks.same(narrow.sym(), 5);
     let mut wide = no_relocation();
     wide.r_info = 0x7_0000_0000;
-    assert_eq!(rt; wide.sym(), 7);
+    checks.same(wide.sym(), 7);
     let mut narrow = Elf32_Rel::default();
     narrow.r_info = 0x300;
-    assert_eq!(rt; narrow.sym(), 3);
+    checks.same(narrow.sym(), 3);
     let mut wide = Elf64_Rel::default();
     wide.r_info = 0xa_0000_0000;
-    assert_eq!(rt; wide.sym(), 10);
+    checks.same(wide.sym(), 10);
+    checks.result()
 }
 
 #[test]
-fn widens_with_the_sign_of_the_addend(rt: HostRuntime) {
+fn widens_with_the_sign_of_the_addend() -> Result<(), Fail> {
+    let mut checks = Checks::new();
     let bytes = [0, 0, 0, 16, 0, 0, 1, 1, 0xff, 0xff, 0xff, 0xfe];
     let narrow = Elf32_Rela::read(&bytes, ByteOrder::Big);
     let wide = Elf64_Rela::from(&narrow);
-    assert_eq!(rt; wide.r_offset, 16);
-    assert_eq!(rt; wide.r_info, 0x101);
-    assert_eq!(rt; wide.r_addend, -2);
+    checks.same(wide.r_offset, 16);
+    checks.same(wide.r_info, 0x101);
+    checks.same(wide.r_addend, -2);
+    checks.result()
 }
 
 #[test]
-fn reads_a_symbol_of_either_class(rt: HostRuntime) {
+fn reads_a_symbol_of_either_class() -> Result<(), Fail> {
+    let mut checks = Checks::new();
     let narrow = [1, 0, 0, 0, 2, 0, 0, 0, 3, 0, 0, 0, 0x12, 0, 4, 0];
     let symbol = ElfN::<Elf64_Sym>::B32(Elf32_Sym::read_le(&narrow));
-    assert!(rt; symbol.is_32bit());
-    assert_eq!(rt; symbol.name(), 1);
-    assert_eq!(rt; symbol.value(), 2);
-    assert_eq!(rt; symbol.size(), 3);
-    assert_eq!(rt; symbol.type_(), 2);
-    assert_eq!(rt; symbol.shndx(), 4);
-    assert_eq!(rt; symbol.to_64bit().st_size, 3);
+    checks.holds(symbol.is_32bit());
+    checks.same(symbol.name(), 1);
+    checks.same(symbol.value(), 2);
+    checks.same(symbol.size(), 3);
+    checks.same(symbol.type_(), 2);
+    checks.same(symbol.shndx(), 4);
+    checks.same(symbol.to_64bit().st_size, 3);
     let wide = [
         0, 0, 0, 1, 0x11, 0, 0, 4, 0, 0, 0, 0, 0, 0, 0, 2, 0, 0, 0, 0, 0, 0, 0, 3,
     ];
     let symbol = ElfN::B64(Elf64_Sym::read_be(&wide));
-    assert!(rt; !symbol.is_32bit());
-    assert_eq!(rt; symbol.value(), 2);
-    assert!(rt; symbol.matches(SymType::Variable));
-    assert!(rt; !symbol.matches(SymType::Function));
-    assert!(rt; SymType::try_from(&symbol) == Ok(SymType::Variable));
+    checks.holds(!symbol.is_32bit());
+    checks.same(symbol.value(), 2);
+    checks.holds(symbol.matches(SymType::Variable));
+    checks.holds(!symbol.matches(SymType::Function));
+    checks.holds(SymType::try_from(&symbol) == Ok(SymType::Variable));
+    checks.result()
 }
 
 #[test]
-fn knows_the_types_of_symbols(rt: HostRuntime) {
+fn knows_the_types_of_symbols() -> Result<(), Fail> {
+    let mut checks = Checks::new();
     for (info, want) in [
         (0x10, Some(SymType::Undefined)),
         (0x11, Some(SymType::Variable)),
@@ -75,21 +84,24 @@ fn knows_the_types_of_symbols(rt: HostRuntime) {
     ] {
         let mut symbol = Elf64_Sym::default();
         symbol.st_info = info;
-        assert!(rt; SymType::try_from(&symbol).ok() == want);
+        checks.holds(SymType::try_from(&symbol).ok() == want);
     }
-    assert!(rt; SymType::default() == SymType::Undefined);
+    checks.holds(SymType::default() == SymType::Undefined);
+    checks.result()
 }
 
 #[test]
-fn reads_headers_of_either_class(rt: HostRuntime) {
+fn reads_headers_of_either_class() -> Result<(), Fail> {
+    let mut checks = Checks::new();
     let header = ElfN::<Elf64_Ehdr>::B32(Elf32_Ehdr::default());
-    assert_eq!(rt; header.shoff(), 0);
-    assert_eq!(rt; header.shnum(), 0);
+    checks.same(header.shoff(), 0);
+    checks.same(header.shnum(), 0);
     let section = ElfN::<Elf64_Shdr>::B32(Elf32_Shdr::default());
-    assert_eq!(rt; section.size(), 0);
-    assert_eq!(rt; i16::read_le(&[0xfe, 0xff]), -2);
-    assert_eq!(rt;
+    checks.same(section.size(), 0);
+    checks.same(i16::read_le(&[0xfe, 0xff]), -2);
+    checks.same(
         u128::read_be(&[0, 0, 0, 0, 0, 0, 0, 1, 0, 0, 0, 0, 0, 0, 0, 2]),
-        (1 << 64) + 2
+        (1 << 64) + 2,
     );
+    checks.result()
 }

@@ -3,9 +3,11 @@ ghost use Rattle.std.specs.Prelude.{◌≡◌};
 
 use super::samples::{LINE_STR, SAMPLES, Sample};
 use super::small::{no_sections, section};
+use blz_checks::Checks;
 use blz_entry::{
     Abbreviations, AttrValue, Sections, Span, StrPart, StrPlace, UnitHeaders, UnitRoot, list_unit,
 };
+use blz_error::{IntoError, Result};
 use blz_moves::RelocationMap;
 use std::alloc::Global;
 use std::test::Fail;
@@ -22,38 +24,47 @@ fn sections<'s>(sample: &Sample, moves: &'s RelocationMap) -> Sections<'s, 'stat
 }
 
 #[test]
-fn compiled_units_of_each_version_tell_their_ranges(rt: HostRuntime) -> Result<(), Fail> {
+fn compiled_units_of_each_version_tell_their_ranges(
+    rt: HostRuntime,
+) -> std::result::Result<(), Fail> {
+    let mut checks = Checks::new();
     let moves = RelocationMap::new(rt.alloc());
     for sample in SAMPLES {
         let sections = sections(&sample, &moves);
         let mut headers = UnitHeaders::new(sections.info);
-        let header = headers.next_header()?.ok_or("a unit")?;
-        assert_eq!(rt; header.version, sample.version);
-        assert!(rt; headers.next_header()?.is_none());
-        let abbreviations = Abbreviations::parse(rt.alloc(), sample.abbrev, header.abbrev)?;
-        let root = UnitRoot::parse(&sections, &header, &abbreviations)?;
-        assert_eq!(rt; root.low_pc, 0x401000);
+        let header = headers
+            .next_header()
+            .expect(&rt, "refused")
+            .expect(&rt, "a unit");
+        checks.same(header.version, sample.version);
+        checks.holds(headers.next_header().expect(&rt, "refused").is_none());
+        let abbreviations = Abbreviations::parse(rt.alloc(), sample.abbrev, header.abbrev).expect(
+            &rt, "refused",
+        );
+        let root = UnitRoot::parse(&sections, &header, &abbreviations).expect(&rt, "refused");
+        checks.same(root.low_pc, 0x401000);
         let mut spans = Vec::new(rt.alloc());
-        assert!(rt;
+        checks.holds(
             root.ranges
-                .for_each_range(&sections, &header, &root, &mut spans)?
+                .for_each_range(&sections, &header, &root, &mut spans)
+                .expect(&rt, "refused"),
         );
         let code = Span {
             begin: 0x401000,
             end: 0x40100f,
         };
-        assert_eq!(rt; spans.as_slice(), [code].as_slice());
+        checks.same(spans.as_slice(), [code].as_slice());
     }
-    Ok(())
+    checks.result()
 }
 
 // how many functions below the root have the name at a place of one byte
-fn functions_named(alloc: Global, sample: &Sample) -> Result<usize, Fail> {
+fn functions_named(alloc: Global, sample: &Sample) -> Result<usize> {
     let moves = RelocationMap::new(alloc);
     let sections = sections(sample, &moves);
     let header = UnitHeaders::new(sections.info)
         .next_header()?
-        .ok_or("a unit")?;
+        .ok_or_invalid_data(|| "no unit")?;
     let abbreviations = Abbreviations::parse(alloc, sample.abbrev, header.abbrev)?;
     let name = AttrValue::Text(StrPlace {
         part: StrPart::Info,
@@ -71,9 +82,12 @@ fn functions_named(alloc: Global, sample: &Sample) -> Result<usize, Fail> {
 }
 
 #[test]
-fn compiled_units_of_each_version_tell_their_function(rt: HostRuntime) -> Result<(), Fail> {
+fn compiled_units_of_each_version_tell_their_function(
+    rt: HostRuntime,
+) -> std::result::Result<(), Fail> {
+    let mut checks = Checks::new();
     for sample in SAMPLES {
-        assert_eq!(rt; functions_named(rt.alloc(), &sample)?, 1);
+        checks.gives(functions_named(rt.alloc(), &sample), 1);
     }
-    Ok(())
+    checks.result()
 }

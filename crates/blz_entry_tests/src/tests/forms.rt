@@ -1,10 +1,10 @@
 //! The values of forms (DWARF 5 section 7.5.6).
 use super::small::{entries_at, section};
+use blz_checks::Checks;
 use blz_entry::{Abbreviations, AttrValue, Section, StrPart, StrPlace, form_value};
 use blz_model::ByteOrder;
 use blz_moves::RelocationMap;
 use std::alloc::Global;
-use std::process::Abort;
 use std::test::Fail;
 
 const NUMBERS: &[u8] = b"\x83\x01\0\0\0\0\0\0\0\0\0\0\0\0\0\0";
@@ -20,16 +20,22 @@ fn read(bytes: &Section<'_, '_>, form: u64) -> Option<(AttrValue, usize)> {
 }
 
 // each form has its value at the start of some bytes, and its next place
-fn assert_reads(rt: &impl Abort, alloc: Global, bytes: &[u8], forms: &[(u64, AttrValue, usize)]) {
+fn check_reads(
+    checks: &mut Checks,
+    alloc: Global,
+    bytes: &[u8],
+    forms: &[(u64, AttrValue, usize)],
+) {
     let moves = RelocationMap::new(alloc);
     let bytes = section(bytes, &moves);
     for (form, value, next) in forms {
-        assert_eq!(rt; read(&bytes, *form), Some((*value, *next)), "form {form}");
+        checks.same((*form, read(&bytes, *form)), (*form, Some((*value, *next))));
     }
 }
 
 #[test]
-fn each_form_of_a_number_has_its_value_and_next_place(rt: HostRuntime) {
+fn each_form_of_a_number_has_its_value_and_next_place(rt: HostRuntime) -> Result<(), Fail> {
+    let mut checks = Checks::new();
     let forms = [
         (0x01, AttrValue::Addr(0x183), 8),
         (0x05, AttrValue::Const(0x183), 2),
@@ -44,11 +50,13 @@ fn each_form_of_a_number_has_its_value_and_next_place(rt: HostRuntime) {
         (0x20, AttrValue::Other, 8),
         (0x22, AttrValue::Other, 2),
     ];
-    assert_reads(&rt, rt.alloc(), NUMBERS, &forms);
+    check_reads(&mut checks, rt.alloc(), NUMBERS, &forms);
+    checks.result()
 }
 
 #[test]
-fn each_form_of_a_place_has_its_value_and_next_place(rt: HostRuntime) {
+fn each_form_of_a_place_has_its_value_and_next_place(rt: HostRuntime) -> Result<(), Fail> {
+    let mut checks = Checks::new();
     let forms = [
         (0x0e, AttrValue::StrRef(0x183), 4),
         (0x10, AttrValue::InfoRef(0x183), 4),
@@ -65,11 +73,13 @@ fn each_form_of_a_place_has_its_value_and_next_place(rt: HostRuntime) {
         (0x1f20, AttrValue::SupRef(0x183), 4),
         (0x1f21, AttrValue::SupStr(0x183), 4),
     ];
-    assert_reads(&rt, rt.alloc(), NUMBERS, &forms);
+    check_reads(&mut checks, rt.alloc(), NUMBERS, &forms);
+    checks.result()
 }
 
 #[test]
-fn each_form_of_an_index_has_its_value_and_next_place(rt: HostRuntime) {
+fn each_form_of_an_index_has_its_value_and_next_place(rt: HostRuntime) -> Result<(), Fail> {
+    let mut checks = Checks::new();
     let forms = [
         (0x1a, AttrValue::StrIndex(131), 2),
         (0x1b, AttrValue::AddrIndex(131), 2),
@@ -83,11 +93,13 @@ fn each_form_of_an_index_has_its_value_and_next_place(rt: HostRuntime) {
         (0x2b, AttrValue::AddrIndex(0x183), 3),
         (0x2c, AttrValue::AddrIndex(0x183), 4),
     ];
-    assert_reads(&rt, rt.alloc(), NUMBERS, &forms);
+    check_reads(&mut checks, rt.alloc(), NUMBERS, &forms);
+    checks.result()
 }
 
 #[test]
-fn each_form_of_a_block_or_a_text_has_its_next_place(rt: HostRuntime) {
+fn each_form_of_a_block_or_a_text_has_its_next_place(rt: HostRuntime) -> Result<(), Fail> {
+    let mut checks = Checks::new();
     let text = StrPlace {
         part: StrPart::Line,
         start: 0,
@@ -101,43 +113,56 @@ fn each_form_of_a_block_or_a_text_has_its_next_place(rt: HostRuntime) {
         (0x0a, AttrValue::Other, 4),
         (0x18, AttrValue::Other, 4),
     ];
-    assert_reads(&rt, rt.alloc(), BLOCKS, &forms);
+    check_reads(&mut checks, rt.alloc(), BLOCKS, &forms);
+    checks.result()
 }
 
 #[test]
-fn an_indirect_form_has_the_value_of_the_form_that_stands_there(rt: HostRuntime) {
+fn an_indirect_form_has_the_value_of_the_form_that_stands_there(
+    rt: HostRuntime,
+) -> Result<(), Fail> {
+    let mut checks = Checks::new();
     let moves = RelocationMap::new(rt.alloc());
     let bytes = section(INDIRECT, &moves);
-    assert_eq!(rt; read(&bytes, 0x16), Some((AttrValue::Const(7), 2)));
+    checks.same(read(&bytes, 0x16), Some((AttrValue::Const(7), 2)));
     // an indirect form there, and an implicit constant
-    assert_eq!(rt;
+    checks.same(
         form_value(&bytes, StrPart::Line, 5, false, 8, 0x16, 2),
-        None
+        None,
     );
     let implicit = section(b"\x21\x05", &moves);
-    assert_eq!(rt; read(&implicit, 0x16), None);
+    checks.same(read(&implicit, 0x16), None);
+    checks.result()
 }
 
 #[test]
 fn an_implicit_constant_is_the_number_of_the_abbreviation(rt: HostRuntime) -> Result<(), Fail> {
+    let mut checks = Checks::new();
     let moves = RelocationMap::new(rt.alloc());
     // two attributes, the first with an implicit constant of -2, and the second with one of 5
     let table = b"\x01\x34\0\x3a\x21\x7e\x3b\x21\x05\0\0\0";
-    let abbreviations = Abbreviations::parse(rt.alloc(), table, 0)?;
-    let mut entries = entries_at(b"\x01\x01", &moves, &abbreviations, 0)?;
-    entries.next_entry()?.ok_or("an entry")?;
-    let first = *entries.pending().first().ok_or("an attribute")?;
-    assert_eq!(rt; entries.read_attribute(first)?, AttrValue::Signed(-2));
-    let second = *entries.pending().first().ok_or("another attribute")?;
-    assert_eq!(rt; entries.read_attribute(second)?, AttrValue::Signed(5));
+    let abbreviations = Abbreviations::parse(rt.alloc(), table, 0).expect(&rt, "refused");
+    let mut entries = entries_at(b"\x01\x01", &moves, &abbreviations, 0).expect(&rt, "refused");
+    entries
+        .next_entry()
+        .expect(&rt, "refused")
+        .expect(&rt, "an entry");
+    let first = *entries.pending().first().expect(&rt, "an attribute");
+    checks.gives(entries.read_attribute(first), AttrValue::Signed(-2));
+    let second = *entries.pending().first().expect(&rt, "another attribute");
+    checks.gives(entries.read_attribute(second), AttrValue::Signed(5));
     // they took no bytes
-    let next = entries.next_entry()?.ok_or("a second entry")?;
-    assert_eq!(rt; next.place, 1);
-    Ok(())
+    let next = entries
+        .next_entry()
+        .expect(&rt, "refused")
+        .expect(&rt, "a second entry");
+    checks.same(next.place, 1);
+    checks.result()
 }
 
 #[test]
-fn orders_and_sizes_change_what_a_form_reads(rt: HostRuntime) {
+fn orders_and_sizes_change_what_a_form_reads(rt: HostRuntime) -> Result<(), Fail> {
+    let mut checks = Checks::new();
     let moves = RelocationMap::new(rt.alloc());
     let little = section(NUMBERS, &moves);
     let big = Section {
@@ -145,49 +170,53 @@ fn orders_and_sizes_change_what_a_form_reads(rt: HostRuntime) {
         ..little
     };
     let line = StrPart::Line;
-    assert_eq!(rt; read(&big, 0x05), Some((AttrValue::Const(0x8301), 2)));
-    assert_eq!(rt; read(&big, 0x27), Some((AttrValue::StrIndex(0x83_0100), 3)));
-    assert_eq!(rt;
+    checks.same(read(&big, 0x05), Some((AttrValue::Const(0x8301), 2)));
+    checks.same(read(&big, 0x27), Some((AttrValue::StrIndex(0x83_0100), 3)));
+    checks.same(
         form_value(&little, line, 5, true, 8, 0x0e, 0),
-        Some((AttrValue::StrRef(0x183), 8))
+        Some((AttrValue::StrRef(0x183), 8)),
     );
-    assert_eq!(rt;
+    checks.same(
         form_value(&little, line, 2, false, 8, 0x10, 0),
-        Some((AttrValue::InfoRef(0x183), 8))
+        Some((AttrValue::InfoRef(0x183), 8)),
     );
-    assert_eq!(rt;
+    checks.same(
         form_value(&little, line, 5, false, 4, 0x01, 0),
-        Some((AttrValue::Addr(0x183), 4))
+        Some((AttrValue::Addr(0x183), 4)),
     );
     for (form, address_size) in [(0x01, 2), (0x02, 8), (0x16, 8), (0x21, 8), (0x1f01, 8)] {
         let read = form_value(&little, line, 5, false, address_size, form, 0);
-        assert_eq!(rt; read, None, "form {form}");
+        checks.same((form, read), (form, None));
     }
+    checks.result()
 }
 
 #[test]
-fn a_number_below_zero_is_no_constant(rt: HostRuntime) {
+fn a_number_below_zero_is_no_constant(rt: HostRuntime) -> Result<(), Fail> {
+    let mut checks = Checks::new();
     let moves = RelocationMap::new(rt.alloc());
     let bytes = section(INDIRECT, &moves);
     let negative = form_value(&bytes, StrPart::Line, 5, false, 8, 0x0d, 4);
-    assert_eq!(rt; negative, Some((AttrValue::Signed(-128), 6)));
-    assert_eq!(rt; AttrValue::Signed(-128).udata(), None);
-    assert_eq!(rt; AttrValue::Signed(5).udata(), Some(5));
+    checks.same(negative, Some((AttrValue::Signed(-128), 6)));
+    checks.same(AttrValue::Signed(-128).udata(), None);
+    checks.same(AttrValue::Signed(5).udata(), Some(5));
+    checks.result()
 }
 
 #[test]
 fn addresses_are_moved_and_constants_are_not(rt: HostRuntime) -> Result<(), Fail> {
+    let mut checks = Checks::new();
     let mut moves = RelocationMap::new(rt.alloc());
-    moves.insert(8, 0xABCD, false)?;
+    moves.insert(8, 0xABCD, false).expect(&rt, "refused");
     let moved = section(NUMBERS, &moves);
     let line = StrPart::Line;
-    assert_eq!(rt;
+    checks.same(
         form_value(&moved, line, 5, false, 4, 0x01, 8),
-        Some((AttrValue::Addr(0xABCD), 12))
+        Some((AttrValue::Addr(0xABCD), 12)),
     );
-    assert_eq!(rt;
+    checks.same(
         form_value(&moved, line, 5, false, 4, 0x06, 8),
-        Some((AttrValue::Const(0), 12))
+        Some((AttrValue::Const(0), 12)),
     );
-    Ok(())
+    checks.result()
 }

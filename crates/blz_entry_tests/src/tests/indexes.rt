@@ -1,5 +1,6 @@
 //! Strings, addresses and lists of ranges that are found by their index.
 use super::small::{header, no_sections, root, section};
+use blz_checks::Checks;
 use blz_entry::{
     AttrValue, RangeAttributes, Sections, StrPart, StrPlace, Texts, UnitHeader, address,
     attr_ranges_offset, attr_string, supplementary_string,
@@ -11,7 +12,8 @@ use std::test::Fail;
 const STRINGS: &[u8] = b"\0ab\0cde\0";
 
 #[test]
-fn a_string_is_found_by_its_index(rt: HostRuntime) {
+fn a_string_is_found_by_its_index(rt: HostRuntime) -> Result<(), Fail> {
+    let mut checks = Checks::new();
     let moves = RelocationMap::new(rt.alloc());
     let sections = Sections {
         strings: section(STRINGS, &moves),
@@ -25,7 +27,7 @@ fn a_string_is_found_by_its_index(rt: HostRuntime) {
     };
     for (index, place) in [(1, Some(second)), (2, None)] {
         let value = AttrValue::StrIndex(index);
-        assert_eq!(rt; attr_string(&sections, &header(5), &root(0), value), place);
+        checks.same(attr_string(&sections, &header(5), &root(0), value), place);
     }
     let texts = Texts {
         info: b"",
@@ -38,11 +40,13 @@ fn a_string_is_found_by_its_index(rt: HostRuntime) {
         sup_info: b"",
         sup_line_str: b"",
     };
-    assert_eq!(rt; texts.get(second), b"cde".as_slice());
+    checks.same(texts.get(second), b"cde".as_slice());
+    checks.result()
 }
 
 #[test]
-fn a_string_of_the_supplementary_file_is_found_there(rt: HostRuntime) {
+fn a_string_of_the_supplementary_file_is_found_there(rt: HostRuntime) -> Result<(), Fail> {
+    let mut checks = Checks::new();
     let moves = RelocationMap::new(rt.alloc());
     let strings = section(STRINGS, &moves);
     let sections = Sections {
@@ -55,15 +59,17 @@ fn a_string_of_the_supplementary_file_is_found_there(rt: HostRuntime) {
         len: 2,
     });
     let value = AttrValue::SupStr(1);
-    assert_eq!(rt;
+    checks.same(
         attr_string(&sections, &header(5), &root(0), value),
-        elsewhere
+        elsewhere,
     );
-    assert_eq!(rt; supplementary_string(&strings, 1), elsewhere);
+    checks.same(supplementary_string(&strings, 1), elsewhere);
+    checks.result()
 }
 
 #[test]
 fn an_address_is_found_by_its_index(rt: HostRuntime) -> Result<(), Fail> {
+    let mut checks = Checks::new();
     let moves = RelocationMap::new(rt.alloc());
     let sections = Sections {
         addr: section(
@@ -72,9 +78,9 @@ fn an_address_is_found_by_its_index(rt: HostRuntime) -> Result<(), Fail> {
         ),
         ..no_sections(&moves)
     };
-    assert_eq!(rt; address(&sections, &header(5), &root(0), 1)?, 7);
-    assert!(rt; address(&sections, &header(5), &root(0), 2).is_err());
-    Ok(())
+    checks.gives(address(&sections, &header(5), &root(0), 1), 7);
+    checks.holds(address(&sections, &header(5), &root(0), 2).is_err());
+    checks.result()
 }
 
 // sections of which all but the lists of ranges are empty
@@ -87,15 +93,22 @@ fn lists_alone<'s, 'b>(rnglists: &'b [u8], moves: &'s RelocationMap) -> Sections
 
 #[test]
 fn a_list_of_ranges_is_found_by_its_index(rt: HostRuntime) -> Result<(), Fail> {
+    let mut checks = Checks::new();
     let moves = RelocationMap::new(rt.alloc());
     let sections = lists_alone(b"\0\0\0\0\x08\0\0\0", &moves);
-    let found = attr_ranges_offset(&sections, &header(5), &root(0), AttrValue::RangeIndex(0))?;
-    assert_eq!(rt; found, Some(12));
-    Ok(())
+    let found = attr_ranges_offset(
+        &sections,
+        &header(5),
+        &root(0),
+        AttrValue::RangeIndex(0),
+    ).expect(&rt, "refused");
+    checks.same(found, Some(12));
+    checks.result()
 }
 
 #[test]
 fn a_list_past_the_greatest_offset_is_named_and_has_no_value(rt: HostRuntime) -> Result<(), Fail> {
+    let mut checks = Checks::new();
     let moves = RelocationMap::new(rt.alloc());
     let sections = lists_alone(b"\0\0\0\0\xff\xff\xff\xff\xff\xff\xff\xff", &moves);
     let wide = UnitHeader {
@@ -105,18 +118,26 @@ fn a_list_past_the_greatest_offset_is_named_and_has_no_value(rt: HostRuntime) ->
     let root = root(0);
     let list = AttrValue::RangeIndex(0);
     match attr_ranges_offset(&sections, &wide, &root, list) {
-        Ok(_) => assert!(rt; false, "an offset"),
-        Err(e) => assert!(rt; e.kind() == ErrorKind::InvalidDwarf),
+        Ok(_) => checks.holds(false),
+        Err(e) => checks.same(e.kind(), ErrorKind::InvalidDwarf),
     }
     // DW_AT_ranges
-    let named = RangeAttributes::default().with(&sections, &wide, &root, 0x55, list)?;
+    let named = RangeAttributes::default()
+        .with(&sections, &wide, &root, 0x55, list)
+        .expect(&rt, "refused");
     let mut spans = Vec::new(rt.alloc());
     match named.for_each_range(&sections, &wide, &root, &mut spans) {
-        Ok(_) => assert!(rt; false, "a list"),
-        Err(e) => assert!(rt; e.kind() == ErrorKind::InvalidDwarf),
+        Ok(_) => checks.holds(false),
+        Err(e) => checks.same(e.kind(), ErrorKind::InvalidDwarf),
     }
     // the last of several counts
-    let later = named.with(&sections, &wide, &root, 0x55, AttrValue::SecOffset(12))?;
-    assert!(rt; !later.for_each_range(&sections, &wide, &root, &mut spans)?);
-    Ok(())
+    let later = named
+        .with(&sections, &wide, &root, 0x55, AttrValue::SecOffset(12))
+        .expect(&rt, "refused");
+    checks.holds(
+        !later
+            .for_each_range(&sections, &wide, &root, &mut spans)
+            .expect(&rt, "refused"),
+    );
+    checks.result()
 }

@@ -1,11 +1,17 @@
 //! Lists of ranges, and sets of address ranges.
 use super::small::{header, no_sections, root, section};
+use blz_checks::Checks;
 use blz_entry::{Aranges, RangeAttributes, Sections, Span};
 use blz_moves::RelocationMap;
 use std::test::Fail;
 
+fn span(begin: u64, end: u64) -> Span {
+    Span { begin, end }
+}
+
 #[test]
 fn lists_of_ranges_of_both_kinds_are_read(rt: HostRuntime) -> Result<(), Fail> {
+    let mut checks = Checks::new();
     let moves = RelocationMap::new(rt.alloc());
     let sections = Sections {
         rnglists: section(
@@ -23,42 +29,32 @@ fn lists_of_ranges_of_both_kinds_are_read(rt: HostRuntime) -> Result<(), Fail> {
         ..RangeAttributes::default()
     };
     let mut spans = Vec::new(rt.alloc());
-    assert!(rt; attributes.for_each_range(&sections, &header(5), &root(0x1000), &mut spans)?);
-    assert!(rt; attributes.for_each_range(&sections, &header(4), &root(0), &mut spans)?);
-    let want = [
-        Span {
-            begin: 0x1010,
-            end: 0x1020,
-        },
-        Span {
-            begin: 0x2000,
-            end: 0x2008,
-        },
-        Span {
-            begin: 0x10,
-            end: 0x20,
-        },
-    ];
-    assert_eq!(rt; spans.as_slice(), want.as_slice());
-    assert_eq!(rt; attributes.bounds(), None);
-    Ok(())
+    let lists = attributes.for_each_range(&sections, &header(5), &root(0x1000), &mut spans);
+    checks.gives(lists, true);
+    let pairs = attributes.for_each_range(&sections, &header(4), &root(0), &mut spans);
+    checks.gives(pairs, true);
+    let want = [span(0x1010, 0x1020), span(0x2000, 0x2008), span(0x10, 0x20)];
+    checks.same(spans.as_slice(), want.as_slice());
+    checks.same(attributes.bounds(), None);
+    checks.result()
 }
 
 #[test]
 fn a_set_of_address_ranges_tells_its_unit_and_its_ranges(rt: HostRuntime) -> Result<(), Fail> {
+    let mut checks = Checks::new();
     let moves = RelocationMap::new(rt.alloc());
     let bytes =
         b"\x2c\0\0\0\x02\0\x33\0\0\0\x08\0\0\0\0\0\x00\x10\0\0\0\0\0\0\x10\0\0\0\0\0\0\0\0\0\0\0\0\0\0\0\0\0\0\0\0\0\0\0";
     let aranges = section(bytes, &moves);
     let mut sets = Aranges::new(aranges);
-    let mut set = sets.next_set()?.ok_or("a set")?;
-    assert_eq!(rt; (set.unit, set.at, set.end), (0x33, 16, 48));
+    let mut set = sets.next_set().expect(&rt, "refused").expect(&rt, "a set");
+    checks.same((set.unit, set.at, set.end), (0x33, 16, 48));
     let code = Span {
         begin: 0x1000,
         end: 0x1010,
     };
-    assert_eq!(rt; set.next_range(&aranges), Some(code));
-    assert_eq!(rt; set.next_range(&aranges), None);
-    assert!(rt; sets.next_set()?.is_none());
-    Ok(())
+    checks.same(set.next_range(&aranges), Some(code));
+    checks.same(set.next_range(&aranges), None);
+    checks.holds(sets.next_set().expect(&rt, "refused").is_none());
+    checks.result()
 }

@@ -1,9 +1,9 @@
 //! The attributes of an entry that tell what a function or an inlined call is.
 use super::small::entries_at;
+use blz_checks::Checks;
 use blz_entry::{Abbreviations, AttrValue, Encoding, Entries, Passing, StrPart, StrPlace};
 use blz_moves::RelocationMap;
 use std::alloc::Global;
-use std::process::Abort;
 use std::test::Fail;
 
 // DW_AT_external, name, decl_line, frame_base, low_pc, high_pc, call_line (an implicit constant of 9) and object_pointer
@@ -14,7 +14,10 @@ const TABLE: &[u8] =
 const INFO: &[u8] =
     b"\x01f\0\x05\x01\x9c\0\x10\0\0\0\0\0\0\x20\0\0\0\0\0\0\0\x02g\0\x05\x01\x9c\0\x10\0\0\0\0\0\0\x20\0\0\0\0\0\0\0";
 
-fn wanted(alloc: Global, entries: &mut Entries<'_, '_>) -> Result<Vec<(u64, AttrValue)>, Fail> {
+fn wanted(
+    alloc: Global,
+    entries: &mut Entries<'_, '_>,
+) -> blz_error::Result<Vec<(u64, AttrValue)>> {
     let mut found = Vec::new(alloc);
     for _ in 0..8 {
         let Some(attribute) = entries.next_wanted()? else {
@@ -40,7 +43,7 @@ fn told(start: usize) -> [(u64, AttrValue); 4] {
 }
 
 // both entries by a table that is read for one encoding
-fn same_values(rt: &impl Abort, alloc: Global, version: u16) -> Result<(), Fail> {
+fn check_values(checks: &mut Checks, alloc: Global, version: u16) -> blz_error::Result<()> {
     let moves = RelocationMap::new(alloc);
     let encoding = Encoding {
         version,
@@ -50,19 +53,21 @@ fn same_values(rt: &impl Abort, alloc: Global, version: u16) -> Result<(), Fail>
     let abbreviations = Abbreviations::parse_for(alloc, TABLE, 0, encoding)?;
     let mut entries = entries_at(INFO, &moves, &abbreviations, 0)?;
     for place in [0, 22] {
-        let entry = entries.next_entry()?.ok_or("an entry")?;
-        assert_eq!(rt; entry.place, place);
+        let entry = entries.next_entry()?;
+        checks.same(entry.map(|entry| entry.place), Some(place));
         let found = wanted(alloc, &mut entries)?;
-        assert_eq!(rt; found.as_slice(), told(place + 1).as_slice());
+        checks.same(found.as_slice(), told(place + 1).as_slice());
     }
-    assert!(rt; entries.next_entry()?.is_none());
+    checks.holds(entries.next_entry()?.is_none());
     Ok(())
 }
 
 #[test]
 fn wanted_attributes_are_alike_whatever_a_table_is_ready_for(rt: HostRuntime) -> Result<(), Fail> {
-    same_values(&rt, rt.alloc(), 5)?;
-    same_values(&rt, rt.alloc(), 4)
+    let mut checks = Checks::new();
+    check_values(&mut checks, rt.alloc(), 5).expect(&rt, "refused");
+    check_values(&mut checks, rt.alloc(), 4).expect(&rt, "refused");
+    checks.result()
 }
 
 // implicit constants of DW_AT_call_line, and names: of a subprogram, which is read by runs, and of a variable
@@ -73,12 +78,18 @@ const REPEATED: &[u8] =
 fn of_attributes_without_bytes_the_last_of_a_name_and_kind_is_wanted(
     rt: HostRuntime,
 ) -> Result<(), Fail> {
+    let mut checks = Checks::new();
     let moves = RelocationMap::new(rt.alloc());
-    let abbreviations = Abbreviations::parse(rt.alloc(), REPEATED, 0)?;
-    let mut entries = entries_at(b"\x01f\0\x02g\0", &moves, &abbreviations, 0)?;
+    let abbreviations = Abbreviations::parse(rt.alloc(), REPEATED, 0).expect(&rt, "refused");
+    let mut entries = entries_at(b"\x01f\0\x02g\0", &moves, &abbreviations, 0).expect(
+        &rt, "refused",
+    );
     for start in [1, 4] {
-        entries.next_entry()?.ok_or("an entry")?;
-        let found = wanted(rt.alloc(), &mut entries)?;
+        entries
+            .next_entry()
+            .expect(&rt, "refused")
+            .expect(&rt, "an entry");
+        let found = wanted(rt.alloc(), &mut entries).expect(&rt, "refused");
         let name = StrPlace {
             part: StrPart::Info,
             start,
@@ -90,9 +101,9 @@ fn of_attributes_without_bytes_the_last_of_a_name_and_kind_is_wanted(
             (0x03, AttrValue::Text(name)),
             (0x59, AttrValue::Signed(8)),
         ];
-        assert_eq!(rt; found.as_slice(), told.as_slice());
+        checks.same(found.as_slice(), told.as_slice());
     }
-    Ok(())
+    checks.result()
 }
 
 // languages of a unit: an implicit constant of 12, a byte, and an implicit constant of 4
@@ -102,30 +113,47 @@ const LANGUAGES: &[u8] = b"\x01\x11\0\x13\x21\x0c\x13\x0b\x13\x21\x04\0\0\0";
 fn of_languages_without_bytes_the_first_is_told_by_the_abbreviation(
     rt: HostRuntime,
 ) -> Result<(), Fail> {
+    let mut checks = Checks::new();
     let moves = RelocationMap::new(rt.alloc());
-    let abbreviations = Abbreviations::parse(rt.alloc(), LANGUAGES, 0)?;
-    let mut entries = entries_at(b"\x01\x09", &moves, &abbreviations, 0)?;
-    entries.next_entry()?.ok_or("an entry")?;
-    assert_eq!(rt; entries.bare_language(), Some(AttrValue::Signed(12)));
-    let found = wanted(rt.alloc(), &mut entries)?;
-    assert_eq!(rt; found.as_slice(), [(0x13, AttrValue::Const(9))].as_slice());
-    assert!(rt; entries.bare_language().is_none());
-    Ok(())
+    let abbreviations = Abbreviations::parse(rt.alloc(), LANGUAGES, 0).expect(&rt, "refused");
+    let mut entries = entries_at(b"\x01\x09", &moves, &abbreviations, 0).expect(&rt, "refused");
+    entries
+        .next_entry()
+        .expect(&rt, "refused")
+        .expect(&rt, "an entry");
+    checks.same(entries.bare_language(), Some(AttrValue::Signed(12)));
+    let found = wanted(rt.alloc(), &mut entries).expect(&rt, "refused");
+    checks.same(found.as_slice(), [(0x13, AttrValue::Const(9))].as_slice());
+    checks.holds(entries.bare_language().is_none());
+    checks.result()
 }
 
 #[test]
 fn an_entry_of_which_some_was_read_is_passed_over(rt: HostRuntime) -> Result<(), Fail> {
+    let mut checks = Checks::new();
     let moves = RelocationMap::new(rt.alloc());
-    let abbreviations = Abbreviations::parse(rt.alloc(), TABLE, 0)?;
-    let mut entries = entries_at(INFO, &moves, &abbreviations, 0)?;
-    entries.next_entry()?.ok_or("an entry")?;
-    entries.next_wanted()?.ok_or("a name")?;
-    entries.next_wanted()?.ok_or("an address")?;
-    let spec = *entries.pending().first().ok_or("an attribute")?;
-    assert_eq!(rt; spec.name, 0x12);
-    let second = entries.next_entry()?.ok_or("a second entry")?;
-    assert_eq!(rt; second.place, 22);
-    Ok(())
+    let abbreviations = Abbreviations::parse(rt.alloc(), TABLE, 0).expect(&rt, "refused");
+    let mut entries = entries_at(INFO, &moves, &abbreviations, 0).expect(&rt, "refused");
+    entries
+        .next_entry()
+        .expect(&rt, "refused")
+        .expect(&rt, "an entry");
+    entries
+        .next_wanted()
+        .expect(&rt, "refused")
+        .expect(&rt, "a name");
+    entries
+        .next_wanted()
+        .expect(&rt, "refused")
+        .expect(&rt, "an address");
+    let spec = *entries.pending().first().expect(&rt, "an attribute");
+    checks.same(spec.name, 0x12);
+    let second = entries
+        .next_entry()
+        .expect(&rt, "refused")
+        .expect(&rt, "a second entry");
+    checks.same(second.place, 22);
+    checks.result()
 }
 
 // subprograms: one with a name alone, one with an address, and one with a reference
@@ -137,13 +165,19 @@ const FUNCTIONS: &[u8] = b"\x01a\0\x01b\0\x03\0\0\0\0\x01c\0\x02d\0\0\x10\0\0\0\
 
 #[test]
 fn functions_without_addresses_and_references_are_passed_over(rt: HostRuntime) -> Result<(), Fail> {
+    let mut checks = Checks::new();
     let moves = RelocationMap::new(rt.alloc());
-    let abbreviations = Abbreviations::parse(rt.alloc(), KINDS, 0)?;
+    let abbreviations = Abbreviations::parse(rt.alloc(), KINDS, 0).expect(&rt, "refused");
     for (from, place) in [(0, 6), (11, 14)] {
-        let mut entries = entries_at(FUNCTIONS, &moves, &abbreviations, from)?;
+        let mut entries = entries_at(FUNCTIONS, &moves, &abbreviations, from).expect(
+            &rt, "refused",
+        );
         entries.pass_over(Passing::Unplaced, 0x2e);
-        let entry = entries.next_entry()?.ok_or("a function")?;
-        assert_eq!(rt; entry.place, place);
+        let entry = entries
+            .next_entry()
+            .expect(&rt, "refused")
+            .expect(&rt, "a function");
+        checks.same(entry.place, place);
     }
-    Ok(())
+    checks.result()
 }

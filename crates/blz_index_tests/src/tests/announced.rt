@@ -1,11 +1,12 @@
 //! The units of a file, and the addresses that they announce.
-ghost use Rattle.std.specs.Prelude.{◌<◌};
-ghost use Rattle.blz_units.specs.BuiltUnits.{IsReadable};
 
-use super::small::{file_of, refusal};
+use super::questions::{count_of_units, functions_at};
+use super::small::{Parts, file_of, kind, refusal};
 use blz_bytes::AsTheyStand;
-use blz_error::ErrorKind;
-use blz_index::{Dwarf, Units};
+use blz_checks::Checks;
+use blz_elf::SrcLang;
+use blz_error::{ErrorKind, Result};
+use blz_index::Units;
 use blz_moves::RelocationMap;
 use std::alloc::Global;
 use std::test::Fail;
@@ -20,69 +21,78 @@ const ABBREV: &[u8] = b"\x01\x11\0\0\0\0";
 const ARANGES: &[u8] = b"\x1c\0\0\0\x02\0\0\0\0\0\x08\0\0\0\0\0\x10\0\0\0\0\0\0\0\x10\0\0\0\0\0\0\0\
       \x1c\0\0\0\x02\0\x0c\0\0\0\x08\0\0\0\0\0\x18\0\0\0\0\0\0\0\x18\0\0\0\0\0\0\0";
 
+const UNITS: Parts<'static> = Parts {
+    info: INFO,
+    abbrev: ABBREV,
+    aranges: ARANGES,
+};
+
 #[test]
-fn a_unit_of_a_set_is_built_when_an_address_reaches_it(rt: HostRuntime) -> Result<(), Fail> {
-    let alloc = rt.alloc();
-    let none = RelocationMap::new(alloc);
-    let dwarf = file_of(INFO, ABBREV, ARANGES, &none);
-    let orders = &mut AsTheyStand;
-    let mut units = Units::parse(alloc, orders, &dwarf)?;
-    assert_eq!(rt; units.len(), 2);
-    assert!(rt; matches!(units.find_function(alloc, orders, &dwarf, 0x10), Ok(None)));
-    assert!(rt; matches!(units.find_function(alloc, orders, &dwarf, 0x30), Ok(None)));
-    let reached = units.find_function(alloc, orders, &dwarf, 0x28);
-    assert!(rt; refusal(reached) == Some(ErrorKind::InvalidDwarf));
-    Ok(())
+fn a_unit_of_a_set_is_built_when_an_address_reaches_it(
+    rt: HostRuntime,
+) -> std::result::Result<(), Fail> {
+    let mut checks = Checks::new();
+    checks.gives(count_of_units(rt.alloc(), UNITS), 2);
+    checks.gives(
+        functions_at(rt.alloc(), UNITS, [0x10, 0x30, 0x28]),
+        [Ok(None), Ok(None), Err(ErrorKind::InvalidDwarf)],
+    );
+    checks.result()
 }
 
-// why one of two units does not tell its language, where it does not
-fn refused_language(
-    alloc: Global,
-    dwarf: &Dwarf<'_, '_>,
-    unit: usize,
-) -> Result<Option<ErrorKind>, Fail>
-    requires readable { IsReadable dwarf.now }
-    requires two { unit < 2 }
-{
-    let mut units = Units::parse(alloc, &mut AsTheyStand, dwarf)?;
-    if units.len() != 2 {
-        return Err(Fail::from("not two units"));
+// the language of a unit, or why it is refused; None where there is no such unit
+fn language(alloc: Global, unit: usize) -> Result<Option<std::result::Result<SrcLang, ErrorKind>>> {
+    let none = RelocationMap::new(alloc);
+    let dwarf = file_of(UNITS, &none);
+    let mut units = Units::parse(alloc, &mut AsTheyStand, &dwarf)?;
+    if unit < units.len() {
+        Ok(Some(kind(units.language(alloc, &dwarf, unit))))
+    } else {
+        Ok(None)
     }
-    Ok(refusal(units.language(alloc, dwarf, unit)))
 }
 
 #[test]
-fn a_unit_without_its_abbreviations_cannot_be_built(rt: HostRuntime) -> Result<(), Fail> {
-    let alloc = rt.alloc();
-    let none = RelocationMap::new(alloc);
-    let dwarf = file_of(INFO, ABBREV, ARANGES, &none);
-    assert!(rt; refused_language(alloc, &dwarf, 0)?.is_none());
-    assert!(rt; refused_language(alloc, &dwarf, 1)? == Some(ErrorKind::InvalidDwarf));
-    Ok(())
+fn a_unit_without_its_abbreviations_cannot_be_built(
+    rt: HostRuntime,
+) -> std::result::Result<(), Fail> {
+    let mut checks = Checks::new();
+    let built = language(rt.alloc(), 0).expect(&rt, "refused");
+    checks.holds(matches!(built, Some(Ok(_))));
+    let other = language(rt.alloc(), 1).expect(&rt, "refused");
+    checks.holds(matches!(other, Some(Err(ErrorKind::InvalidDwarf))));
+    checks.result()
 }
 
 #[test]
-fn a_unit_that_cannot_be_built_is_not_kept(rt: HostRuntime) -> Result<(), Fail> {
-    let alloc = rt.alloc();
-    let none = RelocationMap::new(alloc);
-    let dwarf = file_of(INFO, ABBREV, &[], &none);
-    assert_eq!(rt; Units::parse(alloc, &mut AsTheyStand, &dwarf)?.len(), 1);
-    Ok(())
+fn a_unit_that_cannot_be_built_is_not_kept(rt: HostRuntime) -> std::result::Result<(), Fail> {
+    let mut checks = Checks::new();
+    let unannounced = Parts {
+        aranges: &[],
+        ..UNITS
+    };
+    checks.gives(count_of_units(rt.alloc(), unannounced), 1);
+    checks.result()
 }
 
-#[test]
-fn an_offset_leads_into_the_unit_around_it(rt: HostRuntime) -> Result<(), Fail> {
-    let alloc = rt.alloc();
+// the unit around an offset, and the offset's distance from its start
+fn unit_around(alloc: Global, offset: u64) -> Result<(usize, usize)> {
     let none = RelocationMap::new(alloc);
-    let dwarf = file_of(INFO, ABBREV, ARANGES, &none);
+    let dwarf = file_of(UNITS, &none);
     let units = Units::parse(alloc, &mut AsTheyStand, &dwarf)?;
+    units.find_unit(offset)
+}
+
+#[test]
+fn an_offset_leads_into_the_unit_around_it(rt: HostRuntime) -> std::result::Result<(), Fail> {
+    let mut checks = Checks::new();
     // the entries of the units stand at 11 and at 23
-    for (offset, number, distance) in [(11, 0, 11), (23, 1, 11)] {
-        assert!(rt; units.find_unit(offset)? == (number, distance));
-    }
+    checks.gives(unit_around(rt.alloc(), 11), (0, 11));
+    checks.gives(unit_around(rt.alloc(), 23), (1, 11));
     // the start of a unit, and the end of the last
     for offset in [12, 24] {
-        assert!(rt; refusal(units.find_unit(offset)) == Some(ErrorKind::InvalidDwarf));
+        let outside = refusal(unit_around(rt.alloc(), offset));
+        checks.same((offset, outside), (offset, Some(ErrorKind::InvalidDwarf)));
     }
-    Ok(())
+    checks.result()
 }

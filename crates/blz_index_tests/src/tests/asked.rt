@@ -1,10 +1,13 @@
 //! Units that are asked, each part of which is read when it is first needed.
 
-use super::small::{file_of, refusal};
+use super::questions::{Found, count_of_units};
+use super::small::{Parts, file_of, kind};
 use blz_bytes::AsTheyStand;
-use blz_error::ErrorKind;
+use blz_checks::Checks;
+use blz_error::{ErrorKind, Result};
 use blz_index::Units;
 use blz_moves::RelocationMap;
+use std::alloc::Global;
 use std::test::Fail;
 
 // a unit with children; a function with addresses and an origin; one with an origin alone; one with a name
@@ -41,34 +44,61 @@ const BOTH: &[u8] =
       \0,\0\0\0\x02\0\x0d\0\0\0\x08\0\0\0\0\0\x20\0\0\0\0\0\0\0\x10\0\0\0\0\0\0\0\0\0\0\0\0\0\0\0\0\0\0\0\0\
       \0\0\0";
 
-#[test]
-fn a_name_is_looked_for_over_sixteen_entries(rt: HostRuntime) -> Result<(), Fail> {
-    let alloc = rt.alloc();
+// whether the function at 0x12 has a name; None where there is no function
+fn has_a_name(alloc: Global, info: &[u8]) -> Result<Option<bool>> {
     let none = RelocationMap::new(alloc);
-    for (info, named) in [(SIXTEEN, true), (SEVENTEEN, false), (CYCLE, false)] {
-        let dwarf = file_of(info, ABBREV, ARANGES, &none);
-        let orders = &mut AsTheyStand;
-        let mut units = Units::parse(alloc, orders, &dwarf)?;
-        let found = units.find_function(alloc, orders, &dwarf, 0x12)?;
-        let (unit, number) = found.ok_or("a function")?;
-        let function = units.function(unit, number).ok_or("what it is")?;
-        assert!(rt; function.name.is_some() == named);
+    let parts = Parts {
+        info,
+        abbrev: ABBREV,
+        aranges: ARANGES,
+    };
+    let dwarf = file_of(parts, &none);
+    let orders = &mut AsTheyStand;
+    let mut units = Units::parse(alloc, orders, &dwarf)?;
+    let Some((unit, number)) = units.find_function(alloc, orders, &dwarf, 0x12)? else {
+        return Ok(None);
+    };
+    match units.function(unit, number) {
+        Some(function) => Ok(Some(function.name.is_some())),
+        None => Ok(None),
     }
-    Ok(())
 }
 
 #[test]
-fn a_unit_is_read_when_an_address_reaches_it(rt: HostRuntime) -> Result<(), Fail> {
-    let alloc = rt.alloc();
+fn a_name_is_looked_for_over_sixteen_entries(rt: HostRuntime) -> std::result::Result<(), Fail> {
+    let mut checks = Checks::new();
+    checks.gives(has_a_name(rt.alloc(), SIXTEEN), Some(true));
+    checks.gives(has_a_name(rt.alloc(), SEVENTEEN), Some(false));
+    checks.gives(has_a_name(rt.alloc(), CYCLE), Some(false));
+    checks.result()
+}
+
+// two units, the second of which is broken
+const TWO: Parts<'static> = Parts {
+    info: BROKEN,
+    abbrev: ABBREV,
+    aranges: BOTH,
+};
+
+// the functions at 0x12 and at 0x22, and whether the units are prepared after
+fn asked_and_prepared(alloc: Global) -> Result<([Found; 2], bool)> {
     let none = RelocationMap::new(alloc);
-    let dwarf = file_of(BROKEN, ABBREV, BOTH, &none);
+    let dwarf = file_of(TWO, &none);
     let orders = &mut AsTheyStand;
     let mut units = Units::parse(alloc, orders, &dwarf)?;
-    assert!(rt; units.len() == 2);
-    assert!(rt; matches!(units.find_function(alloc, orders, &dwarf, 0x12), Ok(None)));
-    let broken = units.find_function(alloc, orders, &dwarf, 0x22);
-    assert!(rt; refusal(broken) == Some(ErrorKind::InvalidDwarf));
+    let sound = kind(units.find_function(alloc, orders, &dwarf, 0x12));
+    let broken = kind(units.find_function(alloc, orders, &dwarf, 0x22));
     units.prepare(alloc, orders, &dwarf)?;
-    assert!(rt; units.is_prepared());
-    Ok(())
+    Ok(([sound, broken], units.is_prepared()))
+}
+
+#[test]
+fn a_unit_is_read_when_an_address_reaches_it(rt: HostRuntime) -> std::result::Result<(), Fail> {
+    let mut checks = Checks::new();
+    checks.gives(count_of_units(rt.alloc(), TWO), 2);
+    checks.gives(
+        asked_and_prepared(rt.alloc()),
+        ([Ok(None), Err(ErrorKind::InvalidDwarf)], true),
+    );
+    checks.result()
 }

@@ -1,9 +1,10 @@
 //! Functions of several units by a name, and all of them one after the other.
 ghost use Rattle.std.specs.Prelude.{None};
 
-use super::small::{file_of, refusal};
+use super::small::{Parts, file_of, refusal};
 use blz_bytes::AsTheyStand;
-use blz_error::ErrorKind;
+use blz_checks::Checks;
+use blz_error::{ErrorKind, Result};
 use blz_index::{Function, Units, VisitFunction};
 use blz_moves::{Flow, RelocationMap};
 use std::alloc::Global;
@@ -22,18 +23,27 @@ const THREE: &[u8] = b"\x36\0\0\0\x04\0\0\0\0\0\x08\x01\
 const BROKEN: &[u8] = b"\x18\0\0\0\x04\0\0\0\0\0\x08\x01\x02m\0\x40\0\0\0\0\0\0\0\x10\0\0\0\0\
       \x0a\0\0\0\x04\0\0\0\0\0\x08\x01\x09\0";
 
-#[test]
-fn each_unit_gives_its_first_function_of_a_name(rt: HostRuntime) -> Result<(), Fail> {
-    let alloc = rt.alloc();
+// the units of the functions of a name, and their numbers there
+fn named(alloc: Global, name: &str) -> Result<Vec<(usize, usize)>> {
     let none = RelocationMap::new(alloc);
-    let dwarf = file_of(THREE, ABBREV, &[], &none);
-    let orders = &mut AsTheyStand;
-    let mut units = Units::parse(alloc, orders, &dwarf)?;
-    let found = units.find_name(alloc, orders, &dwarf, "n")?;
-    assert!(rt; found.len() == 2 && found[0] == (0, 1) && found[1] == (2, 0));
-    let found = units.find_name(alloc, orders, &dwarf, "")?;
-    assert!(rt; found.is_empty());
-    Ok(())
+    let parts = Parts {
+        info: THREE,
+        abbrev: ABBREV,
+        aranges: &[],
+    };
+    let dwarf = file_of(parts, &none);
+    let mut units = Units::parse(alloc, &mut AsTheyStand, &dwarf)?;
+    units.find_name(alloc, &mut AsTheyStand, &dwarf, name)
+}
+
+#[test]
+fn each_unit_gives_its_first_function_of_a_name(rt: HostRuntime) -> std::result::Result<(), Fail> {
+    let mut checks = Checks::new();
+    let found = named(rt.alloc(), "n").expect(&rt, "refused");
+    checks.same(found.as_slice(), [(0, 1), (2, 0)].as_slice());
+    let found = named(rt.alloc(), "").expect(&rt, "refused");
+    checks.same(found.len(), 0);
+    checks.result()
 }
 
 /// Counts what it is shown, and breaks at a number.
@@ -61,14 +71,19 @@ impl VisitFunction for Count {
     }
 }
 
-// the count of the functions of a file that are shown, and why no further one was
+// how many functions of a file are shown and the unit of the last, and why no further one is
 fn counted(
     alloc: Global,
     info: &'static [u8],
     end: usize,
-) -> Result<(Count, Option<ErrorKind>), Fail> {
+) -> Result<(usize, usize, Option<ErrorKind>)> {
     let none = RelocationMap::new(alloc);
-    let dwarf = file_of(info, ABBREV, &[], &none);
+    let parts = Parts {
+        info,
+        abbrev: ABBREV,
+        aranges: &[],
+    };
+    let dwarf = file_of(parts, &none);
     let orders = &mut AsTheyStand;
     let mut units = Units::parse(alloc, orders, &dwarf)?;
     let mut count = Count {
@@ -78,17 +93,17 @@ fn counted(
         stopped: false,
     };
     let fault = refusal(units.for_each_function(alloc, orders, &dwarf, &mut count));
-    Ok((count, fault))
+    Ok((count.shown, count.unit, fault))
 }
 
 #[test]
-fn all_functions_are_shown_until_a_break_or_a_mark(rt: HostRuntime) -> Result<(), Fail> {
-    let alloc = rt.alloc();
-    let (all, fault) = counted(alloc, THREE, 9)?;
-    assert!(rt; fault.is_none() && all.shown == 5 && all.unit == 2);
-    let (some, fault) = counted(alloc, THREE, 4)?;
-    assert!(rt; fault.is_none() && some.shown == 4 && some.unit == 1);
-    let (whole, fault) = counted(alloc, BROKEN, 9)?;
-    assert!(rt; fault == Some(ErrorKind::InvalidDwarf) && whole.shown == 1);
-    Ok(())
+fn all_functions_are_shown_until_a_break_or_a_mark(
+    rt: HostRuntime,
+) -> std::result::Result<(), Fail> {
+    let mut checks = Checks::new();
+    checks.gives(counted(rt.alloc(), THREE, 9), (5, 2, None));
+    checks.gives(counted(rt.alloc(), THREE, 4), (4, 1, None));
+    let broken = Some(ErrorKind::InvalidDwarf);
+    checks.gives(counted(rt.alloc(), BROKEN, 9), (1, 0, broken));
+    checks.result()
 }

@@ -3,8 +3,9 @@ ghost use Rattle.std.specs.Prelude.{◌≡◌};
 ghost use Rattle.std.specs.FinMap as map;
 ghost use Rattle.blz_units.specs.BuiltUnits.{IsReadable};
 
-use super::small::{file_of, only_unit};
+use super::small::{Parts, file_of, only_unit};
 use blz_bytes::ByStdSort;
+use blz_checks::Checks;
 use blz_entry::{Section, Sections};
 use blz_images::codes::*;
 use blz_images::{Attribute, ByteOrder, DebugInfo};
@@ -83,19 +84,31 @@ fn outermost<'b>(sites: &InlinedSites<'b>) -> &'b str {
     }
 }
 
-#[test]
-fn a_call_of_a_list_is_found_in_each_function(rt: HostRuntime) -> Result<(), Fail> {
-    let alloc = rt.alloc();
+// how many calls an address has below each of the two functions, and whether the outermost is the one that is meant
+fn calls_of_both(alloc: Global, addr: u64) -> blz_error::Result<[(usize, bool); 2]> {
     let entries = functions_of_one_list(alloc)?;
     let abbreviations = entries.abbreviations()?;
     let none = RelocationMap::new(alloc);
-    let dwarf = with_list(file_of(entries.info(), &abbreviations, &[], &none), &none);
+    let parts = Parts {
+        info: entries.info(),
+        abbrev: &abbreviations,
+        aranges: &[],
+    };
+    let dwarf = with_list(file_of(parts, &none), &none);
     let orders = &mut ByStdSort;
     let mut units = only_unit(alloc, orders, &dwarf)?;
-    // the first function has the ranges of the list for itself, and the second has those of the unit
-    let own = units.find_inlined_functions(alloc, orders, &dwarf, 5, 0, 0)?;
-    assert!(rt; own.len() == 1 && outermost(&own) == "a");
-    let kept = units.find_inlined_functions(alloc, orders, &dwarf, 5, 0, 1)?;
-    assert!(rt; kept.len() == 2 && outermost(&kept) == "b");
-    Ok(())
+    let own = units.find_inlined_functions(alloc, orders, &dwarf, addr, 0, 0)?;
+    let kept = units.find_inlined_functions(alloc, orders, &dwarf, addr, 0, 1)?;
+    Ok([
+        (own.len(), outermost(&own) == "a"),
+        (kept.len(), outermost(&kept) == "b"),
+    ])
+}
+
+// the first function has the ranges of the list for itself, and the second has those of the unit
+#[test]
+fn a_call_of_a_list_is_found_in_each_function(rt: HostRuntime) -> Result<(), Fail> {
+    let mut checks = Checks::new();
+    checks.gives(calls_of_both(rt.alloc(), 5), [(1, true), (2, true)]);
+    checks.result()
 }

@@ -1,5 +1,6 @@
 //! The unit of an id in an index of two rows.
 
+use blz_checks::Checks;
 use blz_elf::ElfParser;
 use blz_images::Image;
 use blz_split::{Package, Piece};
@@ -15,15 +16,24 @@ const INDEX: [u8; 72] = [
 
 #[test]
 fn the_slot_with_a_row_decides(rt: HostRuntime) -> Result<(), Fail> {
+    let mut checks = Checks::new();
     let alloc = rt.alloc();
     let image = Image::elf64(alloc)
-        .section(".debug_cu_index", 1, &INDEX)?
-        .section(".debug_info.dwo", 1, &[0; 8])?
-        .bytes()?;
-    let package = Package::load(&mut ElfParser::from_mem(alloc, &image, None))?;
-    let unit = package.find_cu(7)?.ok_or("no unit")?;
-    assert!(rt; unit.info == Piece { start: 4, len: 3 });
-    assert!(rt; unit.abbrev == Piece { start: 0, len: 0 });
-    assert!(rt; package.find_cu(8)?.is_none());
-    Ok(())
+        .section(".debug_cu_index", 1, &INDEX)
+        .expect(&rt, "refused")
+        .section(".debug_info.dwo", 1, &[0; 8])
+        .expect(&rt, "refused")
+        .bytes()
+        .expect(&rt, "refused");
+    let package = Package::load(&mut ElfParser::from_mem(alloc, &image, None)).expect(
+        &rt, "refused",
+    );
+    let unit = package
+        .find_cu(7)
+        .expect(&rt, "refused")
+        .expect(&rt, "no unit");
+    checks.same(unit.info, Piece { start: 4, len: 3 });
+    checks.same(unit.abbrev, Piece { start: 0, len: 0 });
+    checks.holds(package.find_cu(8).expect(&rt, "refused").is_none());
+    checks.result()
 }

@@ -1,8 +1,11 @@
 //! Ranges in orders that are accepted and that are not, and the chain of inlined calls.
 ghost use Rattle.std.specs.Prelude.{◌≡◌, ◌<◌};
 
-use super::small::{file_of, only_unit};
+use super::questions::chain_at;
+use super::small::{Parts, file_of};
 use blz_bytes::{AsTheyStand, ByStdSort, Orders, Steps};
+use blz_checks::Checks;
+use blz_error::Result;
 use blz_images::codes::*;
 use blz_images::{Attribute, ByteOrder, DebugInfo};
 use blz_index::{Functions, Units};
@@ -13,7 +16,7 @@ use std::sync::ledger::{Blank, Ledger};
 use std::test::Fail;
 
 // a unit of functions of eight bytes that begin at some addresses
-fn functions_at(alloc: Global, begins: &[u64]) -> Result<DebugInfo, AllocError> {
+fn functions_at(alloc: Global, begins: &[u64]) -> std::result::Result<DebugInfo, AllocError> {
     let mut entries = DebugInfo::new(alloc, ByteOrder::Little, 4);
     entries.open_unit(0, 0x50)?;
     for begin in begins {
@@ -40,42 +43,58 @@ fn asked<O: Orders>(
     alloc: Global,
     orders: &mut O,
     begins: &[u64],
-) -> Result<Option<(bool, [Option<usize>; 2])>, AllocError> {
+) -> Result<Option<(bool, [Option<usize>; 2])>> {
     let entries = functions_at(alloc, begins)?;
     let abbreviations = entries.abbreviations()?;
-    let none = RelocationMap::new(alloc);
-    let dwarf = file_of(entries.info(), &abbreviations, &[], &none);
-    let Ok(mut units) = Units::parse(alloc, orders, &dwarf) else {
-        return Ok(None);
+    let parts = Parts {
+        info: entries.info(),
+        abbrev: &abbreviations,
+        aranges: &[],
     };
+    accepted(alloc, orders, parts)
+}
+
+// the same of the first unit of a file; None where it has not one unit
+fn accepted<O: Orders>(
+    alloc: Global,
+    orders: &mut O,
+    parts: Parts<'_>,
+) -> Result<Option<(bool, [Option<usize>; 2])>> {
+    let none = RelocationMap::new(alloc);
+    let dwarf = file_of(parts, &none);
+    let mut units = Units::parse(alloc, orders, &dwarf)?;
     if units.len() != 1 {
         return Ok(None);
     }
-    match units.parse_functions(alloc, orders, &dwarf, 0) {
-        Ok(functions) => {
-            let found = found::<Brand>(functions, Blank::new(1));
-            Ok(Some((functions.is_ordered(), found)))
-        }
-        Err(_) => Ok(None),
-    }
+    let functions = units.parse_functions(alloc, orders, &dwarf, 0)?;
+    let found = found::<Brand>(functions, Blank::new(1));
+    Ok(Some((functions.is_ordered(), found)))
 }
 
 #[test]
-fn a_list_in_order_is_accepted_as_it_stands(rt: HostRuntime) -> Result<(), Fail> {
+fn a_list_in_order_is_accepted_as_it_stands(rt: HostRuntime) -> std::result::Result<(), Fail> {
+    let mut checks = Checks::new();
     let rising = [0, 16, 32, 48, 64];
-    let answer = asked(rt.alloc(), &mut AsTheyStand, &rising)?;
-    assert!(rt; answer == Some((true, [Some(2), None])));
-    Ok(())
+    checks.gives(
+        asked(rt.alloc(), &mut AsTheyStand, &rising),
+        Some((true, [Some(2), None])),
+    );
+    checks.result()
 }
 
 #[test]
-fn a_list_out_of_order_is_scanned_or_sorted(rt: HostRuntime) -> Result<(), Fail> {
+fn a_list_out_of_order_is_scanned_or_sorted(rt: HostRuntime) -> std::result::Result<(), Fail> {
+    let mut checks = Checks::new();
     let falling = [64, 48, 32, 16, 0];
-    let scanned = asked(rt.alloc(), &mut AsTheyStand, &falling)?;
-    assert!(rt; scanned == Some((false, [Some(2), None])));
-    let sorted = asked(rt.alloc(), &mut ByStdSort, &falling)?;
-    assert!(rt; sorted == Some((true, [Some(2), None])));
-    Ok(())
+    checks.gives(
+        asked(rt.alloc(), &mut AsTheyStand, &falling),
+        Some((false, [Some(2), None])),
+    );
+    checks.gives(
+        asked(rt.alloc(), &mut ByStdSort, &falling),
+        Some((true, [Some(2), None])),
+    );
+    checks.result()
 }
 
 // the address and the size of a function or call
@@ -87,7 +106,7 @@ fn bounds(low: u64, size: u32) -> [Attribute<'static>; 2] {
 }
 
 // a function with the call [0, 10), in which are the calls [0, 2) and [6, 8)
-fn nested_calls(alloc: Global) -> Result<DebugInfo, AllocError> {
+fn nested_calls(alloc: Global) -> std::result::Result<DebugInfo, AllocError> {
     let mut entries = DebugInfo::new(alloc, ByteOrder::Little, 4);
     entries.open_unit(0, 10)?;
     entries.open(DW_TAG_SUBPROGRAM, &bounds(0, 10))?;
@@ -100,19 +119,24 @@ fn nested_calls(alloc: Global) -> Result<DebugInfo, AllocError> {
     Ok(entries)
 }
 
-#[test]
-fn a_chain_goes_down_by_depth(rt: HostRuntime) -> Result<(), Fail> {
-    let alloc = rt.alloc();
+// the numbers of the calls at an address, the outermost first
+fn nested_at(alloc: Global, addr: u64) -> Result<Vec<usize>> {
     let entries = nested_calls(alloc)?;
     let abbreviations = entries.abbreviations()?;
-    let none = RelocationMap::new(alloc);
-    let dwarf = file_of(entries.info(), &abbreviations, &[], &none);
-    let orders = &mut ByStdSort;
-    let mut units = only_unit(alloc, orders, &dwarf)?;
-    let calls = units.parse_inlined_functions(alloc, orders, &dwarf, 0, 0)?;
-    let deep = calls.find_inlined_functions(alloc, 7)?;
-    assert!(rt; deep.as_slice() == [0, 2].as_slice());
-    let shallow = calls.find_inlined_functions(alloc, 3)?;
-    assert!(rt; shallow.as_slice() == [0].as_slice());
-    Ok(())
+    let parts = Parts {
+        info: entries.info(),
+        abbrev: &abbreviations,
+        aranges: &[],
+    };
+    chain_at(alloc, parts, addr)
+}
+
+#[test]
+fn a_chain_goes_down_by_depth(rt: HostRuntime) -> std::result::Result<(), Fail> {
+    let mut checks = Checks::new();
+    let deep = nested_at(rt.alloc(), 7).expect(&rt, "refused");
+    checks.same(deep.as_slice(), [0, 2].as_slice());
+    let shallow = nested_at(rt.alloc(), 3).expect(&rt, "refused");
+    checks.same(shallow.as_slice(), [0].as_slice());
+    checks.result()
 }

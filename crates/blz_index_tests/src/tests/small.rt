@@ -6,12 +6,11 @@ ghost use Rattle.blz_units.specs.BuiltUnits.{files_view, IsReadable};
 
 use blz_bytes::Orders;
 use blz_entry::{Section, Sections, Texts};
-use blz_error::{ErrorKind, Result};
+use blz_error::{Error, ErrorKind, Result, Str};
 use blz_index::{Dwarf, Units};
 use blz_model::ByteOrder;
 use blz_moves::RelocationMap;
 use std::alloc::Global;
-use std::test::Fail;
 
 fn section<'s, 'b>(bytes: &'b [u8], none: &'s RelocationMap) -> Section<'s, 'b> {
     Section {
@@ -21,21 +20,24 @@ fn section<'s, 'b>(bytes: &'b [u8], none: &'s RelocationMap) -> Section<'s, 'b> 
     }
 }
 
-/// A file of units with their abbreviations and sets of address ranges.
-pub fn file_of<'s, 'b>(
-    info: &'b [u8],
-    abbrev: &'b [u8],
-    aranges: &'b [u8],
-    none: &'s RelocationMap,
-) -> Dwarf<'s, 'b>
+/// The sections of a file of units: the units, their abbreviations and their sets of address ranges.
+#[derive(Clone, Copy)]
+pub struct Parts<'b> {
+    pub info: &'b [u8],
+    pub abbrev: &'b [u8],
+    pub aranges: &'b [u8],
+}
+
+/// A file of these sections.
+pub fn file_of<'s, 'b>(parts: Parts<'b>, none: &'s RelocationMap) -> Dwarf<'s, 'b>
     requires { none.now ≡ map.empty }
     ensures { IsReadable result }
 {
     let main = Sections {
-        abbrev: section(abbrev, none),
+        abbrev: section(parts.abbrev, none),
         addr: section(&[], none),
-        aranges: section(aranges, none),
-        info: section(info, none),
+        aranges: section(parts.aranges, none),
+        info: section(parts.info, none),
         line: section(&[], none),
         line_str: section(&[], none),
         ranges: section(&[], none),
@@ -67,11 +69,7 @@ pub fn file_of<'s, 'b>(
 }
 
 /// The units of a file that has one.
-pub fn only_unit<O: Orders>(
-    alloc: Global,
-    orders: &mut O,
-    dwarf: &Dwarf<'_, '_>,
-) -> std::result::Result<Units, Fail>
+pub fn only_unit<O: Orders>(alloc: Global, orders: &mut O, dwarf: &Dwarf<'_, '_>) -> Result<Units>
     requires { IsReadable dwarf.now }
     ensures fits { IfOk result (UnitsFit (files_view dwarf.now)) }
     ensures one { IfOk result (λ u. length (units_table u).kept ≡ 1) }
@@ -79,7 +77,15 @@ pub fn only_unit<O: Orders>(
     let units = Units::parse(alloc, orders, dwarf)?;
     match units.len() {
         1 => Ok(units),
-        _ => Err(Fail::from("not one unit")),
+        _ => Err(Error::new(ErrorKind::InvalidData, Str::fixed("not one unit"))),
+    }
+}
+
+/// A value, or the kind of a refusal.
+pub fn kind<T: Drop>(outcome: Result<T>) -> std::result::Result<T, ErrorKind> {
+    match outcome {
+        Ok(value) => Ok(value),
+        Err(error) => Err(error.kind()),
     }
 }
 

@@ -1,4 +1,5 @@
 //! Candidates for the file of a link.
+use blz_checks::Checks;
 use blz_links::DebugFileIter;
 use std::alloc::{AllocError, Global};
 use std::test::Fail;
@@ -24,8 +25,11 @@ fn dirs(alloc: Global, first: &str, second: &str) -> Result<Vec<String>, AllocEr
 
 #[test]
 fn the_linkers_directory_is_tried_below_the_debug_directory(rt: HostRuntime) -> Result<(), Fail> {
+    let mut checks = Checks::new();
     let alloc = rt.alloc();
-    let dirs = vec![in alloc; String::from_str(alloc, "/usr/lib/debug/")?]?;
+    let dirs = vec![in alloc;
+        String::from_str(alloc, "/usr/lib/debug/").expect(&rt, "refused"),
+    ].expect(&rt, "refused");
     let id = [0xbe, 0xef, 0xbe, 0xef];
     let candidates = DebugFileIter::new(
         alloc,
@@ -38,28 +42,36 @@ fn the_linkers_directory_is_tried_below_the_debug_directory(rt: HostRuntime) -> 
         /usr/lib64/libc.so.debug\n\
         /usr/lib/debug/usr/lib64/libc.so.debug\n\
         /usr/lib/debug/usr/libc.so.debug\n";
-    assert_eq!(rt; lines(alloc, candidates)?.as_str(), expected);
-    Ok(())
+    checks.same(
+        lines(alloc, candidates).expect(&rt, "refused").as_str(),
+        expected,
+    );
+    checks.result()
 }
 
 #[test]
 fn a_build_id_of_eight_bytes_is_looked_for_first(rt: HostRuntime) -> Result<(), Fail> {
+    let mut checks = Checks::new();
     let alloc = rt.alloc();
-    let dirs = dirs(alloc, "/opt/debug", "/srv/dbg/")?;
+    let dirs = dirs(alloc, "/opt/debug", "/srv/dbg/").expect(&rt, "refused");
     let id = [0xbe, 0xef, 0xbe, 0xef, 0xfe, 0xed, 0xba, 0xbe];
     let candidates = DebugFileIter::new(alloc, dirs.as_slice(), None, "libc.so.debug", Some(&id));
     let expected = "/opt/debug/.build-id/be/efbeeffeedbabe.debug\n\
         /srv/dbg/.build-id/be/efbeeffeedbabe.debug\n\
         /opt/debug/libc.so.debug\n\
         /srv/dbg/libc.so.debug\n";
-    assert_eq!(rt; lines(alloc, candidates)?.as_str(), expected);
-    Ok(())
+    checks.same(
+        lines(alloc, candidates).expect(&rt, "refused").as_str(),
+        expected,
+    );
+    checks.result()
 }
 
 #[test]
 fn the_linker_itself_is_left_out(rt: HostRuntime) -> Result<(), Fail> {
+    let mut checks = Checks::new();
     let alloc = rt.alloc();
     let candidates = DebugFileIter::new(alloc, &[], Some("/usr/lib64/libc.so"), "libc.so", None);
-    assert_eq!(rt; lines(alloc, candidates)?.as_str(), "");
-    Ok(())
+    checks.same(lines(alloc, candidates).expect(&rt, "refused").as_str(), "");
+    checks.result()
 }

@@ -1,5 +1,6 @@
 //! The bytes of `.gnu_debugaltlink`.
 use crate::tests::message;
+use blz_checks::Checks;
 use blz_links::parse_debug_altlink;
 use std::alloc::{AllocError, Global};
 use std::test::Fail;
@@ -17,13 +18,17 @@ fn answer(alloc: Global, bytes: &[u8]) -> Result<String, AllocError> {
 
 #[test]
 fn a_link_has_a_path_and_a_build_id(rt: HostRuntime) -> Result<(), Fail> {
-    let text = answer(rt.alloc(), b"/usr/lib/debug/common.debug\0\x01\x02\x03")?;
-    assert_eq!(rt; text.as_str(), "/usr/lib/debug/common.debug 3");
-    Ok(())
+    let mut checks = Checks::new();
+    let text = answer(rt.alloc(), b"/usr/lib/debug/common.debug\0\x01\x02\x03").expect(
+        &rt, "refused",
+    );
+    checks.same(text.as_str(), "/usr/lib/debug/common.debug 3");
+    checks.result()
 }
 
 #[test]
 fn the_first_check_that_fails_is_told(rt: HostRuntime) -> Result<(), Fail> {
+    let mut checks = Checks::new();
     let answers: [(&[u8], &str); 4] = [
         // a path without its zero, an empty one, and one that is not text
         (b"/usr", "invalid data: failed to read debug altlink path"),
@@ -36,7 +41,10 @@ fn the_first_check_that_fails_is_told(rt: HostRuntime) -> Result<(), Fail> {
         ),
     ];
     for (bytes, text) in answers {
-        assert_eq!(rt; answer(rt.alloc(), bytes)?.as_str(), text);
+        checks.same(
+            answer(rt.alloc(), bytes).expect(&rt, "refused").as_str(),
+            text,
+        );
     }
-    Ok(())
+    checks.result()
 }

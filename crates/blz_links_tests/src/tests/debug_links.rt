@@ -1,6 +1,7 @@
 //! The bytes of `.gnu_debuglink`.
 use crate::tests::message;
 use blz_bytes::ByteOrder;
+use blz_checks::Checks;
 use blz_links::parse_debug_link;
 use std::alloc::{AllocError, Global};
 use std::test::Fail;
@@ -23,21 +24,27 @@ fn checksum(bytes: &[u8], order: ByteOrder) -> u32 {
 
 #[test]
 fn a_link_has_a_name_and_a_checksum(rt: HostRuntime) -> Result<(), Fail> {
+    let mut checks = Checks::new();
     let bytes = b"program.debug\0\0\0\x69\xc4\xd4\xa6";
-    assert_eq!(rt; answer(rt.alloc(), bytes)?.as_str(), "program.debug");
-    assert_eq!(rt; checksum(bytes, ByteOrder::Little), 0xa6d4_c469);
-    Ok(())
+    checks.same(
+        answer(rt.alloc(), bytes).expect(&rt, "refused").as_str(),
+        "program.debug",
+    );
+    checks.same(checksum(bytes, ByteOrder::Little), 0xa6d4_c469);
+    checks.result()
 }
 
 #[test]
-fn the_checksum_is_read_in_the_order_of_the_image(rt: HostRuntime) -> Result<(), Fail> {
+fn the_checksum_is_read_in_the_order_of_the_image() -> Result<(), Fail> {
+    let mut checks = Checks::new();
     let bytes = b"program.debug\0\0\0\x69\xc4\xd4\xa6";
-    assert_eq!(rt; checksum(bytes, ByteOrder::Big), 0x69c4_d4a6);
-    Ok(())
+    checks.same(checksum(bytes, ByteOrder::Big), 0x69c4_d4a6);
+    checks.result()
 }
 
 #[test]
 fn the_first_check_that_fails_is_told(rt: HostRuntime) -> Result<(), Fail> {
+    let mut checks = Checks::new();
     let unended = "invalid data: failed to read debug link file name";
     let padding = "invalid data: debug link section contains insufficient data: checksum not found";
     let checksum = "invalid data: failed to read debug link checksum";
@@ -60,7 +67,10 @@ fn the_first_check_that_fails_is_told(rt: HostRuntime) -> Result<(), Fail> {
         (b"a\0\0\0\x01\x02\x03", checksum),
     ];
     for (bytes, text) in answers {
-        assert_eq!(rt; answer(rt.alloc(), bytes)?.as_str(), text);
+        checks.same(
+            answer(rt.alloc(), bytes).expect(&rt, "refused").as_str(),
+            text,
+        );
     }
-    Ok(())
+    checks.result()
 }

@@ -1,9 +1,9 @@
 //! The bytes of `.debug_sup`.
 use crate::tests::message;
 use blz_bytes::ByteOrder;
+use blz_checks::Checks;
 use blz_links::parse_debug_sup;
 use std::alloc::{AllocError, Global};
-use std::process::Abort;
 use std::test::Fail;
 
 // why the bytes are refused, or the version, the path and the number of bytes of the checksum
@@ -19,24 +19,31 @@ fn answer(alloc: Global, bytes: &[u8]) -> Result<String, AllocError> {
 }
 
 // each of some bytes has its answer
-fn assert_answers(rt: &impl Abort, alloc: Global, answers: &[(&[u8], &str)]) -> Result<(), Fail> {
+fn check_answers(
+    checks: &mut Checks,
+    alloc: Global,
+    answers: &[(&[u8], &str)],
+) -> Result<(), AllocError> {
     for (bytes, text) in answers {
-        assert_eq!(rt; answer(alloc, bytes)?.as_str(), *text);
+        checks.same(answer(alloc, bytes)?.as_str(), *text);
     }
     Ok(())
 }
 
 #[test]
 fn only_a_file_that_is_no_supplementary_one_has_a_path(rt: HostRuntime) -> Result<(), Fail> {
+    let mut checks = Checks::new();
     let answers: [(&[u8], &str); 2] = [
         (b"\x05\0\0sup.debug\0\x02\xab\xcd", "5 sup.debug 2"),
         (b"\x05\0\x01\0\x02\xab\xcd", "5 no path 2"),
     ];
-    assert_answers(&rt, rt.alloc(), &answers)
+    check_answers(&mut checks, rt.alloc(), &answers).expect(&rt, "refused");
+    checks.result()
 }
 
 #[test]
 fn each_cut_says_what_is_missing(rt: HostRuntime) -> Result<(), Fail> {
+    let mut checks = Checks::new();
     let size = "invalid data: failed to read .debug_sup sup_checksum_len";
     let sum = "invalid data: failed to read .debug_sup checksum";
     let answers: [(&[u8], &str); 6] = [
@@ -53,11 +60,13 @@ fn each_cut_says_what_is_missing(rt: HostRuntime) -> Result<(), Fail> {
         (b"\x05\0\0x\0\x80", size),
         (b"\x05\0\0x\0\x2001234567890123456789", sum),
     ];
-    assert_answers(&rt, rt.alloc(), &answers)
+    check_answers(&mut checks, rt.alloc(), &answers).expect(&rt, "refused");
+    checks.result()
 }
 
 #[test]
 fn a_path_has_to_go_with_the_flag(rt: HostRuntime) -> Result<(), Fail> {
+    let mut checks = Checks::new();
     let named = "invalid data: debug sup target is not empty in a supplementary file";
     let answers: [(&[u8], &str); 4] = [
         (
@@ -71,5 +80,6 @@ fn a_path_has_to_go_with_the_flag(rt: HostRuntime) -> Result<(), Fail> {
             "invalid data: link target is not text",
         ),
     ];
-    assert_answers(&rt, rt.alloc(), &answers)
+    check_answers(&mut checks, rt.alloc(), &answers).expect(&rt, "refused");
+    checks.result()
 }

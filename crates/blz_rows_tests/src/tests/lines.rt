@@ -1,6 +1,7 @@
 //! The next line that has code.
 use super::images::{of_lines, one_unit, two_rows};
 use blz_bytes::ByStdSort;
+use blz_checks::Checks;
 use blz_error::ErrorKind;
 use blz_images::ByteOrder;
 use blz_rows::next_line;
@@ -9,28 +10,30 @@ use std::test::Fail;
 
 #[test]
 fn the_next_line_is_the_least_that_is_not_below(rt: HostRuntime) -> Result<(), Fail> {
+    let mut checks = Checks::new();
     let alloc = rt.alloc();
-    let image = one_unit(alloc)?;
+    let image = one_unit(alloc).expect(&rt, "refused");
     let bundle = lone(&image);
-    assert_eq!(rt;
-        next_line(alloc, &mut ByStdSort, &bundle, b"a.c", 1)?,
-        Some(2)
+    checks.gives(
+        next_line(alloc, &mut ByStdSort, &bundle, b"a.c", 1),
+        Some(2),
     );
-    assert_eq!(rt;
-        next_line(alloc, &mut ByStdSort, &bundle, b"a.c", 2)?,
-        Some(2)
+    checks.gives(
+        next_line(alloc, &mut ByStdSort, &bundle, b"a.c", 2),
+        Some(2),
     );
-    assert_eq!(rt; next_line(alloc, &mut ByStdSort, &bundle, b"a.c", 3)?, None);
-    assert_eq!(rt; next_line(alloc, &mut ByStdSort, &bundle, b"b.c", 1)?, None);
-    Ok(())
+    checks.gives(next_line(alloc, &mut ByStdSort, &bundle, b"a.c", 3), None);
+    checks.gives(next_line(alloc, &mut ByStdSort, &bundle, b"b.c", 1), None);
+    checks.result()
 }
 
 #[test]
 fn a_row_whose_file_is_not_there_is_refused(rt: HostRuntime) -> Result<(), Fail> {
+    let mut checks = Checks::new();
     let alloc = rt.alloc();
-    let lines = two_rows(alloc, ByteOrder::Little, 4, &[4, 9])?;
-    let image = of_lines(alloc, ByteOrder::Little, 4, &lines)?;
+    let lines = two_rows(alloc, ByteOrder::Little, 4, &[4, 9]).expect(&rt, "refused");
+    let image = of_lines(alloc, ByteOrder::Little, 4, &lines).expect(&rt, "refused");
     let next = next_line(alloc, &mut ByStdSort, &lone(&image), b"a.c", 1);
-    assert_eq!(rt; refusal(next), Some(ErrorKind::InvalidDwarf));
-    Ok(())
+    checks.same(refusal(next), Some(ErrorKind::InvalidDwarf));
+    checks.result()
 }

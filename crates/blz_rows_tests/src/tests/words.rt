@@ -1,6 +1,7 @@
 //! The words of the program.
 use super::images::one_unit;
 use super::runs::{holding, run_to};
+use blz_checks::Checks;
 use blz_runs::roomy;
 use std::test::Fail;
 
@@ -8,8 +9,9 @@ const USAGE: &[u8] = b"usage: [--next] IMAGE FILE:LINE\n";
 
 #[test]
 fn a_place_has_a_name_and_a_line(rt: HostRuntime) -> Result<(), Fail> {
+    let mut checks = Checks::new();
     let alloc = rt.alloc();
-    let mut files = holding(alloc, one_unit(alloc)?)?;
+    let mut files = holding(alloc, one_unit(alloc).expect(&rt, "refused")).expect(&rt, "refused");
     for place in [
         "a.c",
         ":2",
@@ -19,22 +21,41 @@ fn a_place_has_a_name_and_a_line(rt: HostRuntime) -> Result<(), Fail> {
         "a.c:4294967296",
         "a.c:2 ",
     ] {
-        let ended = run_to(alloc, &mut files, &["a.elf", place], roomy(alloc)?)?;
-        assert!(rt; ended.is(2, b"", USAGE), "{place}");
+        let ended = run_to(
+            alloc,
+            &mut files,
+            &["a.elf", place],
+            roomy(alloc).expect(&rt, "refused"),
+        )
+        .expect(&rt, "refused");
+        checks.same((place, ended.is(2, b"", USAGE)), (place, true));
     }
     for place in ["a:c:2", "a.c:4294967295"] {
-        let ended = run_to(alloc, &mut files, &["a.elf", place], roomy(alloc)?)?;
-        assert!(rt; ended.is(0, b"", b""), "{place}");
+        let ended = run_to(
+            alloc,
+            &mut files,
+            &["a.elf", place],
+            roomy(alloc).expect(&rt, "refused"),
+        )
+        .expect(&rt, "refused");
+        checks.same((place, ended.is(0, b"", b"")), (place, true));
     }
-    Ok(())
+    checks.result()
 }
 
 #[test]
 fn three_words_begin_with_the_option_and_two_do_not(rt: HostRuntime) -> Result<(), Fail> {
+    let mut checks = Checks::new();
     let alloc = rt.alloc();
-    let mut files = holding(alloc, one_unit(alloc)?)?;
-    let missing = run_to(alloc, &mut files, &["--next", "a.c:2"], roomy(alloc)?)?;
-    assert!(rt; missing.is(1, b"", b"blz_rows: entity not found\n"));
+    let mut files = holding(alloc, one_unit(alloc).expect(&rt, "refused")).expect(&rt, "refused");
+    let missing = run_to(
+        alloc,
+        &mut files,
+        &["--next", "a.c:2"],
+        roomy(alloc).expect(&rt, "refused"),
+    )
+    .expect(&rt, "refused");
+    checks.holds(missing.is(1, b"", b"blz_rows: entity not found\n"));
     let others: [&[&str]; 4] = [
         &[],
         &["a.elf"],
@@ -42,7 +63,16 @@ fn three_words_begin_with_the_option_and_two_do_not(rt: HostRuntime) -> Result<(
         &["--next", "a.elf", "a.c:2", "a.c:2"],
     ];
     for words in others {
-        assert!(rt; run_to(alloc, &mut files, words, roomy(alloc)?)?.is(2, b"", USAGE));
+        checks.holds(
+            run_to(
+                alloc,
+                &mut files,
+                words,
+                roomy(alloc).expect(&rt, "refused"),
+            )
+            .expect(&rt, "refused")
+            .is(2, b"", USAGE),
+        );
     }
-    Ok(())
+    checks.result()
 }

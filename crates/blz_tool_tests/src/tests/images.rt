@@ -1,5 +1,6 @@
 //! Images of either class and order.
 use crate::tests::runs::{holding, written};
+use blz_checks::Checks;
 use blz_images::{ByteOrder, Image, realistic_walk, with_nested_functions};
 use std::test::Fail;
 
@@ -14,27 +15,34 @@ pub const TEXT: &str = "0000000000001150 main at /home/u/p/main.c:7:9
 
 #[test]
 fn an_executable_of_either_order_has_its_text(rt: HostRuntime) -> Result<(), Fail> {
+    let mut checks = Checks::new();
     let alloc = rt.alloc();
     for order in [ByteOrder::Little, ByteOrder::Big] {
-        let mut files = holding(alloc, "prog", realistic_walk(alloc, order)?)?;
-        let out = written(alloc, &mut files, &WORDS)?;
-        assert_eq!(rt; out.bytes(), TEXT.as_bytes());
+        let mut files = holding(
+            alloc,
+            "prog",
+            realistic_walk(alloc, order).expect(&rt, "refused"),
+        )
+        .expect(&rt, "refused");
+        let out = written(alloc, &mut files, &WORDS).expect(&rt, "refused");
+        checks.same(out.bytes(), TEXT.as_bytes());
     }
-    Ok(())
+    checks.result()
 }
 
 #[test]
 fn an_image_of_either_class_and_order_has_its_text(rt: HostRuntime) -> Result<(), Fail> {
+    let mut checks = Checks::new();
     let alloc = rt.alloc();
     let images = [
-        with_nested_functions(Image::elf32(alloc))?,
-        with_nested_functions(Image::elf64(alloc))?,
-        with_nested_functions(Image::elf64(alloc).big_endian())?,
+        with_nested_functions(Image::elf32(alloc)).expect(&rt, "refused"),
+        with_nested_functions(Image::elf64(alloc)).expect(&rt, "refused"),
+        with_nested_functions(Image::elf64(alloc).big_endian()).expect(&rt, "refused"),
     ];
     for image in images {
-        let mut files = holding(alloc, "a.elf", image)?;
-        let out = written(alloc, &mut files, &["a.elf", "f"])?;
-        assert_eq!(rt; out.bytes(), b"000000000000000f B\n".as_slice());
+        let mut files = holding(alloc, "a.elf", image).expect(&rt, "refused");
+        let out = written(alloc, &mut files, &["a.elf", "f"]).expect(&rt, "refused");
+        checks.same(out.bytes(), b"000000000000000f B\n".as_slice());
     }
-    Ok(())
+    checks.result()
 }

@@ -1,5 +1,6 @@
 //! What is asked beside the symbol, and where debug files are looked for.
 use crate::tests::runs::{holding, written};
+use blz_checks::Checks;
 use blz_images::{ByteOrder, Image, debug_link, realistic_walk, with_nested_functions};
 use blz_resolver::files::MemoryFiles;
 use std::alloc::{AllocError, Global};
@@ -11,26 +12,37 @@ fn walk(alloc: Global) -> Result<MemoryFiles, AllocError> {
 
 #[test]
 fn basic_prints_the_symbol_alone(rt: HostRuntime) -> Result<(), Fail> {
+    let mut checks = Checks::new();
     let alloc = rt.alloc();
-    let out = written(alloc, &mut walk(alloc)?, &["--basic", "prog", "1150"])?;
-    assert_eq!(rt; out.bytes(), b"0000000000001150 main\n".as_slice());
-    Ok(())
+    let out = written(
+        alloc,
+        &mut walk(alloc).expect(&rt, "refused"),
+        &["--basic", "prog", "1150"],
+    )
+    .expect(&rt, "refused");
+    checks.same(out.bytes(), b"0000000000001150 main\n".as_slice());
+    checks.result()
 }
 
 #[test]
 fn lines_print_the_place_without_inlined_calls(rt: HostRuntime) -> Result<(), Fail> {
+    let mut checks = Checks::new();
     let alloc = rt.alloc();
     let text = b"0000000000001150 main at /home/u/p/sq.h:3:12\n".as_slice();
-    let mut files = walk(alloc)?;
-    assert_eq!(rt;
-        written(alloc, &mut files, &["--lines", "prog", "0x1150"])?.bytes(),
-        text
+    let mut files = walk(alloc).expect(&rt, "refused");
+    checks.same(
+        written(alloc, &mut files, &["--lines", "prog", "0x1150"])
+            .expect(&rt, "refused")
+            .bytes(),
+        text,
     );
-    assert_eq!(rt;
-        written(alloc, &mut files, &["prog", "1150", "--lines"])?.bytes(),
-        text
+    checks.same(
+        written(alloc, &mut files, &["prog", "1150", "--lines"])
+            .expect(&rt, "refused")
+            .bytes(),
+        text,
     );
-    Ok(())
+    checks.result()
 }
 
 // `/x/a` links to `a.debug`, and the files that could stand there are not the one that it means.
@@ -52,23 +64,34 @@ const TEXT: &[u8] = b"000000000000000f B\n";
 
 #[test]
 fn debug_files_are_looked_for_in_the_default_directories(rt: HostRuntime) -> Result<(), Fail> {
+    let mut checks = Checks::new();
     let alloc = rt.alloc();
-    let out = written(alloc, &mut linked(alloc)?, &["/x/a", "f"])?;
-    assert_eq!(rt; out.bytes(), REFUSED);
-    Ok(())
+    let out = written(
+        alloc,
+        &mut linked(alloc).expect(&rt, "refused"),
+        &["/x/a", "f"],
+    )
+    .expect(&rt, "refused");
+    checks.same(out.bytes(), REFUSED);
+    checks.result()
 }
 
 #[test]
 fn directories_that_are_given_replace_the_default_ones(rt: HostRuntime) -> Result<(), Fail> {
+    let mut checks = Checks::new();
     let alloc = rt.alloc();
-    let mut files = linked(alloc)?;
+    let mut files = linked(alloc).expect(&rt, "refused");
     for dirs in ["", ":", "/e", "/e:/f"] {
-        let out = written(alloc, &mut files, &["--debug-dirs", dirs, "/x/a", "f"])?;
-        assert_eq!(rt; out.bytes(), TEXT);
+        let out = written(alloc, &mut files, &["--debug-dirs", dirs, "/x/a", "f"]).expect(
+            &rt, "refused",
+        );
+        checks.same(out.bytes(), TEXT);
     }
     for dirs in ["/d", "/e:/d", ":/e::/d/:"] {
-        let out = written(alloc, &mut files, &["--debug-dirs", dirs, "/x/a", "f"])?;
-        assert_eq!(rt; out.bytes(), REFUSED);
+        let out = written(alloc, &mut files, &["--debug-dirs", dirs, "/x/a", "f"]).expect(
+            &rt, "refused",
+        );
+        checks.same(out.bytes(), REFUSED);
     }
-    Ok(())
+    checks.result()
 }

@@ -4,6 +4,7 @@ ghost use Rattle.std.specs.Prelude.{None};
 use crate::tests::images::{TEXT, WORDS};
 use crate::tests::runs::{holding, run_by};
 use blz_bytes::{Key, NameSpan, Orders};
+use blz_checks::Checks;
 use blz_images::{ByteOrder, realistic_walk};
 use blz_runs::roomy;
 use std::test::Fail;
@@ -40,19 +41,26 @@ impl Orders for Lying {
 
 #[test]
 fn places_reversed_or_outside_of_the_list_change_no_text(rt: HostRuntime) -> Result<(), Fail> {
+    let mut checks = Checks::new();
     let alloc = rt.alloc();
     for order in [ByteOrder::Little, ByteOrder::Big] {
-        let mut files = holding(alloc, "prog", realistic_walk(alloc, order)?)?;
+        let mut files = holding(
+            alloc,
+            "prog",
+            realistic_walk(alloc, order).expect(&rt, "refused"),
+        )
+        .expect(&rt, "refused");
         for turns in [false, true] {
             let ended = run_by(
                 alloc,
                 &mut files,
                 &mut Lying { turns },
                 &WORDS,
-                roomy(alloc)?,
-            )?;
-            assert!(rt; ended.is(0, TEXT.as_bytes(), b""));
+                roomy(alloc).expect(&rt, "refused"),
+            )
+            .expect(&rt, "refused");
+            checks.holds(ended.is(0, TEXT.as_bytes(), b""));
         }
     }
-    Ok(())
+    checks.result()
 }

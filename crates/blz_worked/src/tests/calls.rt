@@ -1,5 +1,6 @@
 //! Inlined calls, and the places of a function and of its calls.
 use super::shown::{Frame, frames};
+use blz_checks::Checks;
 use blz_error::ErrorKind;
 use blz_images::codes::*;
 use blz_images::{Attribute, ByteOrder, DebugInfo, DebugLine};
@@ -81,62 +82,70 @@ fn two_calls(
 }
 
 // whether the image at this address has these frames
-fn has_frames(alloc: Global, image: &[u8], expected: &[Frame<'_>]) -> Result<bool, Fail> {
+fn has_frames(alloc: Global, image: &[u8], expected: &[Frame<'_>]) -> blz_error::Result<bool> {
     Ok(frames(alloc, &lone(image), 0x14)?.as_slice() == expected)
 }
 
 #[test]
 fn each_call_stands_where_the_next_was_made(rt: HostRuntime) -> Result<(), Fail> {
+    let mut checks = Checks::new();
     let alloc = rt.alloc();
     for order in [ByteOrder::Little, ByteOrder::Big] {
-        let image = two_calls(alloc, order, 1, (1, 11), (1, 12))?;
+        let image = two_calls(alloc, order, 1, (1, 11), (1, 12)).expect(&rt, "refused");
         let expected = [
             Frame::at("function", 11),
             Frame::at("outer", 12),
             Frame::at("inner", 3),
         ];
-        assert!(rt; has_frames(alloc, &image, &expected)?);
+        checks.holds(has_frames(alloc, &image, &expected).expect(&rt, "refused"));
     }
-    Ok(())
+    checks.result()
 }
 
 #[test]
 fn a_function_keeps_the_row_where_its_call_has_no_file(rt: HostRuntime) -> Result<(), Fail> {
+    let mut checks = Checks::new();
     let alloc = rt.alloc();
     for order in [ByteOrder::Little, ByteOrder::Big] {
-        let image = two_calls(alloc, order, 1, (0, 11), (1, 12))?;
+        let image = two_calls(alloc, order, 1, (0, 11), (1, 12)).expect(&rt, "refused");
         let expected = [
             Frame::at("function", 3),
             Frame::at("outer", 12),
             Frame::nowhere("inner"),
         ];
-        assert!(rt; has_frames(alloc, &image, &expected)?);
+        checks.holds(has_frames(alloc, &image, &expected).expect(&rt, "refused"));
     }
-    Ok(())
+    checks.result()
 }
 
 #[test]
 fn a_call_from_a_file_outside_the_table_has_no_place(rt: HostRuntime) -> Result<(), Fail> {
+    let mut checks = Checks::new();
     let alloc = rt.alloc();
-    let image = two_calls(alloc, ByteOrder::Little, 1, (1, 11), (NO_SUCH_FILE, 12))?;
+    let image = two_calls(alloc, ByteOrder::Little, 1, (1, 11), (NO_SUCH_FILE, 12)).expect(
+        &rt, "refused",
+    );
     let expected = [
         Frame::at("function", 11),
         Frame::nowhere("outer"),
         Frame::at("inner", 3),
     ];
-    assert!(rt; has_frames(alloc, &image, &expected)?);
-    Ok(())
+    checks.holds(has_frames(alloc, &image, &expected).expect(&rt, "refused"));
+    checks.result()
 }
 
 #[test]
 fn a_row_of_a_file_outside_the_table_is_refused(rt: HostRuntime) -> Result<(), Fail> {
+    let mut checks = Checks::new();
     let alloc = rt.alloc();
-    let image = two_calls(alloc, ByteOrder::Little, NO_SUCH_FILE, (1, 11), (1, 12))?;
-    assert_eq!(rt;
-        refusal(frames(alloc, &lone(&image), 0x14)),
-        Some(ErrorKind::InvalidDwarf)
+    let image = two_calls(alloc, ByteOrder::Little, NO_SUCH_FILE, (1, 11), (1, 12)).expect(
+        &rt, "refused",
     );
-    Ok(())
+    checks.same(
+        refusal(frames(alloc, &lone(&image), 0x14)),
+        Some(ErrorKind::InvalidDwarf),
+    );
+    checks.result()
 }
 
 // a call that names the first list of ranges
@@ -173,18 +182,19 @@ fn calls_of_one_list(alloc: Global) -> Result<Vec<u8>, AllocError> {
 
 #[test]
 fn of_one_list_the_earlier_call_of_each_depth_is_found(rt: HostRuntime) -> Result<(), Fail> {
+    let mut checks = Checks::new();
     let alloc = rt.alloc();
-    let image = calls_of_one_list(alloc)?;
+    let image = calls_of_one_list(alloc).expect(&rt, "refused");
     let inside = [
         Frame::at("function", 3),
         Frame::nowhere("near"),
         Frame::nowhere("nearer"),
     ];
     for addr in [0x12, 0x1a] {
-        let found = frames(alloc, &lone(&image), addr)?;
-        assert!(rt; found.as_slice() == inside.as_slice());
+        let found = frames(alloc, &lone(&image), addr).expect(&rt, "refused");
+        checks.same(found.as_slice(), inside.as_slice());
     }
-    let between = frames(alloc, &lone(&image), 0x15)?;
-    assert!(rt; between.as_slice() == [Frame::at("function", 3)].as_slice());
-    Ok(())
+    let between = frames(alloc, &lone(&image), 0x15).expect(&rt, "refused");
+    checks.same(between.as_slice(), [Frame::at("function", 3)].as_slice());
+    checks.result()
 }

@@ -1,6 +1,7 @@
 //! Functions by their ranges.
 use super::shown::{FORMATS, name_of, names};
 use blz_bytes::ByStdSort;
+use blz_checks::Checks;
 use blz_elf::{Answer, FindSymOpts, Reason};
 use blz_images::codes::*;
 use blz_images::{Attribute, ByteOrder, DebugInfo, range_pairs};
@@ -41,24 +42,29 @@ pub fn of_equal_begins(
 
 #[test]
 fn the_function_of_the_greatest_begin_is_found(rt: HostRuntime) -> Result<(), Fail> {
+    let mut checks = Checks::new();
     let alloc = rt.alloc();
     for (order, version) in FORMATS {
-        let image = nested(alloc, order, version)?;
-        let found = names(alloc, &lone(&image), &[0x24, 0x2a, 0x30])?;
-        assert!(rt; found.as_slice() == [Some("second"), Some("first"), None].as_slice());
+        let image = nested(alloc, order, version).expect(&rt, "refused");
+        let found = names(alloc, &lone(&image), &[0x24, 0x2a, 0x30]).expect(&rt, "refused");
+        checks.same(
+            found.as_slice(),
+            [Some("second"), Some("first"), None].as_slice(),
+        );
     }
-    Ok(())
+    checks.result()
 }
 
 #[test]
 fn of_equal_begins_the_earlier_function_is_found(rt: HostRuntime) -> Result<(), Fail> {
+    let mut checks = Checks::new();
     let alloc = rt.alloc();
     for (order, version) in FORMATS {
-        let image = of_equal_begins(alloc, order, version)?;
-        let found = names(alloc, &lone(&image), &[0x15, 0x25])?;
-        assert!(rt; found.as_slice() == [Some("first"), Some("second")].as_slice());
+        let image = of_equal_begins(alloc, order, version).expect(&rt, "refused");
+        let found = names(alloc, &lone(&image), &[0x15, 0x25]).expect(&rt, "refused");
+        checks.same(found.as_slice(), [Some("first"), Some("second")].as_slice());
     }
-    Ok(())
+    checks.result()
 }
 
 // a function with a list of ranges and no low address; the list stands at the start of the section
@@ -83,25 +89,32 @@ fn with_ranges(
 
 #[test]
 fn without_a_low_address_there_is_no_begin(rt: HostRuntime) -> Result<(), Fail> {
+    let mut checks = Checks::new();
     let alloc = rt.alloc();
-    let pairs = range_pairs(alloc, ByteOrder::Little, &[(0x10, 0x20)])?;
+    let pairs = range_pairs(alloc, ByteOrder::Little, &[(0x10, 0x20)]).expect(&rt, "refused");
     let images = [
-        with_ranges(alloc, 4, ".debug_ranges", &pairs)?,
+        with_ranges(alloc, 4, ".debug_ranges", &pairs).expect(&rt, "refused"),
         // an offset pair, and the end
-        with_ranges(alloc, 5, ".debug_rnglists", &[4, 0x10, 0x20, 0])?,
+        with_ranges(alloc, 5, ".debug_rnglists", &[4, 0x10, 0x20, 0]).expect(&rt, "refused"),
     ];
     for image in images {
         let bundle = lone(&image);
-        let answers = symbolize(alloc, &mut ByStdSort, &bundle, &[0x12], &FindSymOpts::Basic)?;
+        let answers = symbolize(
+            alloc,
+            &mut ByStdSort,
+            &bundle,
+            &[0x12],
+            &FindSymOpts::Basic,
+        ).expect(&rt, "refused");
         let found = match answers.first() {
             Some(Answer::Sym(found)) => {
                 found.name == "ranged" && found.addr == 0 && found.size.is_none()
             }
             _ => false,
         };
-        assert!(rt; found);
+        checks.holds(found);
     }
-    Ok(())
+    checks.result()
 }
 
 // no symbols, and a unit at [0x10, 0x20) with a function whose end would pass the last address
@@ -116,8 +129,9 @@ fn past_the_last_address(alloc: Global) -> Result<Vec<u8>, AllocError> {
 
 #[test]
 fn no_function_covers_the_last_address(rt: HostRuntime) -> Result<(), Fail> {
+    let mut checks = Checks::new();
     let alloc = rt.alloc();
-    let image = past_the_last_address(alloc)?;
+    let image = past_the_last_address(alloc).expect(&rt, "refused");
     let addrs = [0x12, u64::MAX];
     let answers = symbolize(
         alloc,
@@ -125,13 +139,14 @@ fn no_function_covers_the_last_address(rt: HostRuntime) -> Result<(), Fail> {
         &lone(&image),
         &addrs,
         &FindSymOpts::CodeInfoAndInlined,
-    )?;
+    )
+    .expect(&rt, "refused");
     let expected = match answers.as_slice() {
         [inside, last] => {
             name_of(inside) == Some("second") && matches!(last, Answer::NoSym(Reason::MissingSyms))
         }
         _ => false,
     };
-    assert!(rt; expected);
-    Ok(())
+    checks.holds(expected);
+    checks.result()
 }

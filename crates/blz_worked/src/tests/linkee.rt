@@ -1,5 +1,6 @@
 //! A stripped image beside the debug file to which it links.
 use blz_bytes::ByStdSort;
+use blz_checks::Checks;
 use blz_elf::{Answer, FindSymOpts};
 use blz_images::{ByteOrder, DebugInfo, Image};
 use blz_resolver::{Bundle, Companion, symbolize};
@@ -33,9 +34,10 @@ fn is_found(answer: &Answer<'_>, name: &str, module: &str) -> bool {
 
 #[test]
 fn a_function_is_of_the_image_and_a_symbol_of_the_debug_file(rt: HostRuntime) -> Result<(), Fail> {
+    let mut checks = Checks::new();
     let alloc = rt.alloc();
-    let stripped = Image::elf64(alloc).bytes()?;
-    let debug_file = debug_file(alloc)?;
+    let stripped = Image::elf64(alloc).bytes().expect(&rt, "refused");
+    let debug_file = debug_file(alloc).expect(&rt, "refused");
     let bundle = Bundle {
         module: Some("program"),
         linkee: Some(Companion {
@@ -51,13 +53,14 @@ fn a_function_is_of_the_image_and_a_symbol_of_the_debug_file(rt: HostRuntime) ->
         &bundle,
         &addrs,
         &FindSymOpts::CodeInfo,
-    )?;
+    )
+    .expect(&rt, "refused");
     let expected = match answers.as_slice() {
         [first, second] => {
             is_found(first, "function", "program") && is_found(second, "symbol", "program.debug")
         }
         _ => false,
     };
-    assert!(rt; expected);
-    Ok(())
+    checks.holds(expected);
+    checks.result()
 }

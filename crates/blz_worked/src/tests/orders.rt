@@ -4,6 +4,7 @@ ghost use Rattle.std.specs.Prelude.{None};
 use super::functions::{nested, of_equal_begins};
 use super::shown::names_by;
 use blz_bytes::{ByStdSort, Key, NameSpan, Orders};
+use blz_checks::Checks;
 use blz_images::ByteOrder;
 use blz_runs::lone;
 use std::test::Fail;
@@ -34,17 +35,25 @@ impl Orders for SamePlaces {
 
 #[test]
 fn a_false_order_changes_no_answer(rt: HostRuntime) -> Result<(), Fail> {
+    let mut checks = Checks::new();
     let alloc = rt.alloc();
-    let nested = nested(alloc, ByteOrder::Little, 4)?;
-    let equal = of_equal_begins(alloc, ByteOrder::Little, 4)?;
+    let nested = nested(alloc, ByteOrder::Little, 4).expect(&rt, "refused");
+    let equal = of_equal_begins(alloc, ByteOrder::Little, 4).expect(&rt, "refused");
     for places in [[0, 0], [0, 7], [1, 0]] {
         let mut orders = SamePlaces { places };
-        let found = names_by(alloc, &mut orders, &lone(&nested), &[0x24, 0x2a, 0x30])?;
-        assert!(rt; found.as_slice() == [Some("second"), Some("first"), None].as_slice());
-        let found = names_by(alloc, &mut orders, &lone(&equal), &[0x15, 0x25])?;
-        assert!(rt; found.as_slice() == [Some("first"), Some("second")].as_slice());
+        let found = names_by(alloc, &mut orders, &lone(&nested), &[0x24, 0x2a, 0x30]).expect(
+            &rt, "refused",
+        );
+        checks.same(
+            found.as_slice(),
+            [Some("second"), Some("first"), None].as_slice(),
+        );
+        let found = names_by(alloc, &mut orders, &lone(&equal), &[0x15, 0x25]).expect(
+            &rt, "refused",
+        );
+        checks.same(found.as_slice(), [Some("first"), Some("second")].as_slice());
     }
-    Ok(())
+    checks.result()
 }
 
 /// Counts how often it is asked for an order of numbers.
@@ -70,11 +79,12 @@ impl Orders for Counting {
 
 #[test]
 fn the_order_is_asked_of_the_caller(rt: HostRuntime) -> Result<(), Fail> {
+    let mut checks = Checks::new();
     let alloc = rt.alloc();
-    let image = nested(alloc, ByteOrder::Little, 4)?;
+    let image = nested(alloc, ByteOrder::Little, 4).expect(&rt, "refused");
     let mut orders = Counting { asked: 0 };
-    let found = names_by(alloc, &mut orders, &lone(&image), &[0x24])?;
-    assert!(rt; found.as_slice() == [Some("second")].as_slice());
-    assert!(rt; orders.asked >= 2);
-    Ok(())
+    let found = names_by(alloc, &mut orders, &lone(&image), &[0x24]).expect(&rt, "refused");
+    checks.same(found.as_slice(), [Some("second")].as_slice());
+    checks.holds(orders.asked >= 2);
+    checks.result()
 }

@@ -1,6 +1,7 @@
 //! A unit whose functions stand in a package.
 use super::shown::is_named;
 use blz_bytes::ByStdSort;
+use blz_checks::Checks;
 use blz_elf::{Answer, FindSymOpts, ResolvedSym, SrcLang};
 use blz_images::codes::*;
 use blz_images::{Attribute, ByteOrder, DebugInfo, DebugLine, UnitKind, package_of_unit};
@@ -80,32 +81,35 @@ fn is_as_expected(found: &ResolvedSym<'_>) -> bool {
 
 #[test]
 fn the_package_has_the_function_and_not_its_line_and_language(rt: HostRuntime) -> Result<(), Fail> {
+    let mut checks = Checks::new();
     let alloc = rt.alloc();
     for order in [ByteOrder::Little, ByteOrder::Big] {
-        let image = skeleton(alloc, order, 7)?;
-        let package = package(alloc, order)?;
+        let image = skeleton(alloc, order, 7).expect(&rt, "refused");
+        let package = package(alloc, order).expect(&rt, "refused");
         let bundle = with_package(&image, &package);
         let opts = FindSymOpts::CodeInfoAndInlined;
-        let answers = symbolize(alloc, &mut ByStdSort, &bundle, &[0x14], &opts)?;
-        assert!(rt; matches!(answers.first(), Some(Answer::Sym(found)) if is_as_expected(found)));
+        let answers = symbolize(alloc, &mut ByStdSort, &bundle, &[0x14], &opts).expect(
+            &rt, "refused",
+        );
+        checks.holds(matches!(answers.first(), Some(Answer::Sym(found)) if is_as_expected(found)));
     }
-    Ok(())
+    checks.result()
 }
 
 #[test]
 fn a_unit_that_the_package_lacks_is_read_itself(rt: HostRuntime) -> Result<(), Fail> {
+    let mut checks = Checks::new();
     let alloc = rt.alloc();
-    let package = package(alloc, ByteOrder::Little)?;
+    let package = package(alloc, ByteOrder::Little).expect(&rt, "refused");
     for id in [8, 9] {
-        let image = skeleton(alloc, ByteOrder::Little, id)?;
-        assert!(rt;
-            is_named(
-                alloc,
-                &with_package(&image, &package),
-                0x14,
-                "of the skeleton"
-            )?
-        );
+        let image = skeleton(alloc, ByteOrder::Little, id).expect(&rt, "refused");
+        checks.holds(is_named(
+            alloc,
+            &with_package(&image, &package),
+            0x14,
+            "of the skeleton",
+        )
+        .expect(&rt, "refused"));
     }
-    Ok(())
+    checks.result()
 }

@@ -4,6 +4,7 @@ ghost use Rattle.std.specs.Prelude.{◌≡◌, ◌<◌, true};
 use super::shown::name_of;
 use super::units::broken_second_unit;
 use blz_bytes::{ByStdSort, Steps};
+use blz_checks::Checks;
 use blz_elf::FindSymOpts;
 use blz_error::ErrorKind;
 use blz_images::ByteOrder;
@@ -31,28 +32,38 @@ fn asked_in_both<L: Ledger>(resolver: &ElfResolver<'_>, blank: Blank) -> (bool, 
 
 #[test]
 fn a_prepared_resolver_answers_as_it_did(rt: HostRuntime) -> Result<(), Fail> {
+    let mut checks = Checks::new();
     let alloc = rt.alloc();
-    let image = broken_second_unit(alloc, ByteOrder::Little, 4)?;
-    let mut resolver = ElfResolver::from_bundle(alloc, &mut ByStdSort, &lone(&image))?;
-    resolver.prepare(alloc, &mut ByStdSort)?;
+    let image = broken_second_unit(alloc, ByteOrder::Little, 4).expect(&rt, "refused");
+    let mut resolver = ElfResolver::from_bundle(alloc, &mut ByStdSort, &lone(&image)).expect(
+        &rt, "refused",
+    );
+    resolver
+        .prepare(alloc, &mut ByStdSort)
+        .expect(&rt, "refused");
     let (sound, broken) = asked_in_both::<Brand>(&resolver, Blank::new(1));
-    assert!(rt; sound);
-    assert_eq!(rt; broken, Some(ErrorKind::InvalidDwarf));
-    Ok(())
+    checks.holds(sound);
+    checks.same(broken, Some(ErrorKind::InvalidDwarf));
+    checks.result()
 }
 
 #[test]
 fn a_warm_resolver_answers_as_it_did(rt: HostRuntime) -> Result<(), Fail> {
+    let mut checks = Checks::new();
     let alloc = rt.alloc();
-    let image = broken_second_unit(alloc, ByteOrder::Little, 4)?;
+    let image = broken_second_unit(alloc, ByteOrder::Little, 4).expect(&rt, "refused");
     let bundle = lone(&image);
-    let mut resolver = ElfResolver::from_bundle(alloc, &mut ByStdSort, &bundle)?;
-    resolver.prepare(alloc, &mut ByStdSort)?;
+    let mut resolver = ElfResolver::from_bundle(alloc, &mut ByStdSort, &bundle).expect(
+        &rt, "refused",
+    );
+    resolver
+        .prepare(alloc, &mut ByStdSort)
+        .expect(&rt, "refused");
     let warm = resolver.into_warm();
     let resolver = ElfResolver::from_warm(alloc, &bundle, warm);
-    assert!(rt; resolver.is_prepared());
+    checks.holds(resolver.is_prepared());
     let (sound, broken) = asked_in_both::<Brand>(&resolver, Blank::new(1));
-    assert!(rt; sound);
-    assert_eq!(rt; broken, Some(ErrorKind::InvalidDwarf));
-    Ok(())
+    checks.holds(sound);
+    checks.same(broken, Some(ErrorKind::InvalidDwarf));
+    checks.result()
 }

@@ -1,5 +1,6 @@
 //! Ranges of a unit's root that stand in a list, found by its index, in 64-bit DWARF.
 use super::shown::{is_named, names};
+use blz_checks::Checks;
 use blz_error::ErrorKind;
 use blz_images::{ByteOrder, Class, Image, Writer};
 use blz_runs::{lone, refusal};
@@ -52,23 +53,25 @@ fn image(alloc: Global, order: ByteOrder, index: u8) -> Result<Vec<u8>, AllocErr
 
 #[test]
 fn a_list_of_a_root_past_the_greatest_offset_has_no_value(rt: HostRuntime) -> Result<(), Fail> {
+    let mut checks = Checks::new();
     let alloc = rt.alloc();
     for order in [ByteOrder::Little, ByteOrder::Big] {
-        let image = image(alloc, order, 0)?;
-        assert_eq!(rt;
+        let image = image(alloc, order, 0).expect(&rt, "refused");
+        checks.same(
             refusal(names(alloc, &lone(&image), &[0x14])),
-            Some(ErrorKind::InvalidDwarf)
+            Some(ErrorKind::InvalidDwarf),
         );
     }
-    Ok(())
+    checks.result()
 }
 
 #[test]
 fn a_unit_whose_list_has_an_index_outside_is_not_kept(rt: HostRuntime) -> Result<(), Fail> {
+    let mut checks = Checks::new();
     let alloc = rt.alloc();
     for order in [ByteOrder::Little, ByteOrder::Big] {
-        let image = image(alloc, order, 1)?;
-        assert!(rt; is_named(alloc, &lone(&image), 0x14, "A")?);
+        let image = image(alloc, order, 1).expect(&rt, "refused");
+        checks.holds(is_named(alloc, &lone(&image), 0x14, "A").expect(&rt, "refused"));
     }
-    Ok(())
+    checks.result()
 }

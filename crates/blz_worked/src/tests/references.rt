@@ -1,5 +1,6 @@
 //! Names that stand at other entries.
 use super::shown::{FORMATS, is_named, names};
+use blz_checks::Checks;
 use blz_error::ErrorKind;
 use blz_images::codes::*;
 use blz_images::{Attribute, ByteOrder, DebugInfo};
@@ -40,14 +41,15 @@ fn chain(alloc: Global, order: ByteOrder, version: u16, count: u8) -> Result<Vec
 
 #[test]
 fn a_name_is_followed_over_sixteen_entries(rt: HostRuntime) -> Result<(), Fail> {
+    let mut checks = Checks::new();
     let alloc = rt.alloc();
     for (order, version) in FORMATS {
-        let sixteen = chain(alloc, order, version, 16)?;
-        assert!(rt; is_named(alloc, &lone(&sixteen), 0x12, "deep")?);
-        let seventeen = chain(alloc, order, version, 17)?;
-        assert!(rt; is_named(alloc, &lone(&seventeen), 0x12, "")?);
+        let sixteen = chain(alloc, order, version, 16).expect(&rt, "refused");
+        checks.holds(is_named(alloc, &lone(&sixteen), 0x12, "deep").expect(&rt, "refused"));
+        let seventeen = chain(alloc, order, version, 17).expect(&rt, "refused");
+        checks.holds(is_named(alloc, &lone(&seventeen), 0x12, "").expect(&rt, "refused"));
     }
-    Ok(())
+    checks.result()
 }
 
 fn cycle_of_one(alloc: Global) -> Result<Vec<u8>, AllocError> {
@@ -74,11 +76,15 @@ fn cycle_of_two(alloc: Global) -> Result<Vec<u8>, AllocError> {
 
 #[test]
 fn a_name_in_a_circle_is_empty(rt: HostRuntime) -> Result<(), Fail> {
+    let mut checks = Checks::new();
     let alloc = rt.alloc();
-    for image in [cycle_of_one(alloc)?, cycle_of_two(alloc)?] {
-        assert!(rt; is_named(alloc, &lone(&image), 0x12, "")?);
+    for image in [
+        cycle_of_one(alloc).expect(&rt, "refused"),
+        cycle_of_two(alloc).expect(&rt, "refused"),
+    ] {
+        checks.holds(is_named(alloc, &lone(&image), 0x12, "").expect(&rt, "refused"));
     }
-    Ok(())
+    checks.result()
 }
 
 // a function of the third unit leads to an entry of the second, which leads on there
@@ -101,15 +107,16 @@ fn chain_over_units(alloc: Global, order: ByteOrder, version: u16) -> Result<Vec
 
 #[test]
 fn a_name_is_followed_into_another_unit(rt: HostRuntime) -> Result<(), Fail> {
+    let mut checks = Checks::new();
     let alloc = rt.alloc();
     for (order, version) in FORMATS {
         // such a reference is as wide as an address in version 2
         if version > 2 {
-            let image = chain_over_units(alloc, order, version)?;
-            assert!(rt; is_named(alloc, &lone(&image), 0x12, "deep")?);
+            let image = chain_over_units(alloc, order, version).expect(&rt, "refused");
+            checks.holds(is_named(alloc, &lone(&image), 0x12, "deep").expect(&rt, "refused"));
         }
     }
-    Ok(())
+    checks.result()
 }
 
 // a reference that counts from the start of the unit leads past its end
@@ -123,11 +130,12 @@ fn leading_past_the_unit(alloc: Global) -> Result<Vec<u8>, AllocError> {
 
 #[test]
 fn a_reference_past_its_unit_is_refused(rt: HostRuntime) -> Result<(), Fail> {
+    let mut checks = Checks::new();
     let alloc = rt.alloc();
-    let image = leading_past_the_unit(alloc)?;
-    assert_eq!(rt;
+    let image = leading_past_the_unit(alloc).expect(&rt, "refused");
+    checks.same(
         refusal(names(alloc, &lone(&image), &[0x12])),
-        Some(ErrorKind::InvalidDwarf)
+        Some(ErrorKind::InvalidDwarf),
     );
-    Ok(())
+    checks.result()
 }

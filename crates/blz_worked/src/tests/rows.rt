@@ -1,9 +1,12 @@
 //! The lines of the units of an executable.
 use blz_bytes::ByStdSort;
+use blz_checks::Checks;
+use blz_error::Result;
 use blz_images::{ByteOrder, realistic_walk};
 use blz_line::LineSequence;
 use blz_resolver::{ElfResolver, UnitRows};
 use blz_runs::lone;
+use std::alloc::Global;
 use std::test::Fail;
 
 // one sequence over [0x1200, 0x1260), with one row of line 10 and column 1
@@ -24,27 +27,36 @@ fn has_file(rows: &UnitRows<'_, '_>, index: u64, name: &[u8]) -> bool {
     }
 }
 
-#[test]
-fn the_rows_of_each_unit_are_given(rt: HostRuntime) -> Result<(), Fail> {
-    let alloc = rt.alloc();
-    for order in [ByteOrder::Little, ByteOrder::Big] {
-        let image = realistic_walk(alloc, order)?;
-        let mut resolver = ElfResolver::from_bundle(alloc, &mut ByStdSort, &lone(&image))?;
-        assert!(rt; resolver.unit_count() == 2);
-        let expected = match resolver.unit_rows(alloc, &mut ByStdSort, 1) {
-            Ok(Some(rows)) => is_expected(rows.sequences()) && has_file(&rows, 1, b"lib.rs"),
-            _ => false,
-        };
-        assert!(rt; expected);
+// how many units there are, and whether the second has what is expected
+fn rows_of_the_second(alloc: Global, image: &[u8]) -> Result<(usize, bool)> {
+    let mut resolver = ElfResolver::from_bundle(alloc, &mut ByStdSort, &lone(image))?;
+    let count = resolver.unit_count();
+    if count < 2 {
+        return Ok((count, false));
     }
-    Ok(())
+    let expected = match resolver.unit_rows(alloc, &mut ByStdSort, 1) {
+        Ok(Some(rows)) => is_expected(rows.sequences()) && has_file(&rows, 1, b"lib.rs"),
+        _ => false,
+    };
+    Ok((count, expected))
 }
 
 #[test]
-fn without_debug_information_there_are_no_units(rt: HostRuntime) -> Result<(), Fail> {
+fn the_rows_of_each_unit_are_given(rt: HostRuntime) -> std::result::Result<(), Fail> {
+    let mut checks = Checks::new();
+    for order in [ByteOrder::Little, ByteOrder::Big] {
+        let image = realistic_walk(rt.alloc(), order).expect(&rt, "refused");
+        checks.gives(rows_of_the_second(rt.alloc(), &image), (2, true));
+    }
+    checks.result()
+}
+
+#[test]
+fn without_debug_information_there_are_no_units(rt: HostRuntime) -> std::result::Result<(), Fail> {
+    let mut checks = Checks::new();
     let alloc = rt.alloc();
-    let image = realistic_walk(alloc, ByteOrder::Little)?;
+    let image = realistic_walk(alloc, ByteOrder::Little).expect(&rt, "refused");
     let resolver = ElfResolver::from_bundle_elf(alloc, &lone(&image));
-    assert!(rt; resolver.unit_count() == 0);
-    Ok(())
+    checks.same(resolver.unit_count(), 0);
+    checks.result()
 }

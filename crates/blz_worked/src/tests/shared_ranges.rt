@@ -1,6 +1,7 @@
 //! Functions that name one list of ranges.
 use super::shown::names;
 use blz_bytes::ByStdSort;
+use blz_checks::Checks;
 use blz_elf::{Collect, FindAddrOpts};
 use blz_images::codes::*;
 use blz_images::{Attribute, ByteOrder, DebugInfo};
@@ -31,22 +32,29 @@ fn of_one_list(alloc: Global) -> Result<Vec<u8>, AllocError> {
 
 #[test]
 fn of_one_list_the_earlier_function_is_found(rt: HostRuntime) -> Result<(), Fail> {
+    let mut checks = Checks::new();
     let alloc = rt.alloc();
-    let image = of_one_list(alloc)?;
-    let found = names(alloc, &lone(&image), &[0x12, 0x32, 0x36, 0x50])?;
-    assert!(rt;
-        found.as_slice() == [Some("first"), Some("first"), Some("within"), None].as_slice()
+    let image = of_one_list(alloc).expect(&rt, "refused");
+    let found = names(alloc, &lone(&image), &[0x12, 0x32, 0x36, 0x50]).expect(&rt, "refused");
+    checks.same(
+        found.as_slice(),
+        [Some("first"), Some("first"), Some("within"), None].as_slice(),
     );
-    Ok(())
+    checks.result()
 }
 
 #[test]
 fn all_functions_of_one_list_are_listed(rt: HostRuntime) -> Result<(), Fail> {
+    let mut checks = Checks::new();
     let alloc = rt.alloc();
-    let image = of_one_list(alloc)?;
-    let mut resolver = ElfResolver::from_bundle(alloc, &mut ByStdSort, &lone(&image))?;
+    let image = of_one_list(alloc).expect(&rt, "refused");
+    let mut resolver = ElfResolver::from_bundle(alloc, &mut ByStdSort, &lone(&image)).expect(
+        &rt, "refused",
+    );
     let mut shown = Collect::new(alloc, None);
-    resolver.for_each(alloc, &mut ByStdSort, &FindAddrOpts::default(), &mut shown)?;
+    resolver
+        .for_each(alloc, &mut ByStdSort, &FindAddrOpts::default(), &mut shown)
+        .expect(&rt, "refused");
     let expected = match shown.infos() {
         [first, second, within] => {
             first.name.as_str() == "first"
@@ -55,6 +63,6 @@ fn all_functions_of_one_list_are_listed(rt: HostRuntime) -> Result<(), Fail> {
         }
         _ => false,
     };
-    assert!(rt; expected);
-    Ok(())
+    checks.holds(expected);
+    checks.result()
 }

@@ -56,7 +56,7 @@ pub fn is_named(alloc: Global, bundle: &Bundle<'_>, addr: u64, name: &str) -> Re
 }
 
 /// A function of an answer, or a call that was inlined in it, with the line of its place where that is known.
-#[derive(Clone, Copy, PartialEq, Eq)]
+#[derive(Clone, Copy, Debug, PartialEq, Eq)]
 pub struct Frame<'b> {
     name: &'b str,
     line: Option<u32>,

@@ -1,5 +1,6 @@
 //! Names that stand in the supplementary file.
 use super::shown::{FORMATS, is_named, names};
+use blz_checks::Checks;
 use blz_error::ErrorKind;
 use blz_images::codes::*;
 use blz_images::{Attribute, ByteOrder, DebugInfo, Image};
@@ -65,57 +66,70 @@ fn beside<'b>(image: &'b [u8], supplementary: &'b [u8]) -> Bundle<'b> {
 
 #[test]
 fn a_name_is_followed_into_the_supplementary_file(rt: HostRuntime) -> Result<(), Fail> {
+    let mut checks = Checks::new();
     let alloc = rt.alloc();
     for (order, version) in FORMATS {
-        let shared = Shared::new(alloc, ByteOrder::Little, 4)?;
-        let image = named_elsewhere(alloc, order, version, shared.named)?;
-        assert!(rt; is_named(alloc, &beside(&image, &shared.image), 0x12, "shared")?);
+        let shared = Shared::new(alloc, ByteOrder::Little, 4).expect(&rt, "refused");
+        let image = named_elsewhere(alloc, order, version, shared.named).expect(&rt, "refused");
+        checks.holds(is_named(alloc, &beside(&image, &shared.image), 0x12, "shared").expect(
+            &rt, "refused",
+        ));
     }
-    Ok(())
+    checks.result()
 }
 
 #[test]
 fn a_name_is_followed_within_the_supplementary_file(rt: HostRuntime) -> Result<(), Fail> {
+    let mut checks = Checks::new();
     let alloc = rt.alloc();
     for version in [3, 4, 5] {
-        let shared = Shared::new(alloc, ByteOrder::Big, version)?;
-        let image = named_elsewhere(alloc, ByteOrder::Little, 4, shared.leading)?;
-        assert!(rt; is_named(alloc, &beside(&image, &shared.image), 0x12, "deep")?);
+        let shared = Shared::new(alloc, ByteOrder::Big, version).expect(&rt, "refused");
+        let image = named_elsewhere(alloc, ByteOrder::Little, 4, shared.leading).expect(
+            &rt, "refused",
+        );
+        checks.holds(is_named(alloc, &beside(&image, &shared.image), 0x12, "deep").expect(
+            &rt, "refused",
+        ));
     }
-    Ok(())
+    checks.result()
 }
 
 #[test]
 fn a_reference_past_the_supplementary_units_is_refused(rt: HostRuntime) -> Result<(), Fail> {
+    let mut checks = Checks::new();
     let alloc = rt.alloc();
-    let shared = Shared::new(alloc, ByteOrder::Little, 4)?;
-    let image = named_elsewhere(alloc, ByteOrder::Little, 4, 0x1000)?;
-    assert_eq!(rt;
+    let shared = Shared::new(alloc, ByteOrder::Little, 4).expect(&rt, "refused");
+    let image = named_elsewhere(alloc, ByteOrder::Little, 4, 0x1000).expect(&rt, "refused");
+    checks.same(
         refusal(names(alloc, &beside(&image, &shared.image), &[0x12])),
-        Some(ErrorKind::InvalidDwarf)
+        Some(ErrorKind::InvalidDwarf),
     );
-    Ok(())
+    checks.result()
 }
 
 #[test]
 fn without_the_supplementary_file_there_is_no_name(rt: HostRuntime) -> Result<(), Fail> {
+    let mut checks = Checks::new();
     let alloc = rt.alloc();
-    let shared = Shared::new(alloc, ByteOrder::Little, 4)?;
-    let image = named_elsewhere(alloc, ByteOrder::Little, 4, shared.named)?;
-    assert!(rt; is_named(alloc, &lone(&image), 0x12, "")?);
-    Ok(())
+    let shared = Shared::new(alloc, ByteOrder::Little, 4).expect(&rt, "refused");
+    let image = named_elsewhere(alloc, ByteOrder::Little, 4, shared.named).expect(&rt, "refused");
+    checks.holds(is_named(alloc, &lone(&image), 0x12, "").expect(&rt, "refused"));
+    checks.result()
 }
 
 #[test]
 fn broken_supplementary_units_are_refused_without_addresses(rt: HostRuntime) -> Result<(), Fail> {
+    let mut checks = Checks::new();
     let alloc = rt.alloc();
-    let image = named_elsewhere(alloc, ByteOrder::Little, 4, 0)?;
+    let image = named_elsewhere(alloc, ByteOrder::Little, 4, 0).expect(&rt, "refused");
     let short = Image::elf64(alloc)
-        .section(".debug_info", 1, &[0, 0])?
-        .bytes()?;
-    assert_eq!(rt;
+        .section(".debug_info", 1, &[0, 0])
+        .expect(&rt, "refused")
+        .bytes()
+        .expect(&rt, "refused");
+    checks.same(
         refusal(names(alloc, &beside(&image, &short), &[])),
-        Some(ErrorKind::InvalidDwarf)
+        Some(ErrorKind::InvalidDwarf),
     );
-    Ok(())
+    checks.result()
 }

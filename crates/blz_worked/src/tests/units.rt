@@ -1,5 +1,6 @@
 //! Units that are met only where an address leads to them.
 use super::shown::{FORMATS, is_named, names};
+use blz_checks::Checks;
 use blz_error::ErrorKind;
 use blz_images::{ByteOrder, DebugInfo, address_ranges};
 use blz_runs::{lone, refusal};
@@ -28,14 +29,15 @@ pub fn broken_second_unit(
 
 #[test]
 fn a_broken_unit_is_met_by_its_own_addresses_alone(rt: HostRuntime) -> Result<(), Fail> {
+    let mut checks = Checks::new();
     let alloc = rt.alloc();
     for (order, version) in FORMATS {
-        let image = broken_second_unit(alloc, order, version)?;
-        assert!(rt; is_named(alloc, &lone(&image), 0x12, "sound")?);
-        assert_eq!(rt;
+        let image = broken_second_unit(alloc, order, version).expect(&rt, "refused");
+        checks.holds(is_named(alloc, &lone(&image), 0x12, "sound").expect(&rt, "refused"));
+        checks.same(
             refusal(names(alloc, &lone(&image), &[0x12, 0x22])),
-            Some(ErrorKind::InvalidDwarf)
+            Some(ErrorKind::InvalidDwarf),
         );
     }
-    Ok(())
+    checks.result()
 }
