@@ -10,7 +10,7 @@ mod vanishing;
 
 use blz_bundle::{Bundle, Companion, OwnedBundle};
 use blz_error::{Error, ErrorKind, Result};
-use blz_images::{ByteOrder, debug_link, debug_sup, with_build_id, with_section};
+use blz_images::{ByteOrder, debug_altlink, debug_link, debug_sup, with_build_id, with_section};
 use blz_links::MemoryFiles;
 use std::alloc::{AllocError, Global};
 
@@ -27,6 +27,12 @@ fn linked(alloc: Global, file: &str, checksum: u32) -> std::result::Result<Vec<u
 fn sup(alloc: Global, path: &str, checksum: &[u8]) -> std::result::Result<Vec<u8>, AllocError> {
     let section = debug_sup(alloc, ByteOrder::Little, path, checksum)?;
     with_section(alloc, ".debug_sup", &section)
+}
+
+// an image with a link to a file of a build id
+fn sharing(alloc: Global, path: &str) -> std::result::Result<Vec<u8>, AllocError> {
+    let link = debug_altlink(alloc, path, b"12345678")?;
+    with_section(alloc, ".gnu_debugaltlink", &link)
 }
 
 fn bytes_of(alloc: Global, text: &[u8]) -> std::result::Result<Vec<u8>, AllocError> {
@@ -88,6 +94,24 @@ fn is_invalid(opened: Result<OwnedBundle>) -> bool {
 fn holding(alloc: Global, image: Vec<u8>) -> std::result::Result<MemoryFiles, AllocError> {
     let mut files = MemoryFiles::new(alloc);
     files.put("/x/a", image)?;
+    Ok(files)
+}
+
+// files with an image at `/x/a` whose link has the checksum of `123456789`, and these digits at a path
+fn with_digits(alloc: Global, path: &str) -> std::result::Result<MemoryFiles, AllocError> {
+    let mut files = holding(alloc, linked(alloc, "a.debug", DIGITS_CHECKSUM)?)?;
+    files.put(path, bytes_of(alloc, b"123456789")?)?;
+    Ok(files)
+}
+
+// files with an image at `/x/a` that shares a file of a build id, which is at a path
+fn with_common(
+    alloc: Global,
+    name: &str,
+    path: &str,
+) -> std::result::Result<MemoryFiles, AllocError> {
+    let mut files = holding(alloc, sharing(alloc, name)?)?;
+    files.put(path, with_build_id(alloc, b"12345678")?)?;
     Ok(files)
 }
 

@@ -21,6 +21,11 @@ fn run_to(alloc: Global, files: &mut MemoryFiles, words: &[&str], out: MemorySin
     })
 }
 
+// A run whose sink has room.
+fn run_roomy(alloc: Global, files: &mut MemoryFiles, words: &[&str]) -> Ran {
+    run_to(alloc, files, words, roomy(alloc)?)
+}
+
 // The image `a.elf` with a file of this number at its second row, and these hits.
 fn holding(alloc: Global, second_file: u64, hits: &[u8]) -> Result<MemoryFiles, AllocError> {
     let mut files = MemoryFiles::new(alloc);
@@ -113,13 +118,7 @@ fn the_first_line_that_fails_decides(rt: HostRuntime) -> Result<(), Fail> {
     for (hits, status, line) in texts {
         // the address 0x1016 has a mark
         let mut files = holding(alloc, 9, hits).expect(&rt, "refused");
-        let ended = run_to(
-            alloc,
-            &mut files,
-            &["a.elf", "hits"],
-            roomy(alloc).expect(&rt, "refused"),
-        )
-        .expect(&rt, "refused");
+        let ended = run_roomy(alloc, &mut files, &["a.elf", "hits"]).expect(&rt, "refused");
         checks.holds(ended.is(status, b"", line));
     }
     checks.result()
@@ -132,13 +131,7 @@ fn other_words_are_told_the_usage(rt: HostRuntime) -> Result<(), Fail> {
     let mut files = holding(alloc, 1, HITS).expect(&rt, "refused");
     let words: [&[&str]; 3] = [&[], &["a.elf"], &["a.elf", "hits", "hits"]];
     for given in words {
-        let ended = run_to(
-            alloc,
-            &mut files,
-            given,
-            roomy(alloc).expect(&rt, "refused"),
-        )
-        .expect(&rt, "refused");
+        let ended = run_roomy(alloc, &mut files, given).expect(&rt, "refused");
         checks.holds(ended.is(2, b"", b"usage: IMAGE HITS\n"));
     }
     checks.result()
@@ -155,13 +148,7 @@ fn a_file_that_is_refused_is_told_by_its_kind(rt: HostRuntime) -> Result<(), Fai
         (&["hits", "hits"], b"blz_cover: invalid data\n"),
     ];
     for (words, line) in runs {
-        let ended = run_to(
-            alloc,
-            &mut files,
-            words,
-            roomy(alloc).expect(&rt, "refused"),
-        )
-        .expect(&rt, "refused");
+        let ended = run_roomy(alloc, &mut files, words).expect(&rt, "refused");
         checks.holds(ended.is(1, b"", line));
     }
     checks.result()

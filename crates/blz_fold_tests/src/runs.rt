@@ -24,6 +24,11 @@ fn run_to(alloc: Global, files: &mut MemoryFiles, words: &[&str], out: MemorySin
     })
 }
 
+// A run whose sink has room.
+fn run_roomy(alloc: Global, files: &mut MemoryFiles, words: &[&str]) -> Ran {
+    run_to(alloc, files, words, roomy(alloc)?)
+}
+
 // The image `prog`, and these stacks.
 fn holding(alloc: Global, order: ByteOrder, stacks: &[u8]) -> Result<MemoryFiles, AllocError> {
     let mut files = MemoryFiles::new(alloc);
@@ -107,14 +112,9 @@ fn the_first_refusal_decides(rt: HostRuntime) -> Result<(), Fail> {
     ];
     for (words, status, line) in runs {
         checks.holds(
-            run_to(
-                alloc,
-                &mut files,
-                words,
-                roomy(alloc).expect(&rt, "refused"),
-            )
-            .expect(&rt, "refused")
-            .is(status, b"", line),
+            run_roomy(alloc, &mut files, words)
+                .expect(&rt, "refused")
+                .is(status, b"", line),
         );
     }
     checks.result()
@@ -131,13 +131,7 @@ fn a_read_that_fails_is_told_by_its_cause(rt: HostRuntime) -> Result<(), Fail> {
         b"blz_fold: permission denied\n".as_slice(),
         b"blz_fold: other error\n".as_slice(),
     ] {
-        let ended = run_to(
-            alloc,
-            &mut files,
-            &["prog", "stacks"],
-            roomy(alloc).expect(&rt, "refused"),
-        )
-        .expect(&rt, "refused");
+        let ended = run_roomy(alloc, &mut files, &["prog", "stacks"]).expect(&rt, "refused");
         checks.holds(ended.is(1, b"", line));
     }
     checks.result()
@@ -164,23 +158,11 @@ fn other_words_are_told_the_usage(rt: HostRuntime) -> Result<(), Fail> {
         &["--nodes", "--nodes", "prog", "stacks"],
     ];
     for given in words {
-        let ended = run_to(
-            alloc,
-            &mut files,
-            given,
-            roomy(alloc).expect(&rt, "refused"),
-        )
-        .expect(&rt, "refused");
+        let ended = run_roomy(alloc, &mut files, given).expect(&rt, "refused");
         checks.holds(ended.is(2, b"", b"usage: [--nodes] IMAGE STACKS\n"));
     }
     // two words are paths, whatever they begin with
-    let paths = run_to(
-        alloc,
-        &mut files,
-        &["--nodes", "stacks"],
-        roomy(alloc).expect(&rt, "refused"),
-    )
-    .expect(&rt, "refused");
+    let paths = run_roomy(alloc, &mut files, &["--nodes", "stacks"]).expect(&rt, "refused");
     checks.same(paths.status, 1);
     checks.result()
 }

@@ -1,16 +1,11 @@
 //! The file that debug files share, by its build id.
-use super::{differs, holding, is_at, open_lone, open_with, opens_with_common, stands_alone};
+use super::{
+    differs, holding, is_at, open_lone, open_with, opens_with_common, sharing, stands_alone,
+};
 use blz_checks::Checks;
-use blz_images::{ByteOrder, Image, debug_altlink, debug_link, with_build_id, with_section};
+use blz_images::{ByteOrder, Image, debug_altlink, debug_link, with_build_id};
 use blz_links::debug_link_crc32;
-use std::alloc::{AllocError, Global};
 use std::test::Fail;
-
-// an image with a link to a file of a build id
-fn sharing(alloc: Global, path: &str) -> Result<Vec<u8>, AllocError> {
-    let link = debug_altlink(alloc, path, b"12345678")?;
-    with_section(alloc, ".gnu_debugaltlink", &link)
-}
 
 #[test]
 fn a_file_of_the_recorded_build_id_is_shared(rt: HostRuntime) -> Result<(), Fail> {

@@ -1,10 +1,8 @@
 //! Files that fail.
-use super::{DIGITS_CHECKSUM, bytes_of, holding, is_at, linked, open, refusal};
+use super::{holding, is_at, linked, open, refusal, with_common, with_digits};
 use blz_checks::Checks;
 use blz_error::ErrorKind;
-use blz_images::{
-    ByteOrder, debug_altlink, debug_link, nested_functions, with_build_id, with_section,
-};
+use blz_images::{ByteOrder, debug_link, nested_functions, with_section};
 use blz_links::debug_link_crc32;
 use std::alloc::Global;
 use std::test::Fail;
@@ -35,17 +33,7 @@ fn each_call_of_a_search_ends_opening_where_it_fails(rt: HostRuntime) -> Result<
     let alloc = rt.alloc();
     // the path of the linker, a candidate that is not there, the one that is, its bytes
     for call in [2, 3, 5, 6] {
-        let mut files = holding(
-            alloc,
-            linked(alloc, "a.debug", DIGITS_CHECKSUM).expect(&rt, "refused"),
-        )
-        .expect(&rt, "refused");
-        files
-            .put(
-                "/x/a.debug",
-                bytes_of(alloc, b"123456789").expect(&rt, "refused"),
-            )
-            .expect(&rt, "refused");
+        let mut files = with_digits(alloc, "/x/a.debug").expect(&rt, "refused");
         files.fail_at(call, true).expect(&rt, "refused");
         checks.same(
             refusal(open(alloc, &mut files)),
@@ -61,18 +49,7 @@ fn each_call_for_a_shared_file_ends_opening_where_it_fails(rt: HostRuntime) -> R
     let alloc = rt.alloc();
     // the path of the linker, two candidates by build id, two by name, the one that is there, its bytes
     for call in 3..10 {
-        let link = debug_altlink(alloc, "common", b"12345678").expect(&rt, "refused");
-        let mut files = holding(
-            alloc,
-            with_section(alloc, ".gnu_debugaltlink", &link).expect(&rt, "refused"),
-        )
-        .expect(&rt, "refused");
-        files
-            .put(
-                "/x/common",
-                with_build_id(alloc, b"12345678").expect(&rt, "refused"),
-            )
-            .expect(&rt, "refused");
+        let mut files = with_common(alloc, "common", "/x/common").expect(&rt, "refused");
         files.fail_at(call, false).expect(&rt, "refused");
         checks.same(refusal(open(alloc, &mut files)), Some(ErrorKind::Other));
     }

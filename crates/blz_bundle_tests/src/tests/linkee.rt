@@ -1,7 +1,7 @@
 //! The debug file of an image.
 use super::{
-    DIGITS_CHECKSUM, bytes_of, differs, holding, is_at, linked, open, open_lone, open_with,
-    refusal, stands_alone,
+    DIGITS_CHECKSUM, differs, is_at, linked, open, open_lone, open_with, refusal, stands_alone,
+    with_digits,
 };
 use blz_bundle::OwnedBundle;
 use blz_checks::Checks;
@@ -25,19 +25,9 @@ fn the_debug_file_beside_an_image_is_found(rt: HostRuntime) -> Result<(), Fail> 
 fn after_a_checksum_that_differs_no_later_file_is_tried(rt: HostRuntime) -> Result<(), Fail> {
     let mut checks = Checks::new();
     let alloc = rt.alloc();
-    let mut files = holding(
-        alloc,
-        linked(alloc, "a.debug", DIGITS_CHECKSUM).expect(&rt, "refused"),
-    )
-    .expect(&rt, "refused");
+    let mut files = with_digits(alloc, "/usr/lib/debug/x/a.debug").expect(&rt, "refused");
     files
         .put("/x/a.debug", Vec::new(alloc))
-        .expect(&rt, "refused");
-    files
-        .put(
-            "/usr/lib/debug/x/a.debug",
-            bytes_of(alloc, b"123456789").expect(&rt, "refused"),
-        )
         .expect(&rt, "refused");
     // the calls before: a read, the path of the linker, three candidates, a read
     files.fail_at(7, true).expect(&rt, "refused");
@@ -77,17 +67,7 @@ fn the_debug_file_is_found_by_the_build_id_of_the_image(rt: HostRuntime) -> Resu
 fn directories_that_are_handed_in_replace_the_default_ones(rt: HostRuntime) -> Result<(), Fail> {
     let mut checks = Checks::new();
     let alloc = rt.alloc();
-    let mut files = holding(
-        alloc,
-        linked(alloc, "a.debug", DIGITS_CHECKSUM).expect(&rt, "refused"),
-    )
-    .expect(&rt, "refused");
-    files
-        .put(
-            "/opt/debug/a.debug",
-            bytes_of(alloc, b"123456789").expect(&rt, "refused"),
-        )
-        .expect(&rt, "refused");
+    let mut files = with_digits(alloc, "/opt/debug/a.debug").expect(&rt, "refused");
     let dirs = [String::from_str(alloc, "/opt/debug").expect(&rt, "refused")];
     let opened = OwnedBundle::open_with_debug_dirs(alloc, &mut files, "/x/a", &dirs).expect(
         &rt, "refused",

@@ -1,9 +1,8 @@
 //! A file that is gone when it is read.
-use super::{DIGITS_CHECKSUM, bytes_of, holding, linked, refusal};
+use super::{refusal, with_common, with_digits};
 use blz_bundle::OwnedBundle;
 use blz_checks::Checks;
 use blz_error::ErrorKind;
-use blz_images::{debug_altlink, with_build_id, with_section};
 use blz_links::{Files, FilesFault, MemoryFiles, Stamp};
 use std::alloc::Global;
 use std::test::Fail;
@@ -49,17 +48,7 @@ impl Files for Vanishing {
 fn a_debug_file_that_vanishes_is_not_found(rt: HostRuntime) -> Result<(), Fail> {
     let mut checks = Checks::new();
     let alloc = rt.alloc();
-    let mut files = holding(
-        alloc,
-        linked(alloc, "a.debug", DIGITS_CHECKSUM).expect(&rt, "refused"),
-    )
-    .expect(&rt, "refused");
-    files
-        .put(
-            "/x/a.debug",
-            bytes_of(alloc, b"123456789").expect(&rt, "refused"),
-        )
-        .expect(&rt, "refused");
+    let files = with_digits(alloc, "/x/a.debug").expect(&rt, "refused");
     let mut files = Vanishing { files };
     let opened = OwnedBundle::open(alloc, &mut files, "/x/a");
     checks.same(refusal(opened), Some(ErrorKind::NotFound));
@@ -70,18 +59,7 @@ fn a_debug_file_that_vanishes_is_not_found(rt: HostRuntime) -> Result<(), Fail> 
 fn a_shared_file_that_vanishes_is_not_found(rt: HostRuntime) -> Result<(), Fail> {
     let mut checks = Checks::new();
     let alloc = rt.alloc();
-    let link = debug_altlink(alloc, "a.debug", b"12345678").expect(&rt, "refused");
-    let mut files = holding(
-        alloc,
-        with_section(alloc, ".gnu_debugaltlink", &link).expect(&rt, "refused"),
-    )
-    .expect(&rt, "refused");
-    files
-        .put(
-            "/x/a.debug",
-            with_build_id(alloc, b"12345678").expect(&rt, "refused"),
-        )
-        .expect(&rt, "refused");
+    let files = with_common(alloc, "a.debug", "/x/a.debug").expect(&rt, "refused");
     let mut files = Vanishing { files };
     let opened = OwnedBundle::open(alloc, &mut files, "/x/a");
     checks.same(refusal(opened), Some(ErrorKind::NotFound));

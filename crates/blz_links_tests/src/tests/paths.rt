@@ -50,36 +50,17 @@ fn the_root_and_the_empty_path_have_no_parent() -> Result<(), Fail> {
 fn a_file_name_is_replaced_where_there_is_one(rt: HostRuntime) -> Result<(), Fail> {
     let mut checks = Checks::new();
     let alloc = rt.alloc();
-    checks.same(
-        set_file_name(alloc, "/usr/bin/x", "y")
-            .expect(&rt, "refused")
-            .as_str(),
-        "/usr/bin/y",
-    );
-    checks.same(
-        set_file_name(alloc, "/x", "y")
-            .expect(&rt, "refused")
-            .as_str(),
-        "/y",
-    );
-    checks.same(
-        set_file_name(alloc, "x", "y")
-            .expect(&rt, "refused")
-            .as_str(),
-        "y",
-    );
-    checks.same(
-        set_file_name(alloc, "a/..", "y")
-            .expect(&rt, "refused")
-            .as_str(),
-        "a/../y",
-    );
-    checks.same(
-        set_file_name(alloc, "/", "y")
-            .expect(&rt, "refused")
-            .as_str(),
-        "/y",
-    );
+    let cases = [
+        ("/usr/bin/x", "/usr/bin/y"),
+        ("/x", "/y"),
+        ("x", "y"),
+        ("a/..", "a/../y"),
+        ("/", "/y"),
+    ];
+    for (path, wanted) in cases {
+        let replaced = set_file_name(alloc, path, "y").expect(&rt, "refused");
+        checks.same(replaced.as_str(), wanted);
+    }
     checks.result()
 }
 

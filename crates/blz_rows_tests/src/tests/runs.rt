@@ -16,6 +16,11 @@ pub fn run_to(alloc: Global, files: &mut MemoryFiles, words: &[&str], out: Memor
     })
 }
 
+/// A run whose sink has room.
+pub fn run_roomy(alloc: Global, files: &mut MemoryFiles, words: &[&str]) -> Ran {
+    run_to(alloc, files, words, roomy(alloc)?)
+}
+
 pub fn holding(alloc: Global, image: Vec<u8>) -> Result<MemoryFiles, AllocError> {
     let mut files = MemoryFiles::new(alloc);
     files.put("a.elf", image)?;
@@ -41,14 +46,9 @@ fn the_next_line_is_printed_where_there_is_one(rt: HostRuntime) -> Result<(), Fa
     for (place, text) in [("p/a.c:1", b"2\n".as_slice()), ("a.c:3", b"".as_slice())] {
         let words = ["--next", "a.elf", place];
         checks.holds(
-            run_to(
-                alloc,
-                &mut files,
-                &words,
-                roomy(alloc).expect(&rt, "refused"),
-            )
-            .expect(&rt, "refused")
-            .is(0, text, b""),
+            run_roomy(alloc, &mut files, &words)
+                .expect(&rt, "refused")
+                .is(0, text, b""),
         );
     }
     checks.result()
@@ -60,11 +60,10 @@ fn broken_lines_are_told_by_their_kind(rt: HostRuntime) -> Result<(), Fail> {
     let alloc = rt.alloc();
     let image = two_units(alloc, &cut_short(alloc).expect(&rt, "refused")).expect(&rt, "refused");
     let words = ["a.elf", "a.c:2"];
-    let ended = run_to(
+    let ended = run_roomy(
         alloc,
         &mut holding(alloc, image).expect(&rt, "refused"),
         &words,
-        roomy(alloc).expect(&rt, "refused"),
     )
     .expect(&rt, "refused");
     checks.holds(ended.is(1, b"", b"blz_rows: DWARF data invalid\n"));

@@ -1,9 +1,8 @@
 //! What a run writes where a sink or the files fail.
-use crate::tests::runs::{nested, run_to};
+use crate::tests::runs::{nested, run_roomy, run_to};
 use blz_checks::Checks;
 use blz_images::{nested_functions, prefix};
 use blz_resolver::outside::MemorySink;
-use blz_runs::roomy;
 use std::alloc::{AllocError, Global};
 use std::test::Fail;
 
@@ -62,14 +61,9 @@ fn files_that_fail_are_told(rt: HostRuntime) -> Result<(), Fail> {
         let mut files = nested(alloc).expect(&rt, "refused");
         files.fail_at(call, denied).expect(&rt, "refused");
         checks.holds(
-            run_to(
-                alloc,
-                &mut files,
-                &WORDS,
-                roomy(alloc).expect(&rt, "refused"),
-            )
-            .expect(&rt, "refused")
-            .is(1, b"", line),
+            run_roomy(alloc, &mut files, &WORDS)
+                .expect(&rt, "refused")
+                .is(1, b"", line),
         );
     }
     checks.result()
@@ -82,14 +76,9 @@ fn no_third_call_is_made_of_files_without_links(rt: HostRuntime) -> Result<(), F
     let mut files = nested(alloc).expect(&rt, "refused");
     files.fail_at(3, false).expect(&rt, "refused");
     checks.holds(
-        run_to(
-            alloc,
-            &mut files,
-            &WORDS,
-            roomy(alloc).expect(&rt, "refused"),
-        )
-        .expect(&rt, "refused")
-        .is(0, TEXT, b""),
+        run_roomy(alloc, &mut files, &WORDS)
+            .expect(&rt, "refused")
+            .is(0, TEXT, b""),
     );
     checks.result()
 }
@@ -99,13 +88,7 @@ fn a_path_that_names_nothing_and_a_short_image_are_told(rt: HostRuntime) -> Resu
     let mut checks = Checks::new();
     let alloc = rt.alloc();
     let mut files = nested(alloc).expect(&rt, "refused");
-    let missing = run_to(
-        alloc,
-        &mut files,
-        &["b.elf"],
-        roomy(alloc).expect(&rt, "refused"),
-    )
-    .expect(&rt, "refused");
+    let missing = run_roomy(alloc, &mut files, &["b.elf"]).expect(&rt, "refused");
     checks.holds(missing.is(1, b"", b"blz_tool: entity not found\n"));
     files
         .put(
@@ -115,13 +98,7 @@ fn a_path_that_names_nothing_and_a_short_image_are_told(rt: HostRuntime) -> Resu
                 .expect(&rt, "refused"),
         )
         .expect(&rt, "refused");
-    let short = run_to(
-        alloc,
-        &mut files,
-        &["short"],
-        roomy(alloc).expect(&rt, "refused"),
-    )
-    .expect(&rt, "refused");
+    let short = run_roomy(alloc, &mut files, &["short"]).expect(&rt, "refused");
     checks.holds(short.is(1, b"", b"blz_tool: invalid data\n"));
     checks.result()
 }

@@ -12,6 +12,11 @@ pub fn run_to(alloc: Global, files: &mut MemoryFiles, words: &[&str], out: Memor
     run_by(alloc, files, &mut ByStdSort, words, out)
 }
 
+/// A run whose sink has room.
+pub fn run_roomy(alloc: Global, files: &mut MemoryFiles, words: &[&str]) -> Ran {
+    run_to(alloc, files, words, roomy(alloc)?)
+}
+
 /// Runs on these words with these orders.
 pub fn run_by<O: Orders>(
     alloc: Global,
@@ -43,7 +48,7 @@ pub fn written(
     files: &mut MemoryFiles,
     words: &[&str],
 ) -> Result<MemorySink, AllocError> {
-    let ended = run_to(alloc, files, words, roomy(alloc)?)?;
+    let ended = run_roomy(alloc, files, words)?;
     match ended.status {
         0 => Ok(ended.out),
         _ => Ok(ended.line),

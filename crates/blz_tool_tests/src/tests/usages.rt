@@ -1,7 +1,6 @@
 //! Words that are not of their form.
-use crate::tests::runs::{nested, run_to, written};
+use crate::tests::runs::{nested, run_roomy, written};
 use blz_checks::Checks;
-use blz_runs::roomy;
 use std::alloc::{AllocError, Global};
 use std::test::Fail;
 
@@ -11,7 +10,7 @@ const USAGE: &[u8] = b"usage: blz_tool [--basic | --lines] [--debug-dirs A:B] PA
 fn check_usage(checks: &mut Checks, alloc: Global, lists: &[&[&str]]) -> Result<(), AllocError> {
     let mut files = nested(alloc)?;
     for words in lists {
-        let ended = run_to(alloc, &mut files, words, roomy(alloc)?)?;
+        let ended = run_roomy(alloc, &mut files, words)?;
         checks.holds(ended.is(2, b"", USAGE));
     }
     Ok(())
@@ -63,7 +62,7 @@ fn no_words_are_told_the_usage(rt: HostRuntime) -> Result<(), Fail> {
     let alloc = rt.alloc();
     let mut files = nested(alloc).expect(&rt, "refused");
     checks.holds(
-        run_to(alloc, &mut files, &[], roomy(alloc).expect(&rt, "refused"))
+        run_roomy(alloc, &mut files, &[])
             .expect(&rt, "refused")
             .is(2, b"", USAGE),
     );
