@@ -1,5 +1,5 @@
 -- Ranges of one group are weighed as ranges without groups.
-use Rattle.std.proofs.Common.{◌≡◌, ℕ, zero, suc, ◌+◌, ◌*◌, ◌≤◌, Bool, true, List, [], ◌∷◌, map, length, Option, Some, None, refl, sym, ap, arith, ◌∙◌}
+use Rattle.std.proofs.Common.{◌≡◌, ℕ, zero, suc, ◌+◌, ◌*◌, ◌<◌, ◌≤◌, Bool, true, List, [], ◌∷◌, map, length, Option, Some, None, refl, sym, ap, subst, arith, ◌∙◌, ◌⊎◌}
 use Rattle.std.specs.Prelude.{option_map}
 use Rattle.std.specs.List.{slice_get}
 use Rattle.std.proofs.lemmas.Bool.{and_parts, and_from, eq-eqb}
@@ -51,6 +51,17 @@ pub apart_alone : (g : ℕ) (list : List Grouped) → AllInGroup g list → AreA
 apart_alone g list all apart = record {
   nonempty = λ p x is. apart.nonempty p x.span (span_there list p x is);
   apart = λ p q x y ne is isy s. apart.apart p q x.span y.span ne (span_there list p x is) (span_there list q y isy);
+}
+
+pub apart_in_one : (g : ℕ) (list : List Grouped) → AllInGroup g list → AreApartInGroups list → AreApart (spans_of list)
+apart_in_one g list all apart = record {
+  nonempty = λ p s is. let x = source list p s is in subst (λ (t : Span). t.begin < t.end) x.span_is (apart.nonempty p x.item x.is);
+  apart = λ p q s t ne is ist.
+      let x = source list p s is in
+      let y = source list q t ist in
+      let h = apart.apart p q x.item y.item ne x.is y.is (all p x.item x.is ∙ sym (all q y.item y.is)) in
+      let k = subst (λ (u : Span). (u.end ≤ y.item.span.begin) ⊎ (y.item.span.end ≤ u.begin)) x.span_is h in
+      subst (λ (u : Span). (s.end ≤ u.begin) ⊎ (u.end ≤ s.begin)) y.span_is k;
 }
 
 pub all_in_one : (spans : List Span) (p : ℕ) (x : Grouped) → slice_get (map (grouped 0) spans) p ≡ Some x → x.group ≡ 0

@@ -24,7 +24,22 @@ source [] q t h = absurd cc
 source (x ∷ xs) zero t h = record { item = x; is = refl; span_is = cc }
 source (x ∷ xs) (suc q) t h = let r = source xs q t h in record { item = r.item; is = r.is; span_is = r.span_is }
 
--- a range that passes has its entry in the order
+-- a range has its entry in the order
+pub record Entered (es : List Ordered) (p : ℕ) (x : Grouped) : Type 0 where
+  pub at : ℕ
+  pub entry : Ordered
+  pub is : slice_get es at ≡ Some entry
+  pub place_is : entry.place ≡ p
+  pub range_is : range_of entry ≡ x
+
+pub entered : (list : List Grouped) (es : List Ordered) (p : ℕ) (x : Grouped) → IsIndexOf list es → slice_get list p ≡ Some x → Entered es p x
+entered list es p x index is =
+    let h = index.every p x is in
+    let k : slice_get list p ≡ Some (range_of h.entry) = subst (λ (n : ℕ). slice_get list n ≡ Some (range_of h.entry)) h.place_is (index.entry h.at h.entry h.is) in
+    let w : range_of h.entry ≡ x = cc in
+    record { at = h.at; entry = h.entry; is = h.is; place_is = h.place_is; range_is = w }
+
+-- one that passes has an entry that does
 record Held (list : List Grouped) (es : List Ordered) (g a : ℕ) (after : Option Placed) (q : ℕ) (t : Span) : Type 0 where
   pub at : ℕ
   pub entry : Ordered
@@ -41,12 +56,10 @@ passes_at a after p q s t e f h =
 held : (list : List Grouped) (es : List Ordered) (g a : ℕ) (after : Option Placed) (q : ℕ) (t : Span) → IsIndexOf list es → slice_get (spans_of list) q ≡ Some t → in_group list g (passes a after) q t ≡ true → Held list es g a after q t
 held list es g a after q t index is p =
     let s = source list q t is in
-    let h = index.every q s.item s.is in
-    let k : slice_get list q ≡ Some (range_of h.entry) = subst (λ (n : ℕ). slice_get list n ≡ Some (range_of h.entry)) h.place_is (index.entry h.at h.entry h.is) in
-    let w : s.item ≡ range_of h.entry = cc in
-    let span : h.entry.span ≡ t = sym (ap (λ (x : Grouped). x.span) w) ∙ s.span_is in
+    let h = entered list es q s.item index s.is in
+    let span : h.entry.span ≡ t = ap (λ (x : Grouped). x.span) h.range_is ∙ s.span_is in
     let c = and_parts _ _ p in
-    let group : eqb h.entry.group g ≡ true = sym (ap (group_is g) k) ∙ c.0 in
+    let group : eqb h.entry.group g ≡ true = ap (λ (x : Grouped). eqb x.group g) h.range_is ∙ (sym (ap (group_is g) s.is) ∙ c.0) in
     record { at = h.at; entry = h.entry; is = h.is; place_is = h.place_is; span_is = span; passes = and_from _ _ group (passes_at a after h.entry.place q h.entry.span t h.place_is span c.1) }
 
 carried : (list : List Grouped) (es : List Ordered) (g a : ℕ) (after : Option Placed) (best : Option Ordered) → IsIndexOf list es → IsFound es g a after best → IsBest (in_group list g (passes a after)) (spans_of list) (place_found best)

@@ -10,3 +10,4 @@ pub mod OwnedItems
 pub mod OneCovers
 pub mod ListEnds
 pub mod Turning
+pub mod Chains

@@ -8,7 +8,7 @@ ghost use Rattle.blz_ranges.specs.Keyed.{AreKeysOf, IsAccepted};
 ghost use Rattle.blz_ranges.specs.Ranges.{GroupedRanges, IsIndexIf};
 
 use crate::grouped::{Grouped, first_places, search_order};
-use crate::ordered::{Ordered, Target, last_before, place_found, split};
+use crate::ordered::{Ordered, Target, is_chain, last_before, place_found, split};
 use crate::placed::{Placed, passes, place_of};
 use crate::skips::{Skip, skips_of};
 use crate::span::Span;
@@ -110,6 +110,14 @@ impl GroupIndex {
         ensures { result ≡ self.now.ordered }
     {
         self.ordered
+    }
+
+    /// Whether the order shows that the ranges are not empty and no two of a group share an address. False where no
+    /// order was accepted.
+    pub fn is_apart<L: Ledger>(&self, steps: &mut Steps<L>) -> bool
+        ensures { result ≡ true → AreApartInGroups self.now.list }
+    {
+        self.ordered && is_chain(&self.order, steps)
     }
 
     /// The range at a place, for one step.

@@ -109,6 +109,24 @@ impl RangeIndex {
         self.best_at(addr, &mut steps)
     }
 
+    fn apart_from<L: Ledger>(&self, blank: Blank) -> bool
+        requires name { blank.name ≡ L.name }
+        requires parts { blank.parts ≡ L.parts }
+        requires some { 0 < blank.parts }
+        ensures { result ≡ true → AreApart self.now.spans }
+    {
+        let mut steps: Steps<L> = Steps::new(blank);
+        self.index.is_apart(&mut steps)
+    }
+
+    /// Whether the order shows that the ranges are not empty and no two share an address. False where no order was
+    /// accepted. For a caller that counts no looks.
+    pub fn is_apart(&self) -> bool
+        ensures { result ≡ true → AreApart self.now.spans }
+    {
+        self.apart_from::<Brand>(Blank::new(1))
+    }
+
     /// The place of the best range that covers an address, for a caller that counts no looks.
     pub fn find(&self, addr: u64) -> Option<usize>
         ensures { result ≡ best self.now.spans addr }
