@@ -14,15 +14,19 @@ use Rattle.blz_ranges.specs.Sorted.{range_of, IsIndexOf, IsChain}
 use Rattle.blz_ranges.specs.Search.{tests, IsFound, place_found}
 use Rattle.blz_ranges.proofs.BestOf.{best_is}
 
-record Source (list : List Grouped) (q : ℕ) (t : Span) : Type 0 where
+-- a range of the list has a grouped one at its place
+pub record Source (list : List Grouped) (q : ℕ) (t : Span) : Type 0 where
   pub item : Grouped
   pub is : slice_get list q ≡ Some item
   pub span_is : item.span ≡ t
 
-source : (list : List Grouped) (q : ℕ) (t : Span) → slice_get (spans_of list) q ≡ Some t → Source list q t
+pub source : (list : List Grouped) (q : ℕ) (t : Span) → slice_get (spans_of list) q ≡ Some t → Source list q t
 source [] q t h = absurd cc
 source (x ∷ xs) zero t h = record { item = x; is = refl; span_is = cc }
 source (x ∷ xs) (suc q) t h = let r = source xs q t h in record { item = r.item; is = r.is; span_is = r.span_is }
+
+pub span_there : (list : List Grouped) (p : ℕ) (x : Grouped) → slice_get list p ≡ Some x → slice_get (spans_of list) p ≡ Some x.span
+span_there list p x is = slice_get-map (λ (e : Grouped). e.span) list p ∙ ap (option_map (λ (e : Grouped). e.span)) is
 
 -- a range has its entry in the order
 pub record Entered (es : List Ordered) (p : ℕ) (x : Grouped) : Type 0 where
@@ -69,7 +73,7 @@ carried list es g a after (Some b) index h =
     let c = and_parts _ _ h.passes in
     record {
       span = b.span;
-      at = slice_get-map (λ (e : Grouped). e.span) list b.place ∙ ap (option_map (λ (e : Grouped). e.span)) x;
+      at = span_there list b.place (range_of b) x;
       passes = and_from _ _ (ap (group_is g) x ∙ c.0) c.1;
       first = λ q t is p.
           let k = held list es g a after q t index is p in
@@ -91,8 +95,7 @@ bound_at bound s = record { place = bound; span = s }
 pub placed_is : (list : List Grouped) (bound : ℕ) (x : Grouped) → slice_get list bound ≡ Some x → placed (spans_of list) bound ≡ record { place = bound; span = x.span }
 unfolding bound_at
 placed_is list bound x is =
-    let s : slice_get (spans_of list) bound ≡ Some x.span = slice_get-map (λ (e : Grouped). e.span) list bound ∙ ap (option_map (λ (e : Grouped). e.span)) is in
-    ap (bound_at bound) (get_or_from_slice_get (spans_of list) bound x.span no_span s)
+    ap (bound_at bound) (get_or_from_slice_get (spans_of list) bound x.span no_span (span_there list bound x is))
 
 pub after_found : (list : List Grouped) (es : List Ordered) (g a : ℕ) (b : Placed) (best : Option Ordered) → IsIndexOf list es → IsFound es g a (Some b) best → place_found best ≡ after_in list g a b
 after_found list es g a b best index h = found_by list es g a (Some b) best index h
