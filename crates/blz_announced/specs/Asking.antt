@@ -1,5 +1,5 @@
 -- What is asked of the ranges that a question sees.
-use Rattle.std.specs.Prelude.{◌≡◌, ℕ, ◌≤◌, ◌+◌, ◌*◌, ◌^◌, true, List, length, Option, Some}
+use Rattle.std.specs.Prelude.{◌≡◌, ℕ, ◌<◌, ◌≤◌, ◌+◌, ◌*◌, ◌^◌, true, List, length, Option, Some}
 use Rattle.std.specs.List.{slice_get}
 use Rattle.blz_ranges.specs.declared.placed.Placed.{Placed}
 use Rattle.blz_ranges.specs.declared.span.Span.{Span}
@@ -18,6 +18,10 @@ use Rattle.blz_announced.specs.declared.units_at.Turn.{Turn}
 
 abbrev pub ranges_seen : Asked → Announced → List (Owned Span)
 ranges_seen asked a = seen asked a.kept.ranges
+
+-- a number of a unit
+abbrev pub IsUnit : Announced → ℕ → Type 0
+IsUnit a unit = unit < length a.keepers
 
 -- ---- places
 

@@ -1,8 +1,8 @@
 //! The ranges that units announce. What several units announce is kept once.
-ghost use Rattle.std.specs.Prelude.{◌≡◌, ◌<◌, ◌≤◌, ◌-◌, length, None, IfOk, IfSome};
+ghost use Rattle.std.specs.Prelude.{◌≡◌, ◌≤◌, ◌-◌, length, None, IfOk, IfSome};
 ghost use Rattle.blz_ranges.specs.Owned.{items_of, owned, owner_at};
 ghost use Rattle.blz_announced.specs.Announced.{unit_at};
-ghost use Rattle.blz_announced.specs.Asking.{EndsUnit, FirstIsUpTo, HasPlace, IsBestPlace, IsLastPlace, IsNextPlace, IsOwnUpTo, TakesFew};
+ghost use Rattle.blz_announced.specs.Asking.{EndsUnit, FirstIsUpTo, HasPlace, IsBestPlace, IsLastPlace, IsNextPlace, IsOwnUpTo, IsUnit, TakesFew};
 ghost use Rattle.blz_announced.specs.Copies.{announced_all, begins_in, begun, kept_at, moved, span_at, AreKeepers, IsOrderedBy};
 ghost use Rattle.blz_announced.specs.Seen.{by_owner};
 
@@ -185,7 +185,7 @@ impl Announced {
         before: Option<usize>,
         steps: &mut Steps<L>,
     ) -> Option<usize>
-        requires unit { unit < length self.now.keepers }
+        requires unit { IsUnit self.now unit }
         requires some { FirstIsUpTo asked self.now unit }
         ensures next { IsOwnUpTo asked self.now unit begin before result }
         ensures later { steps.old ≤ steps.new }

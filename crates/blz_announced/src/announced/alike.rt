@@ -1,6 +1,6 @@
 //! The ranges that begin alike.
-ghost use Rattle.std.specs.Prelude.{◌≡◌, ◌<◌, ◌≤◌, true, length};
-ghost use Rattle.blz_announced.specs.Asking.{IsFirstOf, IsFirstOfUnit};
+ghost use Rattle.std.specs.Prelude.{◌≡◌, ◌≤◌, true};
+ghost use Rattle.blz_announced.specs.Asking.{IsFirstOf, IsFirstOfUnit, IsUnit};
 ghost use Rattle.blz_announced.specs.Copies.{are_alike, goes_on};
 ghost use Rattle.blz_announced.specs.Repeats.{is_alike, IsFirstAlike, IsNextBegun};
 
@@ -88,7 +88,7 @@ impl Announced {
         begin: u64,
         steps: &mut Steps<L>,
     ) -> Option<usize>
-        requires { keeper < length self.now.keepers }
+        requires { IsUnit self.now keeper }
         ensures first { IsFirstAlike self.now.kept.ranges keeper addr begin result }
         ensures later { steps.old ≤ steps.new }
     {
@@ -136,7 +136,7 @@ impl Announced {
         begin: u64,
         steps: &mut Steps<L>,
     ) -> Option<usize>
-        requires { keeper < length self.now.keepers }
+        requires { IsUnit self.now keeper }
         ensures first { IsFirstOf asked self.now keeper begin result }
         ensures later { steps.old ≤ steps.new }
     {
@@ -155,7 +155,7 @@ impl Announced {
         begin: u64,
         steps: &mut Steps<L>,
     ) -> Option<usize>
-        requires { unit < length self.now.keepers }
+        requires { IsUnit self.now unit }
         ensures first { IsFirstOfUnit asked self.now unit begin result }
         ensures later { steps.old ≤ steps.new }
     {
