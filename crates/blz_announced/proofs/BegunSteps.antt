@@ -8,7 +8,7 @@ use Rattle.blz_ranges.specs.declared.span.Span.{Span}
 use Rattle.blz_ranges.specs.declared.placed.Placed.{Placed}
 use Rattle.blz_ranges.specs.Best.{next_after}
 use Rattle.blz_ranges.specs.Owned.{Owned, items_of, owner_at}
-use Rattle.blz_announced.specs.Copies.{begins_in, no_longer, IsKept}
+use Rattle.blz_announced.specs.Copies.{begins_in, no_longer, where_begins, IsKept}
 use Rattle.blz_announced.specs.Repeats.{begins_at, sooner, IsAlike, IsAlikeOf, IsFirstRepeat, IsNextBegun, IsNextOf, IsRepeatOf, RepeatsAt}
 use Rattle.blz_announced.specs.Seen.{is_seen, seen}
 use Rattle.blz_announced.specs.declared.announced.Asked.{Asked}
@@ -26,10 +26,10 @@ module _ (kept : List (Owned Span)) (addr begin place : ℕ) where
   pub next_by : {spans : List Span} {b : Placed} {o : Option ℕ} → spans ≡ items_of kept → b ≡ record { place = place; span = no_longer begin } → o ≡ next_after spans addr b → IsNext (items_of kept) addr place (no_longer begin) o
   next_by {spans = spans} {b = b} {o = o} same e is = after_is (items_of kept) addr place (no_longer begin) o (is ∙ (ap (λ (l : List Span). next_after l addr b) same ∙ ap (λ (c : Placed). next_after (items_of kept) addr c) e))
 
-  pub begun_none : IsNext (items_of kept) addr place (no_longer begin) None → IsNextBegun kept addr begin place None
+  begun_none : IsNext (items_of kept) addr place (no_longer begin) None → IsNextBegun kept addr begin place None
   begun_none n = λ k q a lt. n q a.span (alike_item k q a) a.reached (inr (a.begins, lt))
 
-  pub begun_here : (r : ℕ) (n : IsNextAt (items_of kept) addr place (no_longer begin) r) → begins_in kept begin r ≡ true → IsNextBegun kept addr begin place (Some r)
+  begun_here : (r : ℕ) (n : IsNextAt (items_of kept) addr place (no_longer begin) r) → begins_in kept begin r ≡ true → IsNextBegun kept addr begin place (Some r)
   begun_here r n t =
       let h = has_item kept r n.at in
       let begins : n.span.begin ≡ begin = eqb-true n.span.begin begin (sym (begins_is kept begin r n.at) ∙ t) in
@@ -44,7 +44,7 @@ module _ (kept : List (Owned Span)) (addr begin place : ℕ) where
       by e (inl less) = absurd (omega arith)
       by e (inr h) = h.1
 
-  pub begun_below : (r : ℕ) (n : IsNextAt (items_of kept) addr place (no_longer begin) r) → begins_in kept begin r ≡ false → IsNextBegun kept addr begin place None
+  begun_below : (r : ℕ) (n : IsNextAt (items_of kept) addr place (no_longer begin) r) → begins_in kept begin r ≡ false → IsNextBegun kept addr begin place None
   begun_below r n f = λ k q a lt.
       let below = (n.first q a.span (alike_item k q a) a.reached (inr (a.begins, lt))).below in
       let e = a.begins in
@@ -54,6 +54,10 @@ module _ (kept : List (Owned Span)) (addr begin place : ℕ) where
       by : begin ≤ n.span.begin → After place (no_longer begin) r n.span → n.span.begin ≡ begin
       by le (inl less) = absurd (omega arith)
       by le (inr h) = h.0
+
+  pub begun_by : (o : Option ℕ) → IsNext (items_of kept) addr place (no_longer begin) o → IsNextBegun kept addr begin place (where_begins kept begin o)
+  begun_by None n = begun_none n
+  begun_by (Some r) n = elim (cases_Bool (begins_in kept begin r)) [ inl t ↦ rw t (begun_here r n t) | inr f ↦ rw f (begun_below r n f) ]
 
 -- ---- the keeper of one that is seen
 

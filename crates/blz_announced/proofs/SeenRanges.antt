@@ -9,7 +9,7 @@ use Rattle.blz_ranges.specs.Best.{best, covers, no_span, passes, NotAfter, IsBes
 use Rattle.blz_ranges.specs.Groups.{best_in, group_is, grouped, in_group, spans_of}
 use Rattle.blz_ranges.specs.Owned.{Owned, items_of, owner_at}
 use Rattle.blz_ranges.proofs.BestOf.{best_is, best_is_best}
-use Rattle.blz_announced.specs.Copies.{begins_in, begun, comes_first, kept_at, same_number, up_to, AreEnds, HaveKeepers, IsKept, IsNextOwn, IsPlaced}
+use Rattle.blz_announced.specs.Copies.{begins_in, begun, comes_first, kept_at, same_number, up_to, where_begins, AreEnds, HaveKeepers, IsKept, IsNextOwn, IsPlaced}
 use Rattle.blz_announced.specs.Repeats.{IsAlike, IsFirstAlike, IsLast}
 use Rattle.blz_announced.specs.Seen.{by_owner, hidden, is_seen, seen, seen_from}
 use Rattle.blz_announced.specs.declared.announced.Asked.{Asked}
@@ -216,22 +216,26 @@ module _ (asked : Asked) (kept : List (Owned Span)) (once : asked.once ≡ true)
   seen_alike : (keeper begin q : ℕ) (a : IsAlike (seen asked kept) keeper asked.addr begin q) → best_in (by_owner kept) keeper asked.addr ≡ Some q
   seen_alike keeper begin q a = let h = seen_there asked kept asked.addr q a.is a.reached in seen_best q keeper a.span h.is h.seen
 
-  pub alike_none : (keeper begin : ℕ) → best_in (by_owner kept) keeper asked.addr ≡ None → IsFirstAlike (seen asked kept) keeper asked.addr begin None
+  alike_none : (keeper begin : ℕ) → best_in (by_owner kept) keeper asked.addr ≡ None → IsFirstAlike (seen asked kept) keeper asked.addr begin None
   alike_none keeper begin e = λ q a. let k = sym e ∙ seen_alike keeper begin q a in absurd cc
 
-  pub alike_here : (keeper begin p : ℕ) → best_in (by_owner kept) keeper asked.addr ≡ Some p → begins_in kept begin p ≡ true → IsFirstAlike (seen asked kept) keeper asked.addr begin (Some p)
+  alike_here : (keeper begin p : ℕ) → best_in (by_owner kept) keeper asked.addr ≡ Some p → begins_in kept begin p ≡ true → IsFirstAlike (seen asked kept) keeper asked.addr begin (Some p)
   alike_here keeper begin p e t =
       let b : IsBestOf kept keeper asked.addr p = best_of_keeper kept keeper asked.addr (Some p) e in
       let is = seen_itself asked kept p b.own.is (best_seen p keeper b.span b.own.is e) in
       let begins : b.span.begin ≡ begin = eqb-true b.span.begin begin (sym (begins_is kept begin p (item_at kept p b.own.is)) ∙ t) in
       (record { span = b.span; is = is; begins = begins; reached = b.own.reached }, λ q a. let same : p ≡ q = some_is (sym e ∙ seen_alike keeper begin q a) in omega arith)
 
-  pub alike_other : (keeper begin p : ℕ) → best_in (by_owner kept) keeper asked.addr ≡ Some p → begins_in kept begin p ≡ false → IsFirstAlike (seen asked kept) keeper asked.addr begin None
+  alike_other : (keeper begin p : ℕ) → best_in (by_owner kept) keeper asked.addr ≡ Some p → begins_in kept begin p ≡ false → IsFirstAlike (seen asked kept) keeper asked.addr begin None
   alike_other keeper begin p e f = λ q a.
       let h = seen_there asked kept asked.addr q a.is a.reached in
       let same : q ≡ p = some_is (sym (seen_best q keeper a.span h.is h.seen) ∙ e) in
       let t = begins_is kept begin q (item_at kept q h.is) ∙ eq-eqb a.span.begin begin a.begins in
       false≢true (sym f ∙ subst (λ (n : ℕ). begins_in kept begin n ≡ true) same t)
+
+  pub alike_best : (keeper begin : ℕ) (o : Option ℕ) → best_in (by_owner kept) keeper asked.addr ≡ o → IsFirstAlike (seen asked kept) keeper asked.addr begin (where_begins kept begin o)
+  alike_best keeper begin None e = alike_none keeper begin e
+  alike_best keeper begin (Some p) e = elim (cases_Bool (begins_in kept begin p)) [ inl t ↦ rw t (alike_here keeper begin p e t) | inr f ↦ rw f (alike_other keeper begin p e f) ]
 
 -- ---- the best of all is seen
 

@@ -242,6 +242,11 @@ no_longer begin = record { begin = begin; end = begin }
 abbrev pub begins_in : List (Owned Span) → ℕ → ℕ → Bool
 begins_in kept begin place = begin_alike (span_at kept place) (Some (no_longer begin))
 
+-- a range that was found, where it begins at a number
+abbrev pub where_begins : List (Owned Span) → ℕ → Option ℕ → Option ℕ
+where_begins kept begin None = None
+where_begins kept begin (Some place) = if begins_in kept begin place then Some place else None
+
 abbrev pub is_below : ℕ → Option ℕ → Bool
 is_below unit None = false
 is_below unit (Some keeper) = nat_lt keeper unit

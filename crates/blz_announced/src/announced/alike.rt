@@ -1,7 +1,7 @@
 //! The ranges that begin alike.
 ghost use Rattle.std.specs.Prelude.{◌≡◌, ◌≤◌, true};
 ghost use Rattle.blz_announced.specs.Asking.{IsFirstOf, IsFirstOfUnit, IsUnit};
-ghost use Rattle.blz_announced.specs.Copies.{are_alike, goes_on};
+ghost use Rattle.blz_announced.specs.Copies.{goes_on, where_begins};
 ghost use Rattle.blz_announced.specs.Repeats.{is_alike, IsFirstAlike, IsNextBegun};
 
 use crate::announced::{Announced, Asked};
@@ -10,22 +10,7 @@ use blz_bytes::Steps;
 use std::sync::ledger::Ledger;
 
 impl Announced {
-    /// Whether two ranges are of one keeper and begin alike.
-    pub(crate) fn are_alike<L: Ledger>(
-        &self,
-        place: usize,
-        next: usize,
-        steps: &mut Steps<L>,
-    ) -> bool
-        ensures is { result ≡ are_alike self.now.kept.ranges place next }
-        ensures later { steps.old ≤ steps.new }
-    {
-        if !same_number(self.keeper(place), self.keeper(next)) {
-            return false;
-        }
-        begin_alike(self.span(place, steps), self.span(next, steps))
-    }
-
+    /// Whether a range that was found is of one keeper with the one at a place and begins alike.
     pub(crate) fn goes_on<L: Ledger>(
         &self,
         place: usize,
@@ -35,9 +20,32 @@ impl Announced {
         ensures is { result ≡ goes_on self.now.kept.ranges place next }
         ensures later { steps.old ≤ steps.new }
     {
-        match next {
-            Some(next) => self.are_alike(place, next, steps),
-            None => false,
+        let Some(next) = next else {
+            return false;
+        };
+        if !same_number(self.keeper(place), self.keeper(next)) {
+            return false;
+        }
+        begin_alike(self.span(place, steps), self.span(next, steps))
+    }
+
+    /// A range that was found, where it begins at a number.
+    fn where_begins<L: Ledger>(
+        &self,
+        begin: u64,
+        found: Option<usize>,
+        steps: &mut Steps<L>,
+    ) -> Option<usize>
+        ensures is { result ≡ where_begins self.now.kept.ranges begin found }
+        ensures later { steps.old ≤ steps.new }
+    {
+        match found {
+            Some(place) => if self.begins(begin, place, steps) {
+                Some(place)
+            } else {
+                None
+            },
+            None => None,
         }
     }
 
@@ -52,14 +60,8 @@ impl Announced {
         ensures next { IsNextBegun self.now.kept.ranges addr begin place result }
         ensures later { steps.old ≤ steps.new }
     {
-        let Some(next) = self.index.next_after(addr, behind(place, begin), steps) else {
-            return None;
-        };
-        if self.begins(begin, next, steps) {
-            Some(next)
-        } else {
-            None
-        }
+        let next = self.index.next_after(addr, behind(place, begin), steps);
+        self.where_begins(begin, next, steps)
     }
 
     /// Whether a range is one of a keeper that covers an address and begins at a number.
@@ -118,14 +120,8 @@ impl Announced {
         ensures first { IsFirstOf asked self.now keeper begin result }
         ensures later { steps.old ≤ steps.new }
     {
-        let Some(place) = self.by_keeper.best_in(keeper, asked.addr, steps) else {
-            return None;
-        };
-        if self.begins(begin, place, steps) {
-            Some(place)
-        } else {
-            None
-        }
+        let best = self.by_keeper.best_in(keeper, asked.addr, steps);
+        self.where_begins(begin, best, steps)
     }
 
     /// The first of the ranges of a keeper that are seen and begin at a number.
