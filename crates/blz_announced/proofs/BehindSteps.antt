@@ -1,11 +1,11 @@
 -- What is next behind the ranges of a unit that begin alike: the next own range, or the next unit that is not its own keeper.
-use Rattle.std.proofs.Common.{◌≡◌, ℕ, true, Option, Some, None, refl, sym, ap, subst, ◌∙◌, inl, inr}
+use Rattle.std.proofs.Common.{◌≡◌, ℕ, true, false, Option, Some, None, refl, sym, ap, subst, ◌∙◌, inl, inr}
 use Rattle.std.specs.Prelude.{is_some}
 use Rattle.std.proofs.lemmas.Bool.{cases_Bool, false≢true}
 use Rattle.blz_announced.specs.Announced.{unit_at}
 use Rattle.blz_announced.specs.Asking.{ranges_seen, EndsUnit, FirstIsUpTo, HasNear, HasNextRepeat, IsNextPlace, IsOwnUpTo}
 use Rattle.blz_announced.specs.Copies.{begun, comes_first, Announced}
-use Rattle.blz_announced.specs.Repeats.{unit_near, NoRepeatBefore}
+use Rattle.blz_announced.specs.Repeats.{near_of, unit_near, NoRepeatBefore}
 use Rattle.blz_announced.specs.Seen.{seen_by}
 use Rattle.blz_announced.specs.declared.announced.Asked.{Asked}
 use Rattle.blz_announced.specs.declared.announced.Place.{Place}
@@ -13,6 +13,20 @@ use Rattle.blz_announced.specs.declared.announced.repeats.Near.{Near}
 use Rattle.blz_announced.specs.declared.announced.repeats.Near.TheVariants.{Found, NoneBefore, NoneLeft}
 use Rattle.blz_announced.proofs.PlaceSteps.{behind_by, first_owner, IsBehindUnit}
 use Rattle.blz_announced.proofs.SeenRanges.{begun_seen, comes_seen}
+
+-- how often further units are still to be asked
+abbrev pub asks_left : Near → ℕ
+asks_left (Found at) = 0
+asks_left (NoneBefore bound) = 1
+asks_left NoneLeft = 0
+
+pub none_asked : (found : Option Place) → asks_left (near_of found) ≡ 0
+none_asked None = refl
+none_asked (Some at) = refl
+
+pub all_asked : (asked : Asked) (a : Announced) (unit begin : ℕ) (found : Option Place) → HasNextRepeat asked a unit begin found → HasNear asked a unit begin (near_of found)
+all_asked asked a unit begin None h = h
+all_asked asked a unit begin (Some at) h = h
 
 module _ (asked : Asked) (a : Announced) (at : Place) (begin : ℕ) (ends : EndsUnit asked a at begin) where
   pub first_up_to : FirstIsUpTo asked a at.unit
@@ -45,22 +59,27 @@ module _ (asked : Asked) (a : Announced) (at : Place) (begin : ℕ) (ends : Ends
     | inr f ↦ absurd (let k = sym (rw f at u.up_to_it) ∙ e in cc)
   ]
 
-  pub own_before : (repeat : Option Place) → Repeats repeat → (found : Option ℕ) (p : ℕ) → IsUpTo (unit_at repeat) found → found ≡ Some p → Behind (begun a.kept.ranges found)
-  own_before None r found p u e = own_up_to None r found p u e
-  own_before (Some repeat) r found p u e = own_up_to (Some repeat.unit) (λ other q b. r.least other q tt b) found p u e
-
   pub own_near : (near : Near) → HasNear asked a at.unit begin near → (found : Option ℕ) → IsUpTo (unit_near near) found → is_some found ≡ true → Behind (begun a.kept.ranges found)
   own_near near n None u e = absurd cc
-  own_near (Found repeat) n (Some p) u e = own_before (Some repeat) n (Some p) p u refl
+  own_near (Found repeat) n (Some p) u e = own_up_to (Some repeat.unit) (λ other q b. n.least other q tt b) (Some p) p u refl
   own_near (NoneBefore bound) n (Some p) u e = own_up_to (Some bound) n (Some p) p u refl
   own_near NoneLeft n (Some p) u e = own_up_to None n (Some p) p u refl
 
   comes_there : (unit : ℕ) (o : Option ℕ) → comes_first a.kept.ranges begin unit o ≡ true → o ≡ None → ⊥
   comes_there unit o t e = false≢true (sym (ap (comes_first a.kept.ranges begin unit) e) ∙ t)
 
-  pub repeat_up_to : (repeat : Option Place) → Repeats repeat → (found : Option ℕ) → IsUpTo (unit_at repeat) found → found ≡ None → Behind repeat
+  repeat_up_to : (repeat : Option Place) → Repeats repeat → (found : Option ℕ) → IsUpTo (unit_at repeat) found → found ≡ None → Behind repeat
   repeat_up_to None r found u e = subst (λ (o : Option ℕ). Behind (begun (ranges_seen asked a) o)) (sym u.up_to_it ∙ e) (by.own u.own u.is r)
   repeat_up_to (Some repeat) r found u e = elim (cases_Bool (comes_first a.kept.ranges begin repeat.unit u.own)) [
     | inl t ↦ absurd (comes_there repeat.unit u.own t (sym (rw t at u.up_to_it) ∙ e))
     | inr f ↦ by.repeat u.own u.is repeat r (comes_seen asked a.kept.ranges at.unit begin repeat.unit u.own u.is ∙ f)
   ]
+
+  none_or_repeat : (repeat : Option Place) (found : Option ℕ) → HasNear asked a at.unit begin (near_of repeat) → IsUpTo (unit_near (near_of repeat)) found → is_some found ≡ false → Behind repeat
+  none_or_repeat repeat (Some p) n u f = absurd cc
+  none_or_repeat None None n u f = repeat_up_to None n None u refl
+  none_or_repeat (Some repeat) None n u f = repeat_up_to (Some repeat) n None u refl
+
+  -- where no own range comes before the unit that was found, or none was
+  pub repeat_near : (repeat : Option Place) (near : Near) → near ≡ near_of repeat → HasNear asked a at.unit begin near → (found : Option ℕ) → IsUpTo (unit_near near) found → is_some found ≡ false → Behind repeat
+  repeat_near repeat near e n found u f = none_or_repeat repeat found (subst (λ (m : Near). HasNear asked a at.unit begin m) e n) (subst (λ (m : Near). IsUpTo (unit_near m) found) e u) f

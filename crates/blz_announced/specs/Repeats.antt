@@ -131,6 +131,11 @@ IsNear kept keepers unit addr begin (Found at) = IsNextRepeat kept keepers unit 
 IsNear kept keepers unit addr begin (NoneBefore bound) = NoRepeatBefore kept keepers unit addr begin bound
 IsNear kept keepers unit addr begin NoneLeft = IsNextRepeat kept keepers unit addr begin None
 
+-- what they tell when all were asked
+abbrev pub near_of : Option Place → Near
+near_of None = NoneLeft
+near_of (Some at) = Found at
+
 -- the unit before which there is none
 abbrev pub unit_near : Near → Option ℕ
 unit_near (Found at) = Some at.unit

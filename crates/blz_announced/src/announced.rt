@@ -10,7 +10,7 @@ mod alike;
 mod repeats;
 mod seeing;
 
-use crate::announced::repeats::{Near, repeats_by_keeper, unit_near};
+use crate::announced::repeats::{Near, near_of, repeats_by_keeper, unit_near};
 use crate::comparing::{begin_alike, behind, no_longer};
 use crate::keepers::Keepers;
 use blz_bytes::{Orders, Steps};
@@ -197,28 +197,8 @@ impl Announced {
         self.next_seen(asked, behind(end - 1, begin), before, steps)
     }
 
-    /// Where the next units that are not their own keepers have no range that begins alike, and no further own range comes
-    /// before them.
-    fn behind_far<L: Ledger>(
-        &self,
-        asked: Asked,
-        at: Place,
-        begin: u64,
-        steps: &mut Steps<L>,
-    ) -> Option<Place>
-        requires { EndsUnit asked self.now at begin }
-        ensures place { IsNextPlace asked self.now at result }
-        ensures later { steps.old ≤ steps.new }
-    {
-        let repeat = self.next_repeat(asked, at.unit, begin, steps);
-        let own = self.next_own(asked, at.unit, begin, unit_at(repeat), steps);
-        match own {
-            Some(_) => self.begun(own),
-            None => repeat,
-        }
-    }
-
-    /// Where no further range of its unit begins alike: the next unit with a range that does, or else the next range.
+    /// Where no further range of its unit begins alike: the next unit with a range that does, or else the next range. Where
+    /// the nearest units that are not their own keepers have none and no own range comes before them, all are asked.
     fn behind_unit<L: Ledger>(
         &self,
         asked: Asked,
@@ -230,15 +210,20 @@ impl Announced {
         ensures place { IsNextPlace asked self.now at result }
         ensures later { steps.old ≤ steps.new }
     {
-        let near = self.near_repeat(asked, at.unit, begin, steps);
-        let own = self.next_own(asked, at.unit, begin, unit_near(near), steps);
-        if own.is_some() {
-            return self.begun(own);
-        }
-        match near {
-            Near::Found(repeat) => Some(repeat),
-            Near::NoneBefore(_) => self.behind_far(asked, at, begin, steps),
-            Near::NoneLeft => None,
+        let mut near = self.near_repeat(asked, at.unit, begin, steps);
+        loop {
+            let own = self.next_own(asked, at.unit, begin, unit_near(near), steps);
+            if own.is_some() {
+                return self.begun(own);
+            }
+            match near {
+                Near::Found(repeat) => return Some(repeat),
+                Near::NoneBefore(_) => {
+                    let repeat = self.next_repeat(asked, at.unit, begin, steps);
+                    near = near_of(repeat);
+                }
+                Near::NoneLeft => return None,
+            }
         }
     }
 

@@ -1,7 +1,7 @@
 //! The next of the units that are not their own keepers with a range that begins alike.
 ghost use Rattle.std.specs.Prelude.{◌≡◌, ◌≤◌, ◌+◌, IfOk};
 ghost use Rattle.blz_announced.specs.Asking.{HasNear, HasNextRepeat, HasRepeatBefore, IsKeeperAt};
-ghost use Rattle.blz_announced.specs.Repeats.{all_repeats, sooner, unit_near, units_before, IsNextOf};
+ghost use Rattle.blz_announced.specs.Repeats.{all_repeats, near_of, sooner, unit_near, units_before, IsNextOf};
 
 use crate::announced::{Announced, Asked, Place};
 use crate::comparing::begins_at;
@@ -30,6 +30,16 @@ pub fn unit_near(near: Near) -> Option<usize>
         Near::Found(place) => Some(place.unit),
         Near::NoneBefore(unit) => Some(unit),
         Near::NoneLeft => None,
+    }
+}
+
+/// What all of them tell, of which the first was found.
+pub fn near_of(found: Option<Place>) -> Near
+    ensures { result ≡ near_of found }
+{
+    match found {
+        Some(place) => Near::Found(place),
+        None => Near::NoneLeft,
     }
 }
 
