@@ -115,7 +115,8 @@ impl GroupIndex {
     /// Whether the order shows that the ranges are not empty and no two of a group share an address. False where no
     /// order was accepted.
     pub fn is_apart<L: Ledger>(&self, steps: &mut Steps<L>) -> bool
-        ensures { result ≡ true → AreApartInGroups self.now.list }
+        ensures apart { result ≡ true → AreApartInGroups self.now.list }
+        ensures later { steps.old ≤ steps.new }
     {
         self.ordered && is_chain(&self.order, steps)
     }

@@ -175,7 +175,9 @@ pub fn last_before<L: Ledger>(
 /// Whether the ranges are not empty, and those of each group stand one after another.
 pub fn is_chain<L: Ledger>(order: &Counted<Ordered>, steps: &mut Steps<L>) -> bool
     requires { IsOrdered order.now }
-    ensures { result ≡ true → IsChain order.now }
+    ensures chain { result ≡ true → IsChain order.now }
+    ensures cost { steps.new ≤ steps.old + length order.now }
+    ensures later { steps.old ≤ steps.new }
 {
     let mut last: Option<Ordered> = None;
     let mut at = 0;
