@@ -104,6 +104,16 @@ fn with_digits(alloc: Global, path: &str) -> std::result::Result<MemoryFiles, Al
     Ok(files)
 }
 
+// puts a file of a build id on a path
+fn put_with_id(
+    alloc: Global,
+    files: &mut MemoryFiles,
+    path: &str,
+    build_id: &[u8],
+) -> std::result::Result<(), AllocError> {
+    files.put(path, with_build_id(alloc, build_id)?)
+}
+
 // files with an image at `/x/a` that shares a file of a build id, which is at a path
 fn with_common(
     alloc: Global,
@@ -111,7 +121,7 @@ fn with_common(
     path: &str,
 ) -> std::result::Result<MemoryFiles, AllocError> {
     let mut files = holding(alloc, sharing(alloc, name)?)?;
-    files.put(path, with_build_id(alloc, b"12345678")?)?;
+    put_with_id(alloc, &mut files, path, b"12345678")?;
     Ok(files)
 }
 

@@ -1,6 +1,7 @@
 //! The file that debug files share, by its build id.
 use super::{
-    differs, holding, is_at, open_lone, open_with, opens_with_common, sharing, stands_alone,
+    differs, holding, is_at, open_lone, open_with, opens_with_common, put_with_id, sharing,
+    stands_alone,
 };
 use blz_checks::Checks;
 use blz_images::{ByteOrder, Image, debug_altlink, debug_link, with_build_id};
@@ -59,18 +60,8 @@ fn the_debug_files_link_is_followed_and_not_the_images(rt: HostRuntime) -> Resul
         .expect(&rt, "refused");
     let mut files = holding(alloc, image).expect(&rt, "refused");
     files.put("/x/d/a.debug", debug).expect(&rt, "refused");
-    files
-        .put(
-            "/x/d/common",
-            with_build_id(alloc, b"12345678").expect(&rt, "refused"),
-        )
-        .expect(&rt, "refused");
-    files
-        .put(
-            "/y/other",
-            with_build_id(alloc, b"87654321").expect(&rt, "refused"),
-        )
-        .expect(&rt, "refused");
+    put_with_id(alloc, &mut files, "/x/d/common", b"12345678").expect(&rt, "refused");
+    put_with_id(alloc, &mut files, "/y/other", b"87654321").expect(&rt, "refused");
     checks.holds(opens_with_common(alloc, &mut files, "/x/d/common").expect(&rt, "refused"));
     checks.result()
 }

@@ -1,7 +1,10 @@
 //! The file that debug files share, by its checksum.
-use super::{differs, holding, is_at, open_lone, open_with, opens_with_common, stands_alone, sup};
+use super::{
+    differs, holding, is_at, open_lone, open_with, opens_with_common, put_with_id, stands_alone,
+    sup,
+};
 use blz_checks::Checks;
-use blz_images::{ByteOrder, Image, debug_altlink, debug_sup, with_build_id};
+use blz_images::{ByteOrder, Image, debug_altlink, debug_sup};
 use std::alloc::{AllocError, Global};
 use std::test::Fail;
 
@@ -39,12 +42,7 @@ fn an_alternative_file_comes_before_the_supplementary_one(rt: HostRuntime) -> Re
     files
         .put("/x/a.sup", sup(alloc, "", b"sum").expect(&rt, "refused"))
         .expect(&rt, "refused");
-    files
-        .put(
-            "/x/common",
-            with_build_id(alloc, b"12345678").expect(&rt, "refused"),
-        )
-        .expect(&rt, "refused");
+    put_with_id(alloc, &mut files, "/x/common", b"12345678").expect(&rt, "refused");
     checks.holds(opens_with_common(alloc, &mut files, "/x/common").expect(&rt, "refused"));
     checks.result()
 }
