@@ -32,6 +32,7 @@ pub use Rattle.blz_bundle.specs.Outcomes
 pub use Rattle.blz_bundle.specs.Opening
 pub mod Sources
 pub mod Reading
+pub mod BookAnswers
 pub mod Resolver
 pub mod InfoViews
 pub mod Looks

@@ -1,14 +1,14 @@
 //! The answer of an address by the debug information of a bundle.
 ghost use Rattle.std.specs.Prelude.{◌≡◌, ◌<◌, true, length, map, IfOk};
-ghost use Rattle.std.specs.Option.{option_map};
 ghost use Rattle.blz_model.specs.Part.{Gives, all_good};
 ghost use Rattle.blz_elf.specs.AnswerView.{answer_view, resolved_view};
 ghost use Rattle.blz_index.specs.UnitsWarm.{units_table, functions_kept};
-ghost use Rattle.blz_line.specs.Lookups.{location_view};
-ghost use Rattle.blz_resolver.specs.AddressAnswers.{direct_site, places_of, placed, function_answer, with_place, symbol_answer, answer_in, answers_in};
+ghost use Rattle.blz_reader.specs.SiteViews.{site_view};
+ghost use Rattle.blz_resolver.specs.AddressAnswers.{placed};
 ghost use Rattle.blz_bundle.specs.BundleViews.{bundle_view};
 ghost use Rattle.blz_resolver.specs.PlaceViews.{places_view};
-ghost use Rattle.blz_resolver.specs.Reading.{as_read, Reads, Keeps};
+ghost use Rattle.blz_resolver.specs.BookAnswers.{site_read, places_read, covered_read, placed_read, uncovered_read, answer_read, answers_read};
+ghost use Rattle.blz_resolver.specs.Reading.{Reads, Keeps};
 ghost use Rattle.blz_resolver.specs.Sources.{IsOfDebugFile};
 
 use crate::book_reader::BookReader;
@@ -22,7 +22,8 @@ use std::alloc::Global;
 
 /// A symbol with its places.
 pub(crate) fn placed<'b>(symbol: ResolvedSym<'b>, places: CallPlaces<'b>) -> ResolvedSym<'b>
-    ensures { resolved_view result ≡ placed (resolved_view symbol.entry) (places_view places.entry) }
+    ensures { resolved_view result ≡
+        placed (resolved_view symbol.entry) (places_view places.entry) }
 {
     ResolvedSym {
         name: symbol.name,
@@ -46,7 +47,7 @@ impl<'b> BookReader<'_, 'b> {
         opts: &FindSymOpts,
     ) -> Result<Option<Location<'b>>>
         requires { Reads self.now units.old }
-        ensures value { Gives (λ o. option_map location_view o) result (as_read self.now units.old direct_site addr opts.now) }
+        ensures value { Gives site_view result (site_read self.now units.old addr opts.now) }
         ensures keeps { Keeps self.now units.old units.new }
     {
         if !opts.code_info() {
@@ -68,7 +69,8 @@ impl<'b> BookReader<'_, 'b> {
     ) -> Result<CallPlaces<'b>>
         requires reads { Reads self.now units.old }
         requires there { at.0 < length (units_table units.old).kept }
-        ensures value { Gives places_view result (as_read self.now units.old places_of addr opts.now at (option_map location_view direct.entry)) }
+        ensures value { Gives places_view result
+            (places_read self.now units.old addr opts.now at (site_view direct.entry)) }
         ensures keeps { Keeps self.now units.old units.new }
     {
         let Some(direct) = direct else {
@@ -93,7 +95,8 @@ impl<'b> BookReader<'_, 'b> {
     ) -> Result<Answer<'b>>
         requires reads { Reads self.now units.old }
         requires kept { functions_kept units.old at.0 ≡ true }
-        ensures value { Gives answer_view result (as_read self.now units.old function_answer addr opts.now at) }
+        ensures value { Gives answer_view result
+            (covered_read self.now units.old addr opts.now at) }
         ensures keeps { Keeps self.now units.old units.new }
     {
         let symbol = self.function_symbol(alloc, units, at)?;
@@ -113,7 +116,8 @@ impl<'b> BookReader<'_, 'b> {
         answer: Answer<'b>,
     ) -> Result<Answer<'b>>
         requires { Reads self.now units.old }
-        ensures value { Gives answer_view result (as_read self.now units.old with_place addr opts.now (answer_view answer.entry)) }
+        ensures value { Gives answer_view result
+            (placed_read self.now units.old addr opts.now (answer_view answer.entry)) }
         ensures keeps { Keeps self.now units.old units.new }
     {
         match answer {
@@ -137,7 +141,8 @@ impl<'b> BookReader<'_, 'b> {
     ) -> Result<Answer<'b>>
         requires reads { Reads self.now units.old }
         requires parser { IsOfDebugFile (bundle_view self.now.bundle) parser.old }
-        ensures value { Gives answer_view result (as_read self.now units.old symbol_answer addr opts.now) }
+        ensures value { Gives answer_view result
+            (uncovered_read self.now units.old addr opts.now) }
         ensures keeps { Keeps self.now units.old units.new }
         ensures same { parser.new ≡ parser.old }
     {
@@ -159,7 +164,7 @@ impl<'b> BookReader<'_, 'b> {
     ) -> Result<Answer<'b>>
         requires reads { Reads self.now units.old }
         requires parser { IsOfDebugFile (bundle_view self.now.bundle) parser.old }
-        ensures value { Gives answer_view result (as_read self.now units.old answer_in addr opts.now) }
+        ensures value { Gives answer_view result (answer_read self.now units.old addr opts.now) }
         ensures keeps { Keeps self.now units.old units.new }
         ensures same { parser.new ≡ parser.old }
     {
@@ -183,7 +188,7 @@ impl<'b> BookReader<'_, 'b> {
         requires reads { Reads self.now units.old }
         requires parser { IsOfDebugFile (bundle_view self.now.bundle) parser.old }
         ensures value { Gives (λ v. map answer_view v.items) result
-            (all_good (map (as_read self.now units.old answers_in opts.now) addrs.now)) }
+            (all_good (map (answers_read self.now units.old opts.now) addrs.now)) }
         ensures one_each { IfOk result (λ v. length v.items ≡ length addrs.now) }
         ensures keeps { Keeps self.now units.old units.new }
         ensures same { parser.new ≡ parser.old }

@@ -5,8 +5,9 @@ ghost use Rattle.blz_model.specs.Part.{Gives, Exactly};
 ghost use Rattle.blz_elf.specs.AnswerView.{resolved_view};
 ghost use Rattle.blz_units.specs.UnitSites.{call_name};
 ghost use Rattle.blz_index.specs.UnitsWarm.{units_table, functions_kept, lines_kept};
-ghost use Rattle.blz_resolver.specs.AddressAnswers.{utf8_text, function_numbered, begin_of, size_of, symbol_of, function_symbol};
-ghost use Rattle.blz_resolver.specs.Reading.{as_read, book_of, Reads, Keeps};
+ghost use Rattle.blz_resolver.specs.AddressAnswers.{utf8_text, function_numbered, begin_of, size_of, symbol_of};
+ghost use Rattle.blz_resolver.specs.BookAnswers.{symbol_read};
+ghost use Rattle.blz_resolver.specs.Reading.{book_of, Reads, Keeps};
 
 use crate::book_reader::BookReader;
 use crate::fault::invalid;
@@ -122,7 +123,7 @@ impl<'b> BookReader<'_, 'b> {
     ) -> Result<ResolvedSym<'b>>
         requires reads { Reads self.now units.old }
         requires kept { functions_kept units.old at.0 ≡ true }
-        ensures value { Gives resolved_view result (as_read self.now units.old function_symbol at) }
+        ensures value { Gives resolved_view result (symbol_read self.now units.old at) }
         ensures keeps { Keeps self.now units.old units.new }
     {
         let function = self.function_numbered(units, at)?;

@@ -6,8 +6,9 @@ ghost use Rattle.blz_elf.specs.Infos.{info_view};
 ghost use Rattle.blz_index.specs.UnitsWarm.{functions_kept, AllKept};
 ghost use Rattle.blz_resolver.specs.AddressAnswers.{size_of};
 ghost use Rattle.blz_bundle.specs.BundleViews.{bundle_view};
-ghost use Rattle.blz_resolver.specs.FunctionNames.{place_if, function_info, numbered_info, addresses_in};
-ghost use Rattle.blz_resolver.specs.Reading.{as_read, Reads, Keeps};
+ghost use Rattle.blz_resolver.specs.FunctionNames.{place_if};
+ghost use Rattle.blz_resolver.specs.BookAnswers.{listed_read, info_read, infos_read};
+ghost use Rattle.blz_resolver.specs.Reading.{Reads, Keeps};
 ghost use Rattle.blz_resolver.specs.Sources.{IsOfDebugFile};
 
 use crate::book_reader::BookReader;
@@ -46,7 +47,7 @@ impl<'b> BookReader<'_, 'b> {
         asked: bool,
         function: &Function,
     ) -> Result<SymInfo<'b>>
-        ensures { Exactly info_view result (function_info self.now.dwarf.texts (bundle_view self.now.bundle) asked function.now) }
+        ensures { Exactly info_view result (listed_read self.now asked function.now) }
     {
         let name = name_text(&self.dwarf.texts, function.name)?;
         let addr = begin_of(function.bounds);
@@ -72,7 +73,7 @@ impl<'b> BookReader<'_, 'b> {
     ) -> Result<SymInfo<'b>>
         requires reads { Reads self.now units.now }
         requires kept { functions_kept units.now at.0 ≡ true }
-        ensures { Exactly info_view result (as_read self.now units.now numbered_info asked at) }
+        ensures { Exactly info_view result (info_read self.now units.now asked at) }
     {
         let function = self.function_numbered(units, at)?;
         self.function_info(alloc, asked, &function)
@@ -87,7 +88,8 @@ impl<'b> BookReader<'_, 'b> {
     ) -> Result<SymInfos<'b>>
         requires reads { Reads self.now units.now }
         requires kept { AllKept units.now found.now }
-        ensures { Gives (λ v. v) result (all_good (map (as_read self.now units.now numbered_info asked) found.now)) }
+        ensures { Gives (λ v. v) result
+            (all_good (map (info_read self.now units.now asked) found.now)) }
     {
         let mut infos = Vec::with_capacity(alloc, found.len())?;
         for at in found {
@@ -110,7 +112,8 @@ impl<'b> BookReader<'_, 'b> {
     ) -> Result<SymInfos<'b>>
         requires reads { Reads self.now units.old }
         requires parser { IsOfDebugFile (bundle_view self.now.bundle) parser.old }
-        ensures value { Gives (λ v. v) result (as_read self.now units.old addresses_in name.now opts.now.file_offset) }
+        ensures value { Gives (λ v. v) result
+            (infos_read self.now units.old name.now opts.now.file_offset) }
         ensures keeps { Keeps self.now units.old units.new }
         ensures same { parser.new ≡ parser.old }
     {

@@ -2,9 +2,9 @@
 ghost use Rattle.std.specs.Prelude.{◌≡◌, ◌<◌, false, map, length};
 ghost use Rattle.blz_elf.specs.Listings.{Shows, ShowsAll, listing_of};
 ghost use Rattle.blz_index.specs.UnitsWarm.{units_table};
-ghost use Rattle.blz_bundle.specs.BundleViews.{bundle_view};
-ghost use Rattle.blz_resolver.specs.FunctionNames.{function_info, named_only, unit_listing, functions_listing};
-ghost use Rattle.blz_resolver.specs.Reading.{as_read, Reads, Keeps};
+ghost use Rattle.blz_resolver.specs.FunctionNames.{named_only};
+ghost use Rattle.blz_resolver.specs.BookAnswers.{listed_read, unit_read, units_read};
+ghost use Rattle.blz_resolver.specs.Reading.{Reads, Keeps};
 
 use crate::book_reader::BookReader;
 use blz_bytes::Orders;
@@ -23,7 +23,8 @@ impl<'b> BookReader<'_, 'b> {
         visit: &mut V,
     ) -> Result<Flow>
         requires { V.stopped visit.old ≡ false }
-        ensures { Shows (listing_of (map (function_info self.now.dwarf.texts (bundle_view self.now.bundle) asked) (named_only functions.now))) (V.shown visit.old) (V.shown visit.new) (V.stopped visit.new) result }
+        ensures { Shows (listing_of (map (listed_read self.now asked) (named_only functions.now)))
+            (V.shown visit.old) (V.shown visit.new) (V.stopped visit.new) result }
     {
         for function in functions {
             if function.name.is_none() {
@@ -50,7 +51,8 @@ impl<'b> BookReader<'_, 'b> {
         requires reads { Reads self.now units.old }
         requires there { unit < length (units_table units.old).kept }
         requires goes_on { V.stopped visit.old ≡ false }
-        ensures shows { Shows (as_read self.now units.old unit_listing asked unit) (V.shown visit.old) (V.shown visit.new) (V.stopped visit.new) result }
+        ensures shows { Shows (unit_read self.now units.old asked unit)
+            (V.shown visit.old) (V.shown visit.new) (V.stopped visit.new) result }
         ensures keeps { Keeps self.now units.old units.new }
     {
         units.fill_functions(alloc, orders, &self.dwarf, unit)?;
@@ -72,7 +74,8 @@ impl<'b> BookReader<'_, 'b> {
     ) -> Result<()>
         requires reads { Reads self.now units.old }
         requires goes_on { V.stopped visit.old ≡ false }
-        ensures shows { ShowsAll (as_read self.now units.old functions_listing asked) (V.shown visit.old) (V.shown visit.new) (V.stopped visit.new) result }
+        ensures shows { ShowsAll (units_read self.now units.old asked)
+            (V.shown visit.old) (V.shown visit.new) (V.stopped visit.new) result }
         ensures keeps { Keeps self.now units.old units.new }
     {
         for unit in 0..units.len() {

@@ -1,15 +1,14 @@
 //! The answer of an address from what was prepared, without memory.
 ghost use Rattle.std.specs.Prelude.{◌≡◌, ◌≤◌, ◌-◌, true, false};
-ghost use Rattle.std.specs.Option.{option_map};
 ghost use Rattle.blz_model.specs.Part.{Exactly};
 ghost use Rattle.blz_elf.specs.AnswerView.{answer_view, resolved_view};
 ghost use Rattle.blz_elf.specs.Asked.{asks_code_info, asks_inlined_fns};
 ghost use Rattle.blz_index.specs.UnitsWarm.{units_prepared, functions_kept};
-ghost use Rattle.blz_line.specs.Lookups.{location_view};
-ghost use Rattle.blz_resolver.specs.AddressAnswers.{direct_site, function_symbol, function_answer, with_place, symbol_answer, answer_in};
+ghost use Rattle.blz_reader.specs.SiteViews.{site_view};
 ghost use Rattle.blz_bundle.specs.BundleViews.{bundle_view};
 ghost use Rattle.blz_resolver.specs.Looks.{LooksFewAt};
-ghost use Rattle.blz_resolver.specs.Reading.{as_read, book_of, Reads};
+ghost use Rattle.blz_resolver.specs.BookAnswers.{symbol_read, site_read, covered_read, placed_read, uncovered_read, answer_read};
+ghost use Rattle.blz_resolver.specs.Reading.{book_of, Reads};
 ghost use Rattle.blz_resolver.specs.Sources.{IsOfDebugFile};
 
 use crate::answering::placed;
@@ -35,7 +34,7 @@ impl<'b> BookReader<'_, 'b> {
         requires reads { Reads self.now units.now }
         requires is_prepared { units_prepared units.now ≡ true }
         requires kept { functions_kept units.now at.0 ≡ true }
-        ensures { Exactly resolved_view result (as_read self.now units.now function_symbol at) }
+        ensures { Exactly resolved_view result (symbol_read self.now units.now at) }
     {
         let function = self.function_numbered(units, at)?;
         let name = name_text(&self.dwarf.texts, function.name)?;
@@ -54,7 +53,7 @@ impl<'b> BookReader<'_, 'b> {
     ) -> Result<Option<Location<'b>>>
         requires reads { Reads self.now units.now }
         requires is_prepared { units_prepared units.now ≡ true }
-        ensures value { Exactly (λ o. option_map location_view o) result (as_read self.now units.now direct_site addr opts.now) }
+        ensures value { Exactly site_view result (site_read self.now units.now addr opts.now) }
         ensures cost { asks_code_info opts.now ≡ false → steps.new ≡ steps.old }
         ensures later { steps.old ≤ steps.new }
     {
@@ -78,7 +77,8 @@ impl<'b> BookReader<'_, 'b> {
         requires is_prepared { units_prepared units.now ≡ true }
         requires kept { functions_kept units.now at.0 ≡ true }
         requires opts { asks_inlined_fns opts.now ≡ false }
-        ensures value { Exactly answer_view result (as_read self.now units.now function_answer addr opts.now at) }
+        ensures value { Exactly answer_view result
+            (covered_read self.now units.now addr opts.now at) }
         ensures cost { asks_code_info opts.now ≡ false → steps.new ≡ steps.old }
         ensures later { steps.old ≤ steps.new }
     {
@@ -99,7 +99,8 @@ impl<'b> BookReader<'_, 'b> {
     ) -> Result<Answer<'b>>
         requires reads { Reads self.now units.now }
         requires is_prepared { units_prepared units.now ≡ true }
-        ensures value { Exactly answer_view result (as_read self.now units.now with_place addr opts.now (answer_view answer.entry)) }
+        ensures value { Exactly answer_view result
+            (placed_read self.now units.now addr opts.now (answer_view answer.entry)) }
         ensures later { steps.old ≤ steps.new }
     {
         match answer {
@@ -125,7 +126,8 @@ impl<'b> BookReader<'_, 'b> {
         requires is_prepared { units_prepared units.now ≡ true }
         requires parser { IsOfDebugFile (bundle_view self.now.bundle) parser.now }
         requires symbols { parser.now.prepared ≡ true }
-        ensures value { Exactly answer_view result (as_read self.now units.now symbol_answer addr opts.now) }
+        ensures value { Exactly answer_view result
+            (uncovered_read self.now units.now addr opts.now) }
         ensures later { steps.old ≤ steps.new }
     {
         let answer = parser.find_sym_prepared(addr)?;
@@ -148,8 +150,9 @@ impl<'b> BookReader<'_, 'b> {
         requires parser { IsOfDebugFile (bundle_view self.now.bundle) parser.now }
         requires symbols { parser.now.prepared ≡ true }
         requires opts { asks_inlined_fns opts.now ≡ false }
-        ensures value { Exactly answer_view result (as_read self.now units.now answer_in addr opts.now) }
-        ensures cost { asks_code_info opts.now ≡ false → LooksFewAt (book_of self.now units.now) units.now addr (steps.new - steps.old) }
+        ensures value { Exactly answer_view result (answer_read self.now units.now addr opts.now) }
+        ensures cost { asks_code_info opts.now ≡ false
+            → LooksFewAt (book_of self.now units.now) units.now addr (steps.new - steps.old) }
         ensures later { steps.old ≤ steps.new }
     {
         match units.find_function_prepared(addr, steps)? {
