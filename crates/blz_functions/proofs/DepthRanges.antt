@@ -6,16 +6,14 @@ use Rattle.std.proofs.lemmas.Bool.{cases_Bool, eq-eqb}
 use Rattle.std.proofs.lemmas.List.{append-nil}
 use Rattle.std.proofs.lemmas.Option.{slice_get-map}
 use Rattle.blz_ranges.specs.declared.grouped.Grouped.{Grouped}
-use Rattle.blz_ranges.specs.declared.placed.Placed.{Placed}
 use Rattle.blz_ranges.specs.declared.span.Span.{Span}
-use Rattle.blz_ranges.specs.Best.{best, best_by, covers, passes, place_of}
+use Rattle.blz_ranges.specs.Best.{best_by, covers, passes}
 use Rattle.blz_ranges.specs.Groups.{group_is, in_group, spans_of}
 use Rattle.blz_ranges.specs.Owned.{Owned, items_of, own_all}
-use Rattle.blz_functions.specs.BestOwned.{AnswersAs, best_owned}
+use Rattle.blz_functions.specs.BestOwned.{best_owned}
 use Rattle.blz_functions.specs.Chain.{at_depth, call_range}
-use Rattle.blz_functions.specs.DepthRanges.{SearchedRanges, call_of, found_at, found_by, of_depth, searched_at, searched_by, shared_in, spans_shared, ungrouped}
-use Rattle.blz_functions.specs.declared.depth_ranges.SharedList.{SharedList}
-use Rattle.blz_functions.proofs.BestOwned.{IsFound, best_renamed, found_behind, found_better, found_owner, found_span, items_all, itself, owned_by}
+use Rattle.blz_functions.specs.DepthRanges.{of_depth, ungrouped}
+use Rattle.blz_functions.proofs.BestOwned.{IsFound, found_behind, found_better, found_owner}
 
 -- ---- the ranges of one call more
 
@@ -80,32 +78,7 @@ tested ranges depth addr k x is =
     ap (λ (o : Option Grouped). group_is depth o && covers x.item.span addr)
     (ap (slice_get (items_of ranges)) there ∙ (slice_get-map (λ (y : Owned Grouped). y.item) ranges k ∙ ap (option_map (λ (y : Owned Grouped). y.item)) is))
 
-owner_at_depth : (ranges : List (Owned Grouped)) (addr depth : ℕ) → at_depth ranges addr depth ≡ option_map (λ (o : Owned Span). o.owner) (best_owned (of_depth depth ranges) addr)
+pub owner_at_depth : (ranges : List (Owned Grouped)) (addr depth : ℕ) → at_depth ranges addr depth ≡ option_map (λ (o : Owned Span). o.owner) (best_owned (of_depth depth ranges) addr)
 owner_at_depth ranges addr depth =
     let test = in_group (items_of ranges) depth (passes addr None) in
     found_owner span_in ranges (best_by test 0 (spans_of (items_of ranges))) (best_owned (of_depth depth ranges) addr) (found test depth addr 0 ranges (tested ranges depth addr))
-
--- the call that is found is that of the best of the ranges that are searched
-placed_alike : (call : ℕ) (list : List (Owned Span)) (p : Option Placed) (o : Option (Owned Span)) → IsFound itself 0 list p o → option_map (λ (n : ℕ). call) (place_of p) ≡ option_map (λ (x : Owned Span). x.owner) (option_map (owned_by call) o)
-placed_alike call list None None h = refl
-placed_alike call list None (Some o) h = absurd h
-placed_alike call list (Some p) None h = absurd h
-placed_alike call list (Some p) (Some o) h = refl
-
-owner_by_list : (s : SharedList) (addr : ℕ) → call_of s addr ≡ option_map (λ (x : Owned Span). x.owner) (best_owned (own_all s.named.call (spans_shared s)) addr)
-owner_by_list s addr =
-    let call = s.named.call in
-    let list = own_all call (spans_shared s) in
-    let same : items_of list ≡ spans_shared s = items_all call (spans_shared s) in
-    let alike = placed_alike call list (best_by (λ n t. covers t addr) 0 (items_of list)) (best_owned list addr) (found_span 0 addr list) in
-    let renamed : best_owned list addr ≡ option_map (owned_by call) (best_owned list addr) = ap (λ (l : List Span). best_owned (own_all call l) addr) (sym same) ∙ best_renamed call list addr in
-    ap (λ (l : List Span). option_map (λ (n : ℕ). call) (best l addr)) (sym same) ∙ (alike ∙ ap (option_map (λ (x : Owned Span). x.owner)) (sym renamed))
-
-owner_found_by : (list : List (Owned Grouped)) (addr depth : ℕ) (o : Option SharedList) → found_by list addr depth o ≡ option_map (λ (x : Owned Span). x.owner) (best_owned (searched_by list depth o) addr)
-owner_found_by list addr depth None = owner_at_depth list addr depth
-owner_found_by list addr depth (Some s) = owner_by_list s addr
-
--- what is searched has the same best ranges as all ranges at each depth
-pub same_found : (r : SearchedRanges) (all : List (Owned Grouped)) (addr depth : ℕ) → AnswersAs (searched_at r depth) (of_depth depth all) → at_depth all addr depth ≡ found_at r addr depth
-same_found r all addr depth same =
-    owner_at_depth all addr depth ∙ (ap (option_map (λ (x : Owned Span). x.owner)) (sym (same addr)) ∙ sym (owner_found_by r.list addr depth (shared_in r.shared depth)))

@@ -21,6 +21,14 @@ pub mod ReadLists
 pub mod SearchedRanges
 pub mod Searching
 pub mod DepthRanges
-pub mod NamedLists
-pub mod DepthLists
-pub mod SearchedCalls
+pub mod SharedTails
+pub mod WholeLists
+pub mod PieceOrder
+pub mod KeptContents
+pub mod ToldPieces
+pub mod GatheredPieces
+pub mod PiecedRanges
+pub mod FoundCalls
+pub mod SettledDepths
+pub mod RenamedRanges
+pub mod CallsRead

@@ -39,14 +39,16 @@ is_equal Less e = absurd cc
 is_equal Equal e = refl
 is_equal Greater e = absurd cc
 
--- one more of which the same holds
-pub more_kept : {K V : Type 0} (cmp : K → K → Ordering) → CmpEqualImpliesEq cmp → (old new : BTreeMap K V) (key : K) (v : V) (P : K → V → Type 0) → Updates cmp old new key (Some v) → P key v → ((at : K) → IfSome (get cmp old at) (P at)) → (at : K) → IfSome (get cmp new at) (P at)
-more_kept cmp exact old new key v P u here told at = elim (cases_Bool (is_eq (cmp key at))) [
-  | inl same ↦
-      let e = exact key at (is_equal (cmp key at) same) in
-      rw (u.0 at, same) (subst (λ k. P k v) e here)
+-- one more of which the same holds, where keys that compare as equal may differ in what nothing is said of
+pub more_alike : {K V : Type 0} (cmp : K → K → Ordering) (old new : BTreeMap K V) (key : K) (v : V) (P : K → V → Type 0) → ((at : K) → cmp key at ≡ Equal → P key v → P at v) → Updates cmp old new key (Some v) → P key v → ((at : K) → IfSome (get cmp old at) (P at)) → (at : K) → IfSome (get cmp new at) (P at)
+more_alike cmp old new key v P alike u here told at = elim (cases_Bool (is_eq (cmp key at))) [
+  | inl same ↦ rw (u.0 at, same) (alike at (is_equal (cmp key at) same) here)
   | inr other ↦ rw (u.0 at, other) (told at)
 ]
+
+-- one more of which the same holds
+pub more_kept : {K V : Type 0} (cmp : K → K → Ordering) → CmpEqualImpliesEq cmp → (old new : BTreeMap K V) (key : K) (v : V) (P : K → V → Type 0) → Updates cmp old new key (Some v) → P key v → ((at : K) → IfSome (get cmp old at) (P at)) → (at : K) → IfSome (get cmp new at) (P at)
+more_kept cmp exact old new key v P u here told at = more_alike cmp old new key v P (λ k e h. subst (λ x. P x v) (exact key k e) h) u here told at
 
 pub if_mapped : {V : Type 0} (o : Option V) (P Q : V → Type 0) → ((v : V) → P v → Q v) → IfSome o P → IfSome o Q
 if_mapped None P Q f h = tt

@@ -4,7 +4,7 @@ use Rattle.blz_model.specs.Reads.{◌>>=◌}
 use Rattle.blz_functions.specs.declared.inlined_functions.InlinedFunction.{InlinedFunction}
 use Rattle.blz_functions.specs.CallTree.{CallLists, unit_calls}
 use Rattle.blz_functions.specs.Chain.{IsNested, IsPath, IsTree, TreeCall, at_depth, picked, ranges_of}
-use Rattle.blz_functions.specs.DepthRanges.{SearchedRanges, found_at}
+use Rattle.blz_functions.specs.SettledRanges.{SearchedRanges, found_at}
 use Rattle.blz_functions.specs.Describing.{Refer}
 use Rattle.blz_functions.specs.FunctionRanges.{SearchedCalls}
 use Rattle.blz_functions.specs.Leaves.{UnitParts}

@@ -1,17 +1,20 @@
--- The ranges of inlined calls by their depths, and which of them are searched for a depth.
-use Rattle.std.specs.Prelude.{ℕ, List, [], ◌∷◌, length, Option, Some, None, option_map, ◌==◌, if◌then◌else◌}
-use Rattle.std.specs.Arc.{arc_value}
-use Rattle.std.specs.BTreeMap.{is_at}
-use Rattle.std.specs.Map.{lookup}
-use Rattle.std.specs.Ordering.{nat_cmp}
+-- The ranges of inlined calls by their depths, while the calls are read: of a depth those that stand in a list, and behind
+-- them those of its pieces.
+use Rattle.std.specs.Prelude.{◌≡◌, ℕ, Bool, false, List, [], ◌∷◌, ◌++◌, length, map, Option, Some, None, Result, nat_lt, ◌==◌, ◌⊎◌, if◌then◌else◌}
+use Rattle.std.specs.List.{slice_get}
+use Rattle.std.specs.declared.alloc.Global.{Global}
+use Rattle.std.specs.declared.vec.Vec.{Vec}
+use Rattle.blz_error.specs.Fault.{Fault}
 use Rattle.blz_ranges.specs.declared.grouped.Grouped.{Grouped}
 use Rattle.blz_ranges.specs.declared.span.Span.{Span}
-use Rattle.blz_ranges.specs.Best.{best}
-use Rattle.blz_ranges.specs.Groups.{AreApart, AreApartInGroups}
-use Rattle.blz_ranges.specs.Owned.{Owned, items_of, own_all, owned}
-use Rattle.blz_functions.specs.Chain.{at_depth}
+use Rattle.blz_ranges.specs.Owned.{Owned, owned}
+use Rattle.blz_functions.specs.Chain.{call_range}
+use Rattle.blz_functions.specs.Leaves.{UnitParts}
+use Rattle.blz_functions.specs.Pieces.{AreNamed, ranges_of_call, told}
+use Rattle.blz_functions.specs.Searching.{GivesAs}
+use Rattle.blz_functions.specs.declared.depth_ranges.DepthCall.{DepthCall}
 use Rattle.blz_functions.specs.declared.depth_ranges.DepthRanges.{DepthRanges}
-use Rattle.blz_functions.specs.declared.depth_ranges.SharedList.{SharedList}
+use Rattle.blz_functions.specs.declared.pieces.Piece.{Piece}
 
 abbrev pub ungrouped : Owned Grouped → Owned Span
 ungrouped x = record { item = x.item.span; owner = x.owner }
@@ -21,56 +24,58 @@ unfoldable pub of_depth : ℕ → List (Owned Grouped) → List (Owned Span)
 of_depth depth [] = []
 of_depth depth (x ∷ rest) = if x.item.group == depth then ungrouped x ∷ of_depth depth rest else of_depth depth rest
 
--- ranges in groups, one for each depth, each with the number of its call, and the depths that share a list
-pub record SearchedRanges : Type 0 where
+-- the pieces of one depth
+abbrev pub or_no_pieces : Option (Vec Piece Global) → List Piece
+or_no_pieces None = []
+or_no_pieces (Some pieces) = pieces.items
+
+abbrev pub pieces_at : List (Vec Piece Global) → ℕ → List Piece
+pieces_at pieces depth = or_no_pieces (slice_get pieces depth)
+
+abbrev pub has_pieces : List (Vec Piece Global) → ℕ → Bool
+has_pieces pieces depth = nat_lt 0 (length (pieces_at pieces depth))
+
+-- ranges in groups, one for each depth, each with the number of its call, and the pieces of each depth
+pub record PiecedRanges : Type 0 where
   pub list : List (Owned Grouped)
-  pub shared : List (ℕ × SharedList)
+  pub pieces : List (Vec Piece Global)
 
-abbrev pub ranges_view : DepthRanges → SearchedRanges
-ranges_view r = record { list = owned r.list.items r.owners.items; shared = r.shared.entries }
+abbrev pub ranges_view : DepthRanges → PiecedRanges
+ranges_view r = record { list = owned r.list.items r.owners.items; pieces = r.pieces.items }
 
--- the list that a depth shares
-abbrev pub shared_in : List (ℕ × SharedList) → ℕ → Option SharedList
-shared_in shared depth = lookup (is_at (nat_cmp depth)) shared
+abbrev pub AreAllNamed : UnitParts → List (Vec Piece Global) → Type 0
+AreAllNamed u pieces = (depth : ℕ) → AreNamed u (pieces_at pieces depth)
 
--- its ranges
-abbrev pub spans_shared : SharedList → List Span
-spans_shared s = arc_value s.list
+-- They are those of all calls at each depth.
+pub record AreOfCalls (u : UnitParts) (r : PiecedRanges) (all : List (Owned Grouped)) : Type 0 where
+  pub same : (depth : ℕ) → of_depth depth all ≡ of_depth depth r.list ++ told u (pieces_at r.pieces depth)
+  pub named : AreAllNamed u r.pieces
 
--- the ranges of a depth, each with its call
-abbrev pub searched_by : List (Owned Grouped) → ℕ → Option SharedList → List (Owned Span)
-searched_by list depth None = of_depth depth list
-searched_by list depth (Some s) = own_all s.named.call (spans_shared s)
+-- ---- one call more
 
-abbrev pub searched_at : SearchedRanges → ℕ → List (Owned Span)
-searched_at r depth = searched_by r.list depth (shared_in r.shared depth)
+abbrev pub KeepsPieces : List (Vec Piece Global) → List (Vec Piece Global) → Type 0
+KeepsPieces old new = (depth : ℕ) → pieces_at new depth ≡ pieces_at old depth
 
--- the call that an address has by a list, if a range of it covers the address
-abbrev pub call_of : SharedList → ℕ → Option ℕ
-call_of s addr = option_map (λ (n : ℕ). s.named.call) (best (spans_shared s) addr)
+-- Some pieces stand behind those of a depth.
+pub record HasPieces (old new : List (Vec Piece Global)) (depth : ℕ) (more : List Piece) : Type 0 where
+  pub here : pieces_at new depth ≡ pieces_at old depth ++ more
+  pub others : (d : ℕ) → (d ≡ depth → ⊥) → pieces_at new d ≡ pieces_at old d
 
--- the call that an address has at a depth
-abbrev pub found_by : List (Owned Grouped) → ℕ → ℕ → Option SharedList → Option ℕ
-found_by list addr depth None = at_depth list addr depth
-found_by list addr depth (Some s) = call_of s addr
+pub record AddsPieces (old new : DepthRanges) (depth : ℕ) (more : List Piece) : Type 0 where
+  pub pieces : HasPieces old.pieces.items new.pieces.items depth more
+  pub list : new.list ≡ old.list
+  pub owners : new.owners ≡ old.owners
 
-abbrev pub found_at : SearchedRanges → ℕ → ℕ → Option ℕ
-found_at r addr depth = found_by r.list addr depth (shared_in r.shared depth)
+pub record AddsToList (old new : DepthRanges) (at : DepthCall) (spans : List Span) : Type 0 where
+  pub list : (ranges_view new).list ≡ (ranges_view old).list ++ map (call_range at.depth at.call) spans
+  pub pieces : new.pieces ≡ old.pieces
+  pub none : pieces_at old.pieces.items at.depth ≡ []
 
--- ---- what it takes to find it
+-- The ranges of a call are put to the list, or to the pieces of a depth that has some.
+abbrev pub PutsRanges : DepthRanges → DepthRanges → DepthCall → List Span → Type 0
+PutsRanges old new at spans = AddsToList old new at spans ⊎ AddsPieces old new at.depth (ranges_of_call at.call spans)
 
--- among how many ranges a depth is sought: those of its list, or of all depths that share none
-abbrev pub count_by : List (Owned Grouped) → Option SharedList → ℕ
-count_by list None = length list
-count_by list (Some s) = length (spans_shared s)
-
-abbrev pub count_at : SearchedRanges → ℕ → ℕ
-count_at r depth = count_by r.list (shared_in r.shared depth)
-
--- Of these, no two of one depth share an address.
-abbrev pub AreApartBy : List (Owned Grouped) → Option SharedList → Type 0
-AreApartBy list None = AreApartInGroups (items_of list)
-AreApartBy list (Some s) = AreApart (spans_shared s)
-
-abbrev pub AreApartAt : SearchedRanges → ℕ → Type 0
-AreApartAt r depth = AreApartBy r.list (shared_in r.shared depth)
+-- The ranges of one more call are added to those of its depth.
+abbrev pub AddsRanges : UnitParts → DepthRanges → DepthRanges → DepthCall → Option (List Span) → Result (Unit {0}) Fault → Type 0
+AddsRanges u old new at spans result = (all : List (Owned Grouped)) → AreOfCalls u (ranges_view old) all
+    → GivesAs (λ _ s. AreOfCalls u (ranges_view new) (all ++ map (call_range at.depth at.call) s)) result spans

@@ -2,7 +2,8 @@
 use Rattle.std.specs.Prelude.{Bool, List}
 use Rattle.blz_ranges.specs.declared.span.Span.{Span}
 use Rattle.blz_ranges.specs.Owned.{Owned}
-use Rattle.blz_functions.specs.DepthRanges.{SearchedRanges}
+use Rattle.blz_functions.specs.SettledRanges.{SearchedRanges}
+use Rattle.blz_functions.specs.declared.depth_ranges.DepthRanges.{DepthRanges}
 use Rattle.blz_functions.specs.declared.functions.Function.{Function}
 use Rattle.blz_functions.specs.declared.inlined_functions.InlinedFunction.{InlinedFunction}
 
@@ -11,6 +12,11 @@ pub record FunctionRanges : Type 0 where
   pub functions : List Function
   pub ranges : List (Owned Span)
   pub ordered : Bool
+
+-- the inlined calls of a function while they are read
+pub record PiecedCalls : Type 0 where
+  pub calls : List InlinedFunction
+  pub ranges : DepthRanges
 
 -- the inlined calls of a function, and their ranges that are searched
 pub record SearchedCalls : Type 0 where

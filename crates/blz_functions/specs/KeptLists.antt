@@ -1,26 +1,70 @@
--- Lists of ranges that are kept for all functions of a unit.
-use Rattle.std.specs.Prelude.{◌≡◌, ℕ, List, Option, Some, Result, MatchResult, IfSome}
+-- Lists of ranges that calls of a unit name, and what was gathered of several, for all functions of the unit.
+use Rattle.std.specs.Prelude.{◌≡◌, ◌≢◌, ℕ, Bool, true, List, Option, IfOk, IfSome, Result, MatchResult}
 use Rattle.std.specs.Arc.{arc_value}
 use Rattle.std.specs.BTreeMap.{get}
+use Rattle.std.specs.Cmp.Lexicographic.{slice_cmp}
 use Rattle.std.specs.Ordering.{nat_cmp}
 use Rattle.std.specs.declared.alloc.Global.{Global}
+use Rattle.std.specs.declared.cmp.Ordering.{Ordering}
 use Rattle.std.specs.declared.sync.Arc.{Arc}
+use Rattle.std.specs.declared.vec.Vec.{Vec}
 use Rattle.blz_error.specs.Fault.{Fault}
+use Rattle.blz_error.specs.declared.kind.ErrorKind.TheVariants.{OutOfMemory}
 use Rattle.blz_model.specs.Part.{Fails}
 use Rattle.blz_info.specs.Marks.{or_invalid}
-use Rattle.blz_entry.specs.RangeTails.{list_tail}
+use Rattle.blz_entry.specs.declared.range_tail.RangeTail.{RangeTail}
+use Rattle.blz_ranges.specs.Ranges.{OwnedRanges}
 use Rattle.blz_ranges.specs.declared.span.Span.{Span}
+use Rattle.blz_functions.specs.BestOwned.{AnswersAs}
 use Rattle.blz_functions.specs.Leaves.{UnitParts, spans_behind}
+use Rattle.blz_functions.specs.Pieces.{HasSpans, told}
+use Rattle.blz_functions.specs.WholeLists.{IsWhole}
+use Rattle.blz_functions.specs.contracts.pieces.PieceOrd.TheImpl as pieces
 use Rattle.blz_functions.specs.declared.kept_lists.KeptLists.{KeptLists}
+use Rattle.blz_functions.specs.declared.kept_lists.NamedList.{NamedList}
+use Rattle.blz_functions.specs.declared.pieces.Piece.{Piece}
+use Rattle.blz_functions.specs.declared.whole_list.WholeList.{WholeList}
 
--- The list at an offset of a unit has these ranges.
-abbrev pub IsListAt : UnitParts → ℕ → List Span → Type 0
-IsListAt u offset spans = spans_behind u (list_tail u.root offset) ≡ Some spans
+-- A call tells whether a list has a value, want of memory aside.
+abbrev pub Names : Option (List Span) → Result (Unit {0}) Fault → Type 0
+Names spans result = MatchResult result (λ _. HasSpans spans) (λ e. Fails e.kind (or_invalid spans))
 
--- A call gives the list at an offset, or none, want of memory aside.
-abbrev pub GivesListAt : UnitParts → ℕ → Option (List Span) → Result (Option (Arc (List Span) Global)) Fault → Type 0
-GivesListAt u offset spans result = MatchResult result (λ o. IfSome o (λ l. IsListAt u offset (arc_value l))) (λ e. Fails e.kind (or_invalid spans))
+-- Ranges in an order that was accepted have the same best ones as those of some pieces.
+pub record IsContent (u : UnitParts) (pieces : List Piece) (c : OwnedRanges) : Type 0 where
+  pub ordered : c.ordered ≡ true
+  pub answers : AnswersAs c.ranges (told u pieces)
 
--- Each list that is kept is the one at its offset.
-abbrev pub AreKeptLists : UnitParts → KeptLists → Type 0
-AreKeptLists u lists = (offset : ℕ) → IfSome (get nat_cmp lists.named offset) (λ o. IfSome o (λ l. IsListAt u offset (arc_value l)))
+-- What is gathered of some pieces, or nothing, want of memory aside.
+abbrev pub GivesContent : UnitParts → List Piece → Result (Option (Arc OwnedRanges Global)) Fault → Type 0
+GivesContent u pieces result = MatchResult result (λ o. IfSome o (λ c. IsContent u pieces (arc_value c))) (λ e. e.kind ≢ OutOfMemory → ⊥)
+
+-- A list that was named has what is kept of it.
+abbrev pub IsNamedList : UnitParts → NamedList → Type 0
+IsNamedList u list = IfSome list.whole (IsWhole u)
+
+-- the order of pieces in a map
+abbrev pub piece_cmp : Piece → Piece → Ordering
+piece_cmp = pieces.ghosts.cmp
+
+abbrev pub pieces_cmp : Vec Piece Global → Vec Piece Global → Ordering
+pieces_cmp x y = slice_cmp piece_cmp x.items y.items
+
+abbrev pub IsKeptContent : UnitParts → Vec Piece Global → Option (Arc OwnedRanges Global) → Type 0
+IsKeptContent u pieces kept = IfSome kept (λ c. IsContent u pieces.items (arc_value c))
+
+-- Each list that is kept is one of the unit, and each content is that of its pieces.
+pub record AreKeptLists (u : UnitParts) (lists : KeptLists) : Type 0 where
+  pub named : (offset : ℕ) → IfSome (get nat_cmp lists.named offset) (IsNamedList u)
+  pub contents : (key : Vec Piece Global) → IfSome (get pieces_cmp lists.contents key) (IsKeptContent u key)
+
+-- They stay right, with more where it holds.
+abbrev pub KeepsLists : KeptLists → KeptLists → (UnitParts → Type 0) → Type 0
+KeepsLists old new More = (u : UnitParts) → More u → AreKeptLists u old → AreKeptLists u new
+
+-- A call gives a whole list, or none.
+abbrev pub MayGiveWhole : {E : Type 0} → UnitParts → Result (Option WholeList) E → Type 0
+MayGiveWhole u result = IfOk result (λ o. IfSome o (IsWhole u))
+
+-- Where a call tells that a list begins within another one, the list has a value.
+abbrev pub TellsWithin : {E : Type 0} → UnitParts → RangeTail → Result Bool E → Type 0
+TellsWithin u tail result = IfOk result (λ within. within ≡ true → HasSpans (spans_behind u tail))

@@ -1,6 +1,7 @@
 pub mod Chain
 pub mod Leaves
 pub mod Opened
+pub mod Pieces
 pub mod Naming
 pub mod Describing
 pub mod FunctionList
@@ -14,6 +15,12 @@ pub mod Searching
 pub mod SearchedFunctions
 pub mod AskedCalls
 pub mod DepthRanges
+pub mod KeptList
+pub mod SharedTail
+pub mod WholeLists
+pub mod Renamed
+pub mod SharedDepths
+pub mod SettledRanges
+pub mod Settling
 pub mod KeptLists
-pub mod DepthLists
-pub mod SearchedCalls
+pub mod ReadCalls

@@ -1,69 +1,69 @@
-//! The inlined calls among the entries below a function.
-ghost use Rattle.std.specs.Prelude.{◌≡◌, [], ◌≤◌, map, IfOk};
+//! The inlined calls of a function, before their ranges are indexed.
+ghost use Rattle.std.specs.Prelude.{◌≡◌, [], map, IfOk};
 ghost use Rattle.blz_model.specs.Part.{Gives};
 ghost use Rattle.blz_info.specs.Marks.{or_invalid};
-ghost use Rattle.blz_functions.specs.AskedCalls.{asked_calls, calls_asked, if_asked};
-ghost use Rattle.blz_functions.specs.CallTree.{call_by, call_added, calls_from};
-ghost use Rattle.blz_functions.specs.CallWalk.{call_if, call_met};
-ghost use Rattle.blz_functions.specs.Describing.{specs_of};
+ghost use Rattle.blz_functions.specs.AskedCalls.{asked_calls, calls_asked};
+ghost use Rattle.blz_functions.specs.DepthRanges.{AreAllNamed};
 ghost use Rattle.blz_functions.specs.KeptLists.{AreKeptLists};
-ghost use Rattle.blz_ranges.specs.Keyed.{IsAccepted, group_key};
-ghost use Rattle.blz_functions.specs.Leaves.{source_in};
 ghost use Rattle.blz_functions.specs.Opened.{open_view, CanBeOpened};
+ghost use Rattle.blz_functions.specs.ReadCalls.{AreSettled};
+ghost use Rattle.blz_ranges.specs.Keyed.{IsAccepted, group_key};
 ghost use Rattle.blz_ranges.specs.Owned.{items_of};
-ghost use Rattle.blz_functions.specs.SearchedCalls.{AreSearchedCalls};
-ghost use Rattle.blz_functions.specs.Searching.{Adds, Meets};
 
-use crate::depth_lists::DepthLists;
-use crate::depth_ranges::DepthRanges;
-use crate::description::Description;
 use crate::inlined_functions::{InlinedFunction, InlinedFunctions};
 use crate::kept_lists::KeptLists;
-use crate::levels::Levels;
 use crate::links::Links;
 use crate::open_unit::OpenUnit;
+use crate::read_calls::ReadCalls;
+use crate::settled_ranges::SettledRanges;
 use blz_bytes::Orders;
-use blz_constants::dwarf;
-use blz_entry::{Entries, Entry, Passing, Span, invalid};
+use blz_entry::invalid;
 use blz_error::Result;
 use std::alloc::{AllocError, Global};
 use std::marker::Model;
-use std::mem;
 
-/// Inlined calls, and their ranges that are searched. What several lists of ranges share is read once at each depth, and its
-/// ranges stand here for the first call of the depth that names one, which is the one that their addresses have.
+/// Inlined calls, and their ranges that are searched: at each depth the ranges of a list stand for the first call of the
+/// depth that names it, which is the one that their addresses have, and what several depths of a unit name is kept once.
 #[derive(Drop)]
 pub struct CallLists {
     calls: Vec<InlinedFunction>,
-    ranges: DepthRanges,
-    /// What the ranges of one call are read into.
-    spans: Vec<Span>,
+    ranges: SettledRanges,
 }
 
 impl Model for CallLists {
     ghost use Rattle.std.specs.Prelude.{◌≡◌, length};
-    ghost use Rattle.blz_functions.specs.DepthRanges.{ranges_view};
     ghost use Rattle.blz_functions.specs.FunctionRanges.{SearchedCalls};
+    ghost use Rattle.blz_functions.specs.SettledRanges.{settled_view};
 
     ghost Value = { SearchedCalls };
 
-    ghost view = { λ l. record { calls = l.calls.items; ranges = ranges_view l.ranges } };
+    ghost view = { λ l. record { calls = l.calls.items; ranges = settled_view l.ranges } };
 
     ghost invariant = { λ l. length l.ranges.list.items ≡ length l.ranges.owners.items };
 }
 
-fn call_by(description: &Description) -> InlinedFunction
-    ensures { result ≡ call_by description.now }
-{
-    InlinedFunction {
-        name: description.name,
-        call_file: description.site.file,
-        call_line: description.site.line,
-        call_column: description.site.column,
-    }
-}
-
 impl CallLists {
+    /// The calls that were read, each depth settled. Only want of memory is refused.
+    fn settle(
+        alloc: Global,
+        unit: &OpenUnit<'_, '_>,
+        kept: &mut KeptLists,
+        calls: ReadCalls,
+    ) -> Result<CallLists>
+        requires named { AreAllNamed (open_view unit.now) calls.ranges.pieces.items }
+        requires kept { AreKeptLists (open_view unit.now) kept.old }
+        ensures settled { AreSettled (open_view unit.now) calls result }
+        ensures kept { AreKeptLists (open_view unit.now) kept.new }
+    {
+        let ReadCalls {
+            calls,
+            ranges,
+            spans: _,
+        } = calls;
+        let ranges = SettledRanges::settle_all(alloc, unit, kept, ranges)?;
+        Ok(CallLists { calls, ranges })
+    }
+
     fn new(alloc: Global) -> CallLists
         ensures calls { result.calls ≡ [] }
         ensures ranges { result.ranges.list ≡ [] }
@@ -71,125 +71,8 @@ impl CallLists {
     {
         CallLists {
             calls: Vec::new(alloc),
-            ranges: DepthRanges::new(alloc),
-            spans: Vec::new(alloc),
+            ranges: SettledRanges::new(alloc),
         }
-    }
-
-    /// The lists with one more call.
-    fn with(
-        self,
-        unit: &OpenUnit<'_, '_>,
-        lists: &mut DepthLists,
-        depth: usize,
-        description: &Description,
-    ) -> Result<CallLists>
-        requires kept { AreKeptLists (open_view unit.now) lists.old.kept }
-        ensures added { Adds (AreSearchedCalls (open_view unit.now)) self lists.old lists.new result (λ all. call_added (open_view unit.now) all depth description.now) }
-        ensures kept { AreKeptLists (open_view unit.now) lists.new.kept }
-    {
-        let CallLists {
-            mut calls,
-            mut ranges,
-            mut spans,
-        } = self;
-        let number = calls.len();
-        lists.add(
-            unit,
-            depth,
-            number,
-            &description.ranges,
-            &mut ranges,
-            &mut spans,
-        )?;
-        calls.push(call_by(description))?;
-        Ok(CallLists {
-            calls,
-            ranges,
-            spans,
-        })
-    }
-
-    /// The lists with the call that an entry is, if it is one.
-    #[inline(always)]
-    fn with_described(
-        self,
-        unit: &OpenUnit<'_, '_>,
-        lists: &mut DepthLists,
-        depth: Option<usize>,
-        description: &Option<Description>,
-    ) -> Result<CallLists>
-        requires kept { AreKeptLists (open_view unit.now) lists.old.kept }
-        ensures added { Adds (AreSearchedCalls (open_view unit.now)) self lists.old lists.new result (λ all. call_if (open_view unit.now) all depth description.now) }
-        ensures kept { AreKeptLists (open_view unit.now) lists.new.kept }
-    {
-        match (depth, description) {
-            (Some(depth), Some(description)) => self.with(unit, lists, depth, description),
-            (Some(_), None) => Ok(self),
-            (None, _) => Ok(self),
-        }
-    }
-
-    /// The lists with what an entry adds, which was met last; its attributes are read.
-    #[inline(always)]
-    fn with_entry<F: Links>(
-        self,
-        unit: &OpenUnit<'_, '_>,
-        links: &mut F,
-        lists: &mut DepthLists,
-        entries: &mut Entries<'_, '_>,
-        entry: &Entry,
-        depth: Option<usize>,
-    ) -> Result<CallLists>
-        requires source { entries.old.source ≡ source_in (open_view unit.now) }
-        requires kept { AreKeptLists (open_view unit.now) lists.old.kept }
-        requires met { entries.old.pending ≡ specs_of (open_view unit.now) entry.now.code }
-        ensures value { Meets (AreSearchedCalls (open_view unit.now)) self lists.old lists.new entries.new.place result (λ all. call_met (F.refer (F.linkage links.old)) (open_view unit.now) all depth entry.now entries.old) }
-        ensures kept { AreKeptLists (open_view unit.now) lists.new.kept }
-        ensures pending { IfOk result (λ _. entries.new.pending ≡ []) }
-        ensures source { entries.new.source ≡ entries.old.source }
-        ensures ahead { entries.old.place ≤ entries.new.place }
-        ensures same { F.linkage links.new ≡ F.linkage links.old }
-    {
-        match Description::of_entry(unit, links, entries, entry.code, depth.is_some()) {
-            Ok(description) => self.with_described(unit, lists, depth, &description),
-            Err(fault) => Err(fault),
-        }
-    }
-
-    /// The calls among the entries that come next, up to the zero that closes their function.
-    fn read_below<F: Links>(
-        alloc: Global,
-        unit: &OpenUnit<'_, '_>,
-        links: &mut F,
-        entries: &mut Entries<'_, '_>,
-        lists: &mut DepthLists,
-    ) -> Result<CallLists>
-        requires pending { entries.old.pending ≡ [] }
-        requires fresh { lists.old.depths.items ≡ [] }
-        requires kept { AreKeptLists (open_view unit.now) lists.old.kept }
-        requires source { entries.old.source ≡ source_in (open_view unit.now) }
-        ensures value { Gives asked_calls result (or_invalid (if_asked (calls_from (F.refer (F.linkage links.old)) (open_view unit.now) entries.old.place))) }
-        ensures kept { AreKeptLists (open_view unit.now) lists.new.kept }
-        ensures same { F.linkage links.new ≡ F.linkage links.old }
-    {
-        let mut calls = CallLists::new(alloc);
-        let mut levels = Levels::new(alloc)?;
-        while levels.is_open() {
-            entries.pass_over(Passing::Leaves, dwarf::DW_TAG_inlined_subroutine);
-            let entry = match entries.next_entry() {
-                Ok(Some(entry)) => entry,
-                Ok(None) => return Err(invalid("a function or an entry below it is not closed")),
-                Err(fault) => return Err(fault),
-            };
-            let depth = levels.call_depth(entry.tag);
-            calls = match calls.with_entry(unit, links, lists, entries, &entry, depth) {
-                Ok(more) => more,
-                Err(fault) => return Err(fault),
-            };
-            levels.pass(&entry)?;
-        }
-        Ok(calls)
     }
 
     /// The calls of the function whose entry stands at a place. InvalidDwarf exactly where no entry of the unit stands
@@ -224,10 +107,8 @@ impl CallLists {
         if !entry.children {
             return Ok(CallLists::new(alloc));
         }
-        let mut lists = DepthLists::new(alloc, mem::replace(kept, KeptLists::new(alloc)));
-        let calls = CallLists::read_below(alloc, unit, links, &mut entries, &mut lists);
-        *kept = lists.into_kept();
-        calls
+        let calls = ReadCalls::read_below(alloc, unit, links, &mut entries, kept)?;
+        CallLists::settle(alloc, unit, kept, calls)
     }
 
     /// The calls with an index of their ranges. Only want of memory is refused.
@@ -240,11 +121,7 @@ impl CallLists {
         ensures ranges { IfOk result (λ x. x.ranges ≡ self.ranges) }
         ensures accepted { IfOk result (λ x. IsAccepted O.pair_places (map group_key (items_of self.ranges.list)) x.ordered) }
     {
-        let CallLists {
-            calls,
-            ranges,
-            spans: _,
-        } = self;
+        let CallLists { calls, ranges } = self;
         InlinedFunctions::build(alloc, orders, calls, ranges)
     }
 }

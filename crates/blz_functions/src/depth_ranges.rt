@@ -1,43 +1,38 @@
-//! Ranges of inlined calls by their depths, and the depths that share a list.
-ghost use Rattle.std.specs.Prelude.{◌≡◌, ◌+◌, ◌*◌, ◌^◌, ◌-◌, ◌≤◌, ◌++◌, [], Some, length, map, OnOk};
-ghost use Rattle.std.specs.Option.{option_map};
-ghost use Rattle.std.specs.BTreeMap.{IsEmpty, Updates, get};
-ghost use Rattle.std.specs.Ordering.{nat_cmp};
+//! Ranges of inlined calls by their depths, while the calls are read.
+ghost use Rattle.std.specs.Prelude.{◌≡◌, ◌++◌, [], ◌∷◌, ◌<◌, length, map, OnOk, IfOk};
 ghost use Rattle.blz_functions.specs.Chain.{call_range};
-ghost use Rattle.blz_functions.specs.DepthRanges.{call_of, ranges_view, spans_shared};
-ghost use Rattle.blz_ranges.specs.Groups.{AreApart, grouped};
+ghost use Rattle.blz_functions.specs.DepthRanges.{has_pieces, ranges_view, AddsRanges, AddsPieces, PutsRanges, KeepsPieces};
+ghost use Rattle.blz_functions.specs.KeptLists.{AreKeptLists};
+ghost use Rattle.blz_functions.specs.Leaves.{ranges_in};
+ghost use Rattle.blz_functions.specs.Opened.{open_view};
+ghost use Rattle.blz_functions.specs.Pieces.{ranges_of_call};
+ghost use Rattle.blz_functions.specs.declared.pieces.Named.TheVariants.{Listed};
+ghost use Rattle.blz_ranges.specs.Groups.{grouped};
 
-use crate::kept_lists::KeptList;
-use blz_bytes::Steps;
-use blz_entry::Span;
+use crate::kept_lists::KeptLists;
+use crate::open_unit::OpenUnit;
+use crate::pieces::{Named, Piece};
+use crate::read_lists::append_few;
+use blz_entry::{RangeAttributes, Span};
+use blz_error::Result;
 use blz_ranges::{Grouped, own};
 use std::alloc::{AllocError, Global};
-use std::collections::BTreeMap;
-use std::ops::Deref;
-use std::sync::Arc;
-use std::sync::ledger::Ledger;
 
-/// A list of ranges, and the first call of a depth that names it.
-#[derive(Clone, Copy, Drop)]
-pub struct NamedList {
-    /// Where the list begins.
-    pub offset: u64,
+/// A call among those of its function, and how many calls stand above it.
+#[derive(Clone, Copy)]
+pub struct DepthCall {
+    pub depth: usize,
     pub call: usize,
 }
 
-/// A list whose ranges are all that the calls of a depth have.
-#[derive(Drop)]
-pub struct SharedList {
-    pub named: NamedList,
-    pub list: Arc<KeptList>,
-}
-
-/// Ranges in groups, one for each depth, each with the number of its call, and the depths that share a list.
+/// Ranges in groups, one for each depth, each with the number of its call. From the first call on that names a list with
+/// many entries a depth has pieces.
 #[derive(Drop)]
 pub struct DepthRanges {
+    pub alloc: Global,
     pub list: Vec<Grouped>,
     pub owners: Vec<usize>,
-    pub shared: BTreeMap<usize, SharedList>,
+    pub pieces: Vec<Vec<Piece>>,
 }
 
 fn group(
@@ -53,71 +48,112 @@ fn group(
     Ok(())
 }
 
-impl SharedList {
-    /// The call that an address has, if a range of the list covers it.
-    pub(crate) fn call_of<L: Ledger>(&self, addr: u64, steps: &mut Steps<L>) -> Option<usize>
-        ensures call { result ≡ call_of self.now addr }
-        ensures cost { AreApart (spans_shared self.now) → 2 ^ (steps.new - steps.old) ≤ 4 * (2 * length (spans_shared self.now) + 1) }
-        ensures later { steps.old ≤ steps.new }
-    {
-        match self.list.deref().best_at(addr, steps) {
-            Some(_) => Some(self.named.call),
-            None => None,
-        }
+/// Makes room for the pieces of a depth.
+fn reach(
+    alloc: Global,
+    pieces: &mut Vec<Vec<Piece>>,
+    depth: usize,
+) -> std::result::Result<(), AllocError>
+    ensures there { IfOk result (λ _. depth < length pieces.new.items) }
+    ensures keeps { OnOk result (KeepsPieces pieces.old.items pieces.new.items) }
+{
+    while pieces.as_slice().len() <= depth {
+        pieces.push(Vec::new(alloc))?;
     }
+    Ok(())
+}
+
+/// The ranges of a call as pieces.
+fn push_ranges(
+    pieces: &mut Vec<Piece>,
+    call: usize,
+    spans: &[Span],
+) -> std::result::Result<(), AllocError>
+    ensures { OnOk result (pieces.new.items ≡ pieces.old.items ++ ranges_of_call call spans.now) }
+{
+    for span in spans {
+        let named = Named::Range(span.begin, span.end);
+        pieces.push(Piece { call, named })?;
+    }
+    Ok(())
 }
 
 impl DepthRanges {
     pub(crate) fn new(alloc: Global) -> DepthRanges
         ensures list { result.list.items ≡ [] }
         ensures owners { result.owners.items ≡ [] }
-        ensures shared { IsEmpty result.shared }
+        ensures pieces { result.pieces.items ≡ [] }
     {
         DepthRanges {
+            alloc,
             list: Vec::new(alloc),
             owners: Vec::new(alloc),
-            shared: BTreeMap::new(alloc),
+            pieces: Vec::new(alloc),
         }
     }
 
-    /// Puts the ranges of a call to those of a depth.
-    pub(crate) fn put(
-        &mut self,
-        depth: usize,
-        call: usize,
-        spans: &[Span],
-    ) -> std::result::Result<(), AllocError>
-        requires { length self.old.list.items ≡ length self.old.owners.items }
-        ensures fits { OnOk result (length self.new.list.items ≡ length self.new.owners.items) }
-        ensures put { OnOk result ((ranges_view self.new).list ≡ (ranges_view self.old).list ++ map (call_range depth call) spans.now) }
-        ensures same { self.new.shared ≡ self.old.shared }
+    /// Whether a call of a depth names a list with many entries.
+    fn has_pieces(&self, depth: usize) -> bool
+        ensures { result ≡ has_pieces self.now.pieces.items depth }
     {
-        group(&mut self.list, depth, spans)?;
-        own(&mut self.owners, call, self.list.len())?;
+        match self.pieces.get(depth) {
+            Some(pieces) => !pieces.is_empty(),
+            None => false,
+        }
+    }
+
+    /// Puts a list that a call names to the pieces of its depth.
+    fn put_list(&mut self, at: DepthCall, offset: u64) -> std::result::Result<(), AllocError>
+        ensures pieces { OnOk result (AddsPieces self.old self.new at.depth (record { call = at.call; named = Listed offset } ∷ [])) }
+    {
+        reach(self.alloc, &mut self.pieces, at.depth)?;
+        let call = at.call;
+        let named = Named::Listed(offset);
+        self.pieces[at.depth].push(Piece { call, named })?;
         Ok(())
     }
 
-    /// The list that a depth shares.
-    pub(crate) fn shared(&self, depth: usize) -> Option<NamedList>
-        ensures { result ≡ option_map (λ s. s.named) (get nat_cmp self.now.shared depth) }
+    /// Puts the ranges of a call to those of its depth.
+    fn put(&mut self, at: DepthCall, spans: &[Span]) -> std::result::Result<(), AllocError>
+        requires fits { length self.old.list.items ≡ length self.old.owners.items }
+        ensures fits { OnOk result (length self.new.list.items ≡ length self.new.owners.items) }
+        ensures put { OnOk result (PutsRanges self.old self.new at spans.now) }
     {
-        match self.shared.get(&depth) {
-            Some(list) => Some(list.named),
-            None => None,
+        if self.has_pieces(at.depth) {
+            return push_ranges(&mut self.pieces[at.depth], at.call, spans);
         }
+        group(&mut self.list, at.depth, spans)?;
+        own(&mut self.owners, at.call, self.list.len())?;
+        Ok(())
     }
 
-    /// Lets a depth share a list.
-    pub(crate) fn share(
+    /// Adds the ranges that attributes of a call tell. InvalidDwarf exactly where they have no value.
+    pub(crate) fn add(
         &mut self,
-        depth: usize,
-        list: SharedList,
-    ) -> std::result::Result<(), AllocError>
-        ensures shared { OnOk result (Updates nat_cmp self.old.shared self.new.shared depth (Some list)) }
-        ensures list { self.new.list ≡ self.old.list }
-        ensures owners { self.new.owners ≡ self.old.owners }
+        unit: &OpenUnit<'_, '_>,
+        kept: &mut KeptLists,
+        at: DepthCall,
+        attributes: &RangeAttributes,
+        spans: &mut Vec<Span>,
+    ) -> Result<()>
+        requires fits { length self.old.list.items ≡ length self.old.owners.items }
+        requires kept { AreKeptLists (open_view unit.now) kept.old }
+        ensures value { AddsRanges (open_view unit.now) self.old self.new at (ranges_in (open_view unit.now) attributes.now) result }
+        ensures fits { OnOk result (length self.new.list.items ≡ length self.new.owners.items) }
+        ensures kept { AreKeptLists (open_view unit.now) kept.new }
     {
-        self.shared.insert(depth, list)?;
+        spans.clear();
+        let Some(offset) = attributes.ranges_offset else {
+            unit.append_ranges(attributes, spans)?;
+            self.put(at, spans.as_slice())?;
+            return Ok(());
+        };
+        if append_few(unit, offset, spans)?.is_some() {
+            self.put(at, spans.as_slice())?;
+            return Ok(());
+        }
+        kept.name(self.alloc, unit, offset)?;
+        self.put_list(at, offset)?;
         Ok(())
     }
 }

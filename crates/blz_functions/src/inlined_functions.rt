@@ -2,12 +2,13 @@
 ghost use Rattle.std.specs.Prelude.{◌≡◌, ℕ, ◌+◌, ◌*◌, ◌^◌, ◌-◌, ◌<◌, ◌≤◌, true, length, map, Option, IfOk};
 ghost use Rattle.blz_functions.specs.AskedCalls.{IsPathInTrees, asked_by, asked_chain};
 ghost use Rattle.blz_functions.specs.Chain.{owner_found};
-ghost use Rattle.blz_functions.specs.DepthRanges.{count_at, found_at, ranges_view, AreApartAt};
+ghost use Rattle.blz_functions.specs.SettledRanges.{found_at, settled_view, TakesFewAt};
 ghost use Rattle.blz_ranges.specs.Keyed.{IsAccepted, group_key};
 ghost use Rattle.blz_ranges.specs.Owned.{owned};
 ghost use Rattle.blz_functions.specs.FunctionRanges.{CallRanges};
 
-use crate::depth_ranges::{DepthRanges, SharedList};
+use crate::settled_ranges::SettledRanges;
+use crate::shared_depth::SharedDepth;
 use blz_bytes::{Orders, Steps};
 use blz_entry::StrPlace;
 use blz_ranges::{GroupIndex, fitted, group_keys, number_at};
@@ -29,14 +30,14 @@ pub struct InlinedFunction {
     pub call_column: u32,
 }
 
-/// The inlined calls of a function, with their ranges in groups, one for each depth, and the depths that have those of a list
-/// of the unit alone.
+/// The inlined calls of a function, with their ranges in groups, one for each depth, and the depths whose
+/// ranges are kept once a unit.
 #[derive(Drop)]
 pub struct InlinedFunctions {
     calls: Vec<InlinedFunction>,
     index: GroupIndex,
     owners: Vec<usize>,
-    shared: BTreeMap<usize, SharedList>,
+    shared: BTreeMap<usize, SharedDepth>,
 }
 
 impl Model for InlinedFunctions {
@@ -53,14 +54,14 @@ impl InlinedFunctions {
         alloc: Global,
         orders: &mut O,
         calls: Vec<InlinedFunction>,
-        ranges: DepthRanges,
+        ranges: SettledRanges,
     ) -> Result<InlinedFunctions, AllocError>
         requires { length ranges.list.items ≡ length ranges.owners.items }
         ensures calls { IfOk result (λ x. x.calls ≡ calls.items) }
-        ensures ranges { IfOk result (λ x. x.ranges ≡ ranges_view ranges) }
+        ensures ranges { IfOk result (λ x. x.ranges ≡ settled_view ranges) }
         ensures accepted { IfOk result (λ x. IsAccepted O.pair_places (map group_key ranges.list.items) x.ordered) }
     {
-        let DepthRanges {
+        let SettledRanges {
             list,
             owners,
             shared,
@@ -97,11 +98,11 @@ impl InlinedFunctions {
         steps: &mut Steps<L>,
     ) -> Option<usize>
         ensures best { result ≡ found_at self.now.ranges addr depth }
-        ensures cost { self.now.ordered ≡ true → AreApartAt self.now.ranges depth → 2 ^ (steps.new - steps.old) ≤ 4 * (2 * count_at self.now.ranges depth + 1) }
+        ensures cost { self.now.ordered ≡ true → TakesFewAt self.now.ranges depth (steps.new - steps.old) }
         ensures later { steps.old ≤ steps.new }
     {
         match self.shared.get(&depth) {
-            Some(list) => list.call_of(addr, steps),
+            Some(shared) => shared.call_of(addr, steps),
             None => {
                 let place = self.index.best_in(depth, addr, steps);
                 self.owner(place)

@@ -1,68 +1,70 @@
-//! Lists of ranges that inlined calls of a unit name again and again, each kept once for all functions of the unit.
-ghost use Rattle.std.specs.Prelude.{◌≡◌, ◌+◌, ◌*◌, ◌^◌, ◌-◌, ◌≤◌, length, true, IfOk, IfSome, Some};
-ghost use Rattle.std.specs.Arc.{arc_value};
-ghost use Rattle.blz_ranges.specs.Best.{best};
-ghost use Rattle.blz_ranges.specs.Groups.{AreApart};
-ghost use Rattle.blz_functions.specs.KeptLists.{AreKeptLists, GivesListAt, IsListAt};
-ghost use Rattle.blz_functions.specs.Leaves.{UnitParts, ranges_in};
+//! Lists of ranges that inlined calls of a unit name again and again, kept once for all functions of the unit.
+ghost use Rattle.std.specs.Prelude.{IfSome};
+ghost use Rattle.blz_entry.specs.RangeTails.{list_tail};
+ghost use Rattle.blz_functions.specs.KeptLists.{AreKeptLists, GivesContent, IsKeptContent, IsNamedList, KeepsLists, MayGiveWhole, Names, TellsWithin};
+ghost use Rattle.blz_functions.specs.Leaves.{UnitParts};
 ghost use Rattle.blz_functions.specs.Opened.{open_view};
+ghost use Rattle.blz_functions.specs.Pieces.{AreNamed, list_at};
+ghost use Rattle.blz_functions.specs.WholeLists.{IsWhole, MayGiveTail};
 
 use crate::open_unit::OpenUnit;
-use blz_bytes::{ByStdSort, Steps};
-use blz_entry::{RangeAttributes, Span};
-use blz_error::Result;
-use blz_ranges::RangeIndex;
+use crate::pieces::{Piece, gathered};
+use crate::shared_tail::SharedTail;
+use crate::whole_list::WholeList;
+use blz_bytes::ByStdSort;
+use blz_entry::RangeTail;
+use blz_error::{ErrorKind, Result};
+use blz_ranges::OwnedRanges;
 use std::alloc::{AllocError, Global};
 use std::collections::BTreeMap;
-use std::marker::Model;
 use std::sync::Arc;
-use std::sync::ledger::Ledger;
 
-/// The ranges of a list, in an order that was accepted.
+/// A list that was named: where its last entry lies, and the whole list once another one was named that begins there.
 #[derive(Drop)]
-pub struct KeptList {
-    index: RangeIndex,
+struct NamedList {
+    last: usize,
+    whole: Option<WholeList>,
 }
 
-impl Model for KeptList {
-    ghost use Rattle.std.specs.Prelude.{◌≡◌, true, List};
-    ghost use Rattle.blz_ranges.specs.declared.span.Span.{Span};
-
-    ghost Value = { List Span };
-
-    ghost view = { λ l. l.index.spans };
-
-    ghost invariant = { λ l. l.index.ordered ≡ true };
-}
-
-impl KeptList {
-    /// None where the order was not accepted, so that each list that is kept is seen in few looks.
-    fn build(alloc: Global, spans: Vec<Span>) -> std::result::Result<Option<KeptList>, AllocError>
-        ensures { IfOk result (λ o. IfSome o (λ l. l ≡ spans.items)) }
-    {
-        let index = RangeIndex::build(alloc, &mut ByStdSort, spans)?;
-        if index.is_ordered() {
-            Ok(Some(KeptList { index }))
-        } else {
-            Ok(None)
-        }
-    }
-
-    /// The place of the best range that covers an address.
-    pub(crate) fn best_at<L: Ledger>(&self, addr: u64, steps: &mut Steps<L>) -> Option<usize>
-        ensures best { result ≡ best self.now addr }
-        ensures cost { AreApart self.now → 2 ^ (steps.new - steps.old) ≤ 4 * (2 * length self.now + 1) }
-        ensures later { steps.old ≤ steps.new }
-    {
-        self.index.best_at(addr, steps)
-    }
-}
-
-/// The lists of a unit with many entries that depths of its functions begin with, by their offsets. One is kept from the
-/// second time on that it is named.
+/// The lists with many entries that calls of a unit name, by their offsets, and what was gathered of such lists and other
+/// ranges, from the second time on that it is asked for.
 #[derive(Drop)]
 pub struct KeptLists {
-    named: BTreeMap<u64, Option<Arc<KeptList>>>,
+    named: BTreeMap<u64, NamedList>,
+    contents: BTreeMap<Vec<Piece>, Option<Arc<OwnedRanges>>>,
+}
+
+/// Reads a list that was read before.
+fn read_again(
+    alloc: Global,
+    unit: &OpenUnit<'_, '_>,
+    offset: u64,
+) -> std::result::Result<Option<WholeList>, AllocError>
+    ensures { MayGiveWhole (open_view unit.now) result }
+{
+    match WholeList::read(alloc, unit, offset) {
+        Ok(list) => Ok(Some(list)),
+        Err(fault) if fault.kind() == ErrorKind::OutOfMemory => Err(AllocError),
+        Err(_) => Ok(None),
+    }
+}
+
+/// What pieces tell, where its order is accepted.
+fn content_of(
+    alloc: Global,
+    unit: &OpenUnit<'_, '_>,
+    pieces: &[Piece],
+) -> Result<Option<Arc<OwnedRanges>>>
+    requires { AreNamed (open_view unit.now) pieces.now }
+    ensures { GivesContent (open_view unit.now) pieces.now result }
+{
+    let (spans, owners) = gathered(alloc, unit, pieces)?;
+    let ranges = OwnedRanges::build(alloc, &mut ByStdSort, spans, owners)?;
+    if ranges.is_ordered() {
+        Ok(Some(Arc::new(alloc, ranges)?))
+    } else {
+        Ok(None)
+    }
 }
 
 impl KeptLists {
@@ -72,66 +74,235 @@ impl KeptLists {
     {
         KeptLists {
             named: BTreeMap::new(alloc),
+            contents: BTreeMap::new(alloc),
         }
     }
 
-    /// Notes that a list was named.
-    pub(crate) fn note(&mut self, offset: u64) -> std::result::Result<(), AllocError>
-        ensures { (u : UnitParts) → AreKeptLists u self.old → AreKeptLists u self.new }
+    /// Where the named list begins that an offset may lie in, and whether it is kept whole.
+    fn around(&self, offset: u64) -> Option<(u64, bool)> {
+        match self.named.range(..=offset).next_back() {
+            Some((start, list)) if offset as usize <= list.last => {
+                Some((*start, list.whole.is_some()))
+            }
+            _ => None,
+        }
+    }
+
+    /// Where the first named list behind an offset begins.
+    fn next_above(&self, offset: u64) -> Option<u64> {
+        match self.named.range(offset.saturating_add(1)..).next() {
+            Some((start, _)) => Some(*start),
+            None => None,
+        }
+    }
+
+    fn put(&mut self, start: u64, list: NamedList) -> std::result::Result<(), AllocError>
+        ensures { KeepsLists self.old self.new (λ u. IsNamedList u list) }
     {
-        self.named.insert(offset, None)?;
+        self.named.insert(start, list)?;
         Ok(())
     }
 
-    /// Keeps a list.
-    fn keep(&mut self, offset: u64, list: &Arc<KeptList>) -> std::result::Result<(), AllocError>
-        ensures { (u : UnitParts) → IsListAt u offset (arc_value list.now) → AreKeptLists u self.old → AreKeptLists u self.new }
+    /// Takes out a named list.
+    fn take(&mut self, start: u64) -> Option<NamedList>
+        ensures taken { (u : UnitParts) → AreKeptLists u self.old → IfSome result (IsNamedList u) }
+        ensures kept { (u : UnitParts) → AreKeptLists u self.old → AreKeptLists u self.new }
     {
-        let list = Arc::try_clone(list)?;
-        self.named.insert(offset, Some(list))?;
-        Ok(())
+        self.named.remove(&start)
     }
 
-    /// Reads a list and keeps it.
-    fn read(
+    /// Takes out a named list, read whole.
+    fn take_whole(
         &mut self,
         alloc: Global,
         unit: &OpenUnit<'_, '_>,
-        attributes: &RangeAttributes,
-        offset: u64,
-    ) -> Result<Option<Arc<KeptList>>>
-        requires list { attributes.now.ranges_offset ≡ Some offset }
-        requires kept { AreKeptLists (open_view unit.now) self.old }
-        ensures value { GivesListAt (open_view unit.now) offset (ranges_in (open_view unit.now) attributes.now) result }
+        start: u64,
+    ) -> std::result::Result<Option<WholeList>, AllocError>
+        requires { AreKeptLists (open_view unit.now) self.old }
+        ensures value { MayGiveWhole (open_view unit.now) result }
         ensures kept { AreKeptLists (open_view unit.now) self.new }
     {
-        let mut spans = Vec::new(alloc);
-        unit.append_ranges(attributes, &mut spans)?;
-        let Some(list) = KeptList::build(alloc, spans)? else {
+        let Some(list) = self.take(start) else {
             return Ok(None);
         };
-        let list = Arc::new(alloc, list)?;
-        self.keep(offset, &list)?;
-        Ok(Some(list))
+        match list.whole {
+            Some(whole) => Ok(Some(whole)),
+            None => read_again(alloc, unit, start),
+        }
     }
 
-    /// The list that attributes tell, if it was named before.
-    pub(crate) fn find(
+    /// Keeps a named list whole.
+    fn put_whole(&mut self, start: u64, list: WholeList) -> std::result::Result<(), AllocError>
+        ensures { KeepsLists self.old self.new (λ u. IsWhole u list) }
+    {
+        let last = list.last();
+        self.put(
+            start,
+            NamedList {
+                last,
+                whole: Some(list),
+            },
+        )
+    }
+
+    /// Whether a list begins within a named one, or is that one.
+    fn is_within(
         &mut self,
         alloc: Global,
         unit: &OpenUnit<'_, '_>,
-        attributes: &RangeAttributes,
-        offset: u64,
-    ) -> Result<Option<Arc<KeptList>>>
-        requires list { attributes.now.ranges_offset ≡ Some offset }
-        requires kept { AreKeptLists (open_view unit.now) self.old }
-        ensures value { GivesListAt (open_view unit.now) offset (ranges_in (open_view unit.now) attributes.now) result }
+        start: u64,
+        tail: RangeTail,
+    ) -> std::result::Result<bool, AllocError>
+        requires { AreKeptLists (open_view unit.now) self.old }
+        ensures value { TellsWithin (open_view unit.now) tail result }
         ensures kept { AreKeptLists (open_view unit.now) self.new }
     {
-        match self.named.get(&offset) {
-            Some(Some(list)) => Ok(Some(Arc::try_clone(list)?)),
-            Some(None) => self.read(alloc, unit, attributes, offset),
-            None => Ok(None),
+        let Some(list) = self.take_whole(alloc, unit, start)? else {
+            return Ok(false);
+        };
+        let within = list.find(tail).is_some();
+        self.put_whole(start, list)?;
+        Ok(within)
+    }
+
+    /// Forgets the next list behind an offset where it begins within the list there, so that it is found as its tail.
+    fn forget_within(&mut self, unit: &OpenUnit<'_, '_>, offset: u64, list: &WholeList)
+        ensures { (u : UnitParts) → AreKeptLists u self.old → AreKeptLists u self.new }
+    {
+        if let Some(next) = self.next_above(offset) {
+            if list.find(unit.ranges_at(next)).is_some() {
+                self.take(next);
+            }
+        }
+    }
+
+    /// Reads a list that was not named before, and notes that it was.
+    fn read(&mut self, alloc: Global, unit: &OpenUnit<'_, '_>, offset: u64) -> Result<()>
+        requires kept { AreKeptLists (open_view unit.now) self.old }
+        ensures value { Names (list_at (open_view unit.now) offset) result }
+        ensures kept { AreKeptLists (open_view unit.now) self.new }
+    {
+        let list = WholeList::read(alloc, unit, offset)?;
+        self.forget_within(unit, offset, &list);
+        let last = list.last();
+        self.put(offset, NamedList { last, whole: None })?;
+        Ok(())
+    }
+
+    /// Notes that a list is named. It is kept from the second time on that it is, or that another one is which begins
+    /// within it.
+    pub(crate) fn name(&mut self, alloc: Global, unit: &OpenUnit<'_, '_>, offset: u64) -> Result<()>
+        requires kept { AreKeptLists (open_view unit.now) self.old }
+        ensures value { Names (list_at (open_view unit.now) offset) result }
+        ensures kept { AreKeptLists (open_view unit.now) self.new }
+    {
+        if let Some((start, _)) = self.around(offset) {
+            let tail = unit.ranges_at(offset);
+            if self.is_within(alloc, unit, start, tail)? {
+                return Ok(());
+            }
+        }
+        self.read(alloc, unit, offset)
+    }
+
+    /// The ranges of a list from an index of the named one around it. None where that was named once alone, or has no
+    /// index that serves.
+    pub(crate) fn tail(
+        &mut self,
+        alloc: Global,
+        unit: &OpenUnit<'_, '_>,
+        offset: u64,
+    ) -> std::result::Result<Option<SharedTail>, AllocError>
+        requires kept { AreKeptLists (open_view unit.now) self.old }
+        ensures value { MayGiveTail (open_view unit.now) (list_tail unit.now.root offset) result }
+        ensures kept { AreKeptLists (open_view unit.now) self.new }
+    {
+        match self.around(offset) {
+            Some((start, whole)) if whole || start < offset => {
+                self.tail_of(alloc, unit, start, unit.ranges_at(offset))
+            }
+            _ => Ok(None),
+        }
+    }
+
+    /// The ranges of a list that begins within a named one.
+    fn tail_of(
+        &mut self,
+        alloc: Global,
+        unit: &OpenUnit<'_, '_>,
+        start: u64,
+        tail: RangeTail,
+    ) -> std::result::Result<Option<SharedTail>, AllocError>
+        requires kept { AreKeptLists (open_view unit.now) self.old }
+        ensures value { MayGiveTail (open_view unit.now) tail result }
+        ensures kept { AreKeptLists (open_view unit.now) self.new }
+    {
+        let Some(mut list) = self.take_whole(alloc, unit, start)? else {
+            return Ok(None);
+        };
+        let found = list.tail_at(alloc, tail)?;
+        self.put_whole(start, list)?;
+        Ok(found)
+    }
+
+    /// Whether the list around an offset is kept whole.
+    pub(crate) fn is_kept(&self, offset: u64) -> bool {
+        match self.around(offset) {
+            Some((_, whole)) => whole,
+            None => false,
+        }
+    }
+
+    fn keep_content(
+        &mut self,
+        pieces: Vec<Piece>,
+        content: Option<Arc<OwnedRanges>>,
+    ) -> std::result::Result<(), AllocError>
+        ensures { KeepsLists self.old self.new (λ u. IsKeptContent u pieces content) }
+    {
+        self.contents.insert(pieces, content)?;
+        Ok(())
+    }
+
+    /// Gathers what pieces tell, and keeps it.
+    fn gather(
+        &mut self,
+        alloc: Global,
+        unit: &OpenUnit<'_, '_>,
+        pieces: Vec<Piece>,
+    ) -> Result<Option<Arc<OwnedRanges>>>
+        requires kept { AreKeptLists (open_view unit.now) self.old }
+        requires named { AreNamed (open_view unit.now) pieces.items }
+        ensures value { GivesContent (open_view unit.now) pieces.items result }
+        ensures kept { AreKeptLists (open_view unit.now) self.new }
+    {
+        let Some(content) = content_of(alloc, unit, &pieces)? else {
+            return Ok(None);
+        };
+        let kept = Arc::try_clone(&content)?;
+        self.keep_content(pieces, Some(kept))?;
+        Ok(Some(content))
+    }
+
+    /// What pieces tell, if it was asked for before.
+    pub(crate) fn content(
+        &mut self,
+        alloc: Global,
+        unit: &OpenUnit<'_, '_>,
+        pieces: Vec<Piece>,
+    ) -> Result<Option<Arc<OwnedRanges>>>
+        requires kept { AreKeptLists (open_view unit.now) self.old }
+        requires named { AreNamed (open_view unit.now) pieces.items }
+        ensures value { GivesContent (open_view unit.now) pieces.items result }
+        ensures kept { AreKeptLists (open_view unit.now) self.new }
+    {
+        match self.contents.get(&pieces) {
+            Some(Some(content)) => Ok(Some(Arc::try_clone(content)?)),
+            Some(None) => self.gather(alloc, unit, pieces),
+            None => {
+                self.keep_content(pieces, None)?;
+                Ok(None)
+            }
         }
     }
 }

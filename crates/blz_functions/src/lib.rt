@@ -2,19 +2,25 @@
 #![tactic(auto)]
 
 mod call_lists;
-mod depth_lists;
 mod depth_ranges;
 mod description;
 mod function_lists;
 mod functions;
 mod inlined_functions;
+mod kept_list;
 mod kept_lists;
 pub mod laws;
 mod levels;
 mod links;
 mod open_unit;
+mod pieces;
+mod read_calls;
 mod read_lists;
 mod referred;
+mod settled_ranges;
+mod shared_depth;
+mod shared_tail;
+mod whole_list;
 
 pub use call_lists::CallLists;
 pub use function_lists::FunctionLists;

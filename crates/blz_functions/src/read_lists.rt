@@ -1,5 +1,6 @@
 //! Lists of ranges that were read: what follows one of their entries is not read again with the same base.
-ghost use Rattle.std.specs.Prelude.{◌≡◌, ◌++◌, ◌∷◌, [], List, IfSome, IfOk, OnOk, false, length, take, vec_len};
+ghost use Rattle.std.specs.Prelude.{◌≡◌, ◌++◌, ◌∷◌, [], List, IfSome, IfOk, OnOk, None, false, length, take, vec_len};
+ghost use Rattle.std.specs.BTreeMap.{IsEmpty};
 ghost use Rattle.std.specs.List.{All};
 ghost use Rattle.std.specs.Option.{option_to_list};
 ghost use Rattle.blz_ranges.specs.declared.span.Span.{Span};
@@ -15,11 +16,11 @@ use blz_error::Result;
 use std::alloc::{AllocError, Global};
 use std::collections::BTreeMap;
 
-/// An entry of a list of ranges that is being read, and how many ranges stood before its own.
+/// An entry of a list of ranges that was read, and how many ranges stood before its own.
 #[derive(Clone, Copy, Drop)]
-struct PassedEntry {
-    tail: RangeTail,
-    before: usize,
+pub(crate) struct PassedEntry {
+    pub(crate) tail: RangeTail,
+    pub(crate) before: usize,
 }
 
 /// The lists of ranges that were read, by where they begin and by what offsets are added to there, and whether each tells
@@ -31,7 +32,7 @@ pub struct ReadLists {
 }
 
 /// A list of no more entries is read anew each time: that takes less than to keep it.
-const FEW_ENTRIES: usize = 4;
+const FEW_ENTRIES: usize = 8;
 
 fn put(out: &mut Vec<Span>, span: Option<Span>) -> std::result::Result<(), AllocError>
     ensures { OnOk result (out.new.items ≡ out.old.items ++ option_to_list span) }
@@ -44,7 +45,11 @@ fn put(out: &mut Vec<Span>, span: Option<Span>) -> std::result::Result<(), Alloc
 
 /// Appends the ranges of a list that has few entries, as most have that compilers write, and says whether there was one.
 /// None for a longer list, of which the first ranges are put.
-fn append_few(unit: &OpenUnit<'_, '_>, offset: u64, out: &mut Vec<Span>) -> Result<Option<bool>>
+pub(crate) fn append_few(
+    unit: &OpenUnit<'_, '_>,
+    offset: u64,
+    out: &mut Vec<Span>,
+) -> Result<Option<bool>>
     ensures value { AppendsFew (spans_behind (open_view unit.now) (list_tail unit.now.root offset)) out.old.items result out.new.items }
     ensures front { OnOk result (take (vec_len out.old) out.new.items ≡ out.old.items) }
     ensures none { IfOk result (λ some. some ≡ Some false → out.new.items ≡ out.old.items) }
@@ -80,7 +85,8 @@ fn pass_entry(
 
 impl ReadLists {
     pub(crate) fn new(alloc: Global) -> ReadLists
-        ensures { (u : UnitParts) (ranges : List (Owned Span)) → AreRead u ranges result }
+        ensures read { (u : UnitParts) (ranges : List (Owned Span)) → AreRead u ranges result }
+        ensures empty { IsEmpty result.tell }
     {
         ReadLists {
             alloc,
@@ -95,7 +101,8 @@ impl ReadLists {
 
     /// Whether a list tells a range, if it was read.
     fn find(&self, tail: RangeTail) -> Option<bool>
-        ensures { (u : UnitParts) (ranges : List (Owned Span)) → AreRead u ranges self.now → IfSome result (IsRead u ranges tail) }
+        ensures read { (u : UnitParts) (ranges : List (Owned Span)) → AreRead u ranges self.now → IfSome result (IsRead u ranges tail) }
+        ensures none { IsEmpty self.now.tell → result ≡ None }
     {
         self.tell.get(&(tail.place, tail.base)).copied()
     }
@@ -124,8 +131,8 @@ impl ReadLists {
     }
 
     /// Passes the entries of a list up to one that was read before, and appends their ranges. Says whether what was
-    /// read before tells a range.
-    fn pass(
+    /// read before tells a range: false where nothing was.
+    pub(crate) fn pass(
         &self,
         unit: &OpenUnit<'_, '_>,
         offset: u64,
@@ -135,6 +142,7 @@ impl ReadLists {
         requires { passed.old.items ≡ [] }
         ensures value { PassesTo (open_view unit.now) self.now (list_tail unit.now.root offset) out.old.items out.new.items passed.new.items result }
         ensures front { OnOk result (take (vec_len out.old) out.new.items ≡ out.old.items) }
+        ensures none { IsEmpty self.now.tell → IfOk result (λ some. some ≡ false) }
     {
         let mut tail = unit.ranges_at(offset);
         loop {

@@ -3,7 +3,7 @@ use Rattle.std.proofs.lemmas.Result.{err_from_is_err_and}
 use Rattle.blz_model.specs.Part.{Good}
 use Rattle.blz_functions.specs.Opened.{open_view}
 use Rattle.blz_functions.proofs.CallEntry.{begins, refused, calls_outside, calls_over, calls_stuck, calls_zero, calls_unread, calls_leaf, calls_inside, not_true, not_false, skipped_pending}
-use Rattle.blz_functions.proofs.SearchedCalls.{asked_is, asked_of_calls, none_asked, unasked}
+use Rattle.blz_functions.proofs.CallsRead.{asked_fails, asked_is, asked_of_calls, none_asked, settled_given, unasked}
 use Rattle.blz_functions.proofs.call_lists.CallLists.read.Goals as goal
 
 pub returns-in_err-entries-clause-value : goal.returns-in_err-entries-clause-value
@@ -43,11 +43,26 @@ returns-then-not-entry-clause-value g c =
     asked_is _ u c.args.place _ (calls_leaf _ u c.args.place c.in_ok-entries.entries b c.next_entry.new.self c.skip_attributes.new.self _ (rw c.in-Ok-Some.field-0-is at c.in-Ok-Some.ensures.value) c.in-Ok.ensures.value c.if-entry-eq0.false (not_true c.in-Ok-Some.entry.children c.if-not-entry.true))
     ∙ ap Good (none_asked c.new.result c.new.ensures.calls c.new.ensures.ranges c.new.ensures.shared)
 
-pub read_below-calls-requires-clause-pending : goal.read_below-calls-requires-clause-pending
-read_below-calls-requires-clause-pending g c = skipped_pending c.next_entry.new.self c.skip_attributes.new.self c.in-Ok.ensures.value
+pub read_below-requires-clause-pending : goal.read_below-requires-clause-pending
+read_below-requires-clause-pending g c = skipped_pending c.next_entry.new.self c.skip_attributes.new.self c.in-Ok.ensures.value
+
+pub returns-in_err-calls-clause-value : goal.returns-in_err-calls-clause-value
+returns-in_err-calls-clause-value g c =
+    let u = open_view c.args.unit.now in
+    let refer = g.F.Links.refer (g.F.Links.linkage c.args.links.now) in
+    let b = begins u c.args.place c.in_ok-entries.entries c.in_ok-entries.ensures in
+    let p = err_from_is_err_and c.from_residual-in_err-calls.result c.from_residual-in_err-calls.ensures.1 in
+    let inside = calls_inside refer u c.args.place c.in_ok-entries.entries b c.next_entry.new.self c.skip_attributes.new.self c.in-Ok-Some.entry (rw c.in-Ok-Some.field-0-is at c.in-Ok-Some.ensures.value) c.in-Ok.ensures.value c.if-entry-eq0.false (not_false c.in-Ok-Some.entry.children c.if-not-entry.false) in
+    rw (asked_of_calls refer u c.args.place _ inside, p.1, p.2) (asked_fails _ _ c.in_err-calls.ensures.value)
+
+pub settle-requires-clause-named : goal.settle-requires-clause-named
+settle-requires-clause-named g c = c.in_ok-calls.ensures.value.fits.ranges.named
 
 pub returns-clause-value : goal.returns-clause-value
 returns-clause-value g c =
     let u = open_view c.args.unit.now in
+    let refer = g.F.Links.refer (g.F.Links.linkage c.args.links.now) in
     let b = begins u c.args.place c.in_ok-entries.entries c.in_ok-entries.ensures in
-    rw (asked_of_calls _ u c.args.place _ (calls_inside (g.F.Links.refer (g.F.Links.linkage c.args.links.now)) u c.args.place c.in_ok-entries.entries b c.next_entry.new.self c.skip_attributes.new.self c.in-Ok-Some.entry (rw c.in-Ok-Some.field-0-is at c.in-Ok-Some.ensures.value) c.in-Ok.ensures.value c.if-entry-eq0.false (not_false c.in-Ok-Some.entry.children c.if-not-entry.false))) c.read_below-calls.ensures.value
+    let inside = calls_inside refer u c.args.place c.in_ok-entries.entries b c.next_entry.new.self c.skip_attributes.new.self c.in-Ok-Some.entry (rw c.in-Ok-Some.field-0-is at c.in-Ok-Some.ensures.value) c.in-Ok.ensures.value c.if-entry-eq0.false (not_false c.in-Ok-Some.entry.children c.if-not-entry.false) in
+    let read = c.in_ok-calls.ensures.value in
+    rw (asked_of_calls refer u c.args.place _ inside) (settled_given c.settle.result read.value _ read.is (c.settle.ensures.settled read.value read.fits))

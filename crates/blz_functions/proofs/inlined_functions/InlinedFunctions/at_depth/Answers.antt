@@ -1,7 +1,7 @@
 use Rattle.std.proofs.Common.{◌≡◌, refl, sym, ap, ◌∙◌, List, None}
 use Rattle.blz_ranges.specs.declared.grouped.Grouped.{Grouped}
 use Rattle.blz_functions.specs.Chain.{at_depth, owner_found}
-use Rattle.blz_functions.specs.DepthRanges.{SearchedRanges, found_at, shared_in}
+use Rattle.blz_functions.specs.SettledRanges.{SearchedRanges, found_at, shared_in}
 use Rattle.blz_ranges.specs.Owned.{owned}
 use Rattle.blz_ranges.specs.Groups.{best_in, AreApartInGroups}
 use Rattle.blz_ranges.proofs.OwnedItems.{items_owned, cost_owned}

@@ -1,6 +1,6 @@
 use Rattle.std.proofs.Common.{sym, ap, ◌∙◌}
 use Rattle.blz_functions.specs.Chain.{picked}
-use Rattle.blz_functions.specs.DepthRanges.{found_at}
+use Rattle.blz_functions.specs.SettledRanges.{found_at}
 use Rattle.blz_functions.proofs.ChainLoop.{stop, goes, done}
 use Rattle.blz_functions.proofs.inlined_functions.InlinedFunctions.chain.Goals as goal
 

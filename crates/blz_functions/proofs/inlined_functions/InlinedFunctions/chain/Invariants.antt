@@ -1,6 +1,6 @@
 use Rattle.std.proofs.Common.{◌≡◌, ◌++◌, ◌-◌}
 use Rattle.blz_functions.specs.Chain.{picked}
-use Rattle.blz_functions.specs.DepthRanges.{found_at}
+use Rattle.blz_functions.specs.SettledRanges.{found_at}
 use Rattle.blz_functions.proofs.inlined_functions.InlinedFunctions.chain.Given as goal
 
 abbrev pub invariant-loop-depth : goal.invariant-loop-depth

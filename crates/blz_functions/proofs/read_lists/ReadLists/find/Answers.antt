@@ -1,4 +1,4 @@
 use Rattle.blz_functions.proofs.read_lists.ReadLists.find.Goals as goal
 
-pub returns : goal.returns
-returns c = λ u ranges told. rw (c.copied.ensures, c.get.ensures.value) (told (c.args.tail.place, c.args.tail.base))
+pub returns-clause-read : goal.returns-clause-read
+returns-clause-read c = λ u ranges told. rw (c.copied.ensures, c.get.ensures.value) (told (c.args.tail.place, c.args.tail.base))

@@ -1,0 +1,107 @@
+-- The ranges of a list from one of them on, found among all of the list.
+use Rattle.std.proofs.Common.{◌≡◌, ℕ, zero, suc, ◌+◌, ◌*◌, ◌/◌, ◌^◌, ◌-◌, ◌<◌, ◌≤◌, Bool, true, false, leb, ltb, List, [], ◌∷◌, drop, length, Option, Some, None, is_some, refl, sym, ap, ◌∙◌, arith, inl, inr}
+use Rattle.std.specs.List.{slice_get}
+use Rattle.std.proofs.Math.Nat.{pow-suc, pow-le-pow_right}
+use Rattle.std.proofs.lemmas.Nat.{pow_pos}
+use Rattle.std.proofs.lemmas.Bool.{cases_Bool, and_parts, ltb-true, leb-true, leb-false}
+use Rattle.blz_ranges.specs.declared.span.Span.{Span}
+use Rattle.blz_ranges.specs.Best.{best, covers, IsBest}
+use Rattle.blz_ranges.specs.Groups.{AreApart}
+use Rattle.blz_ranges.proofs.BestOf.{best_is_best}
+use Rattle.blz_ranges.proofs.OneCovers.{looks_few}
+use Rattle.blz_functions.specs.KeptList.{AreFewLooks}
+use Rattle.blz_functions.specs.SharedTail.{IsNear, IsTail}
+
+-- ---- powers of two
+
+-- a power of two that is not above a count
+pub record IsPowerUpTo (count power : ℕ) : Type 0 where
+  pub exponent : ℕ
+  pub is : power ≡ 2 ^ exponent
+  pub below : power ≤ count
+
+pub first_power : (count : ℕ) → 0 < count → IsPowerUpTo count 1
+first_power count some = record { exponent = 0; is = refl; below = some }
+
+pub next_power : (count power : ℕ) → IsPowerUpTo count power → power ≤ count / 2 → IsPowerUpTo count (power * 2)
+next_power count power h more = record { exponent = suc h.exponent; is = rw (pow-suc, ← h.is) refl; below = omega arith }
+
+pub power_some : (count power : ℕ) → IsPowerUpTo count power → 0 < power
+power_some count power h = let p = pow_pos h.exponent in omega (arith, h.is)
+
+pub last_power : (count power all : ℕ) → IsPowerUpTo count power → all / 2 < power → IsNear count all
+last_power count power all h below = record {
+  exponent = h.exponent;
+  below = omega (arith, h.is, h.below);
+  above = omega (arith, h.is);
+}
+
+-- ---- which ranges are found
+
+get_dropped : {A : Type 0} (xs : List A) (n i : ℕ) → slice_get (drop n xs) i ≡ slice_get xs (n + i)
+get_dropped xs zero i = let e : zero + i ≡ i = omega arith in rw e refl
+get_dropped [] (suc n) i = refl
+get_dropped (x ∷ xs) (suc n) i = let e : suc n + i ≡ suc (n + i) = omega arith in rw e (get_dropped xs n i)
+
+-- an address lies in one range alone
+one_covers : (spans : List Span) (a p q : ℕ) (s t : Span) → AreApart spans → slice_get spans p ≡ Some s → slice_get spans q ≡ Some t → covers s a ≡ true → covers t a ≡ true → (p ≡ q → ⊥) → ⊥
+one_covers spans a p q s t apart is_s is_t in_s in_t differ =
+    let x = and_parts (leb s.begin a) (ltb a s.end) in_s in
+    let y = and_parts (leb t.begin a) (ltb a t.end) in_t in
+    let s_from = leb-true s.begin a x.0 in
+    let s_below = ltb-true a s.end x.1 in
+    let t_from = leb-true t.begin a y.0 in
+    let t_below = ltb-true a t.end y.1 in
+    elim (apart.apart p q s t differ is_s is_t) [
+      | inl h ↦ absurd (omega arith)
+      | inr h ↦ absurd (omega arith)
+    ]
+
+-- where a range of all was found, whether it is one of the tail
+abbrev pub is_behind : ℕ → Option ℕ → Bool
+is_behind skip None = false
+is_behind skip (Some place) = leb skip place
+
+-- Of all ranges, and of those of the tail, the best was found.
+found_behind : (spans : List Span) (skip a : ℕ) → (0 < skip → AreApart spans) → (o r : Option ℕ)
+    → IsBest (λ at s. covers s a) spans o → IsBest (λ at s. covers s a) (drop skip spans) r → is_behind skip o ≡ is_some r
+found_behind spans skip a apart None None h k = refl
+found_behind spans skip a apart None (Some q) h k = absurd (h (skip + q) k.span (sym (get_dropped spans skip q) ∙ k.at) k.passes)
+found_behind spans skip a apart (Some p) None h k =
+    elim (cases_Bool (leb skip p)) [
+      | inl t ↦ absurd (
+          let le = leb-true skip p t in
+          let e : skip + (p - skip) ≡ p = omega arith in
+          k (p - skip) h.span (get_dropped spans skip (p - skip) ∙ (rw e h.at)) h.passes)
+      | inr f ↦ f
+    ]
+found_behind spans skip a apart (Some p) (Some q) h k =
+    elim (cases_Bool (leb skip p)) [
+      | inl t ↦ t
+      | inr f ↦ absurd (
+          let lt = leb-false skip p f in
+          let differ : p ≡ skip + q → ⊥ = λ same. absurd (omega arith) in
+          one_covers spans a p (skip + q) h.span k.span (apart (omega arith)) h.at (sym (get_dropped spans skip q) ∙ k.at) h.passes k.passes differ)
+    ]
+
+pub tail_covers : (spans : List Span) (skip a : ℕ) (found : Option ℕ) → (0 < skip → IsTail spans skip) → found ≡ best spans a → is_behind skip found ≡ is_some (best (drop skip spans) a)
+tail_covers spans skip a found tail e = ap (is_behind skip) e ∙
+    found_behind spans skip a (λ some. (tail some).apart) (best spans a) (best (drop skip spans) a)
+    (best_is_best (λ at s. covers s a) spans) (best_is_best (λ at s. covers s a) (drop skip spans))
+
+-- ---- what it takes
+
+near_cost : (count all looks : ℕ) → IsNear count all → 2 ^ looks ≤ 4 * (2 * all + 1) → 2 ^ looks ≤ 4 * (2 * count + 1)
+near_cost count all looks near bound =
+    let k = near.exponent in
+    let above : all < 2 ^ suc k = rw pow-suc near.above in
+    let few : looks ≤ suc k + 2 = looks_few looks (suc k) all bound above in
+    let le : 2 ^ looks ≤ 2 ^ suc (suc (suc k)) = pow-le-pow_right {n = 2} (omega arith) {i = looks} {j = suc (suc (suc k))} (omega arith) in
+    let e : 2 ^ suc (suc (suc k)) ≡ 2 ^ k * 2 * 2 * 2 = rw (pow-suc, pow-suc, pow-suc) refl in
+    omega (arith, le, e, near.below)
+
+pub tail_cost : (spans : List Span) (skip looks : ℕ) → (0 < skip → IsTail spans skip) → AreFewLooks spans looks → AreFewLooks (drop skip spans) looks
+tail_cost spans zero looks tail bound apart = bound apart
+tail_cost spans (suc n) looks tail bound apart =
+    let t = tail (omega arith) in
+    near_cost (length (drop (suc n) spans)) (length spans) looks t.near (bound t.apart)

@@ -1,0 +1,59 @@
+use Rattle.std.proofs.Common.{◌≡◌, List, [], ◌++◌, Some, sym, ap, subst, ◌∙◌}
+use Rattle.std.proofs.lemmas.Result.{err_from_is_err_and}
+use Rattle.blz_info.proofs.Marked.{marks_on}
+use Rattle.blz_ranges.specs.declared.span.Span.{Span}
+use Rattle.blz_functions.specs.DepthRanges.{PutsRanges}
+use Rattle.blz_functions.specs.Leaves.{ranges_in}
+use Rattle.blz_functions.specs.Opened.{open_view}
+use Rattle.blz_functions.specs.Pieces.{list_at}
+use Rattle.blz_functions.proofs.ListAdds.{appended_by}
+use Rattle.blz_functions.proofs.PiecedRanges.{few_told, of_list, of_one_more}
+use Rattle.blz_functions.proofs.ReadLists.{list_in}
+use Rattle.blz_functions.proofs.depth_ranges.DepthRanges.add.Goals as goal
+
+pub returns-in_default-clause-value : goal.returns-in_default-clause-value
+returns-in_default-clause-value c = λ all h.
+    let u = open_view c.args.unit.now in
+    let old = c.clear.new.self.items in
+    let a = appended_by (ranges_in u c.args.attributes.now) old c.append_ranges.new.out.items _ c.in_ok-append_ranges.ensures in
+    let spans : c.as_slice.result.now ≡ a.spans = c.as_slice.ensures.value ∙ (a.new_is ∙ ap (λ (l : List Span). l ++ a.spans) c.clear.ensures.items) in
+    record {
+      value = a.spans;
+      is = a.is;
+      fits = of_one_more u c.args.self.now c.put.new.self all c.args.at h a.spans (subst (PutsRanges c.args.self.now c.put.new.self c.args.at) spans c.in_ok-put.ensures.put);
+    }
+
+pub returns-in_err-append_few-clause-value : goal.returns-in_err-append_few-clause-value
+returns-in_err-append_few-clause-value c = λ all h.
+    let u = open_view c.args.unit.now in
+    let p = err_from_is_err_and c.from_residual-in_err-append_few.result c.from_residual-in_err-append_few.ensures.1 in
+    let same = list_in u c.args.attributes.now c.in-Some.offset c.in-Some.is in
+    rw (p.1, p.2) (marks_on _ (list_at u c.in-Some.offset) (ranges_in u c.args.attributes.now) c.in_err-append_few.ensures.value (λ none. same ∙ none))
+
+pub returns-then-is_some-clause-value : goal.returns-then-is_some-clause-value
+returns-then-is_some-clause-value c = λ all h.
+    let u = open_view c.args.unit.now in
+    let few = few_told (list_at u c.in-Some.offset) c.clear.new.self.items c.append_few.new.out.items _ (sym c.is_some.ensures ∙ c.if-is_some.true) c.in_ok-append_few.ensures.value in
+    let spans : c.as_slice-then-is_some.result.now ≡ few.spans = c.as_slice-then-is_some.ensures.value ∙ (few.new_is ∙ ap (λ (l : List Span). l ++ few.spans) c.clear.ensures.items) in
+    record {
+      value = few.spans;
+      is = list_in u c.args.attributes.now c.in-Some.offset c.in-Some.is ∙ few.is;
+      fits = of_one_more u c.args.self.now c.put-then-is_some.new.self all c.args.at h few.spans (subst (PutsRanges c.args.self.now c.put-then-is_some.new.self c.args.at) spans c.in_ok-put-2.ensures.put);
+    }
+
+pub returns-in_err-name-clause-value : goal.returns-in_err-name-clause-value
+returns-in_err-name-clause-value c = λ all h.
+    let u = open_view c.args.unit.now in
+    let p = err_from_is_err_and c.from_residual-in_err-name.result c.from_residual-in_err-name.ensures.1 in
+    let same = list_in u c.args.attributes.now c.in-Some.offset c.in-Some.is in
+    rw (p.1, p.2) (marks_on _ (list_at u c.in-Some.offset) (ranges_in u c.args.attributes.now) c.in_err-name.ensures.value (λ none. same ∙ none))
+
+pub returns-clause-value : goal.returns-clause-value
+returns-clause-value c = λ all h.
+    let u = open_view c.args.unit.now in
+    let named = c.in_ok-name.ensures.value in
+    record {
+      value = named.spans;
+      is = list_in u c.args.attributes.now c.in-Some.offset c.in-Some.is ∙ named.is;
+      fits = of_list u c.args.self.now c.put_list.new.self all c.args.at h c.in-Some.offset named c.in_ok-put_list.ensures.pieces;
+    }

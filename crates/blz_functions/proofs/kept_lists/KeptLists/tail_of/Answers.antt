@@ -1,0 +1,21 @@
+use Rattle.blz_functions.specs.Opened.{open_view}
+use Rattle.blz_functions.specs.WholeLists.{IsWhole}
+use Rattle.blz_functions.proofs.kept_lists.KeptLists.tail_of.Goals as goal
+
+pub returns-in_err-put_whole-clause-kept : goal.returns-in_err-put_whole-clause-kept
+returns-in_err-put_whole-clause-kept c =
+    let u = open_view c.args.unit.now in
+    let whole : IsWhole u c.in-Some.list = rw c.in-Some.is at c.in_ok-list.ensures.value in
+    c.put_whole.ensures u (c.in_ok-found.ensures.kept u whole) c.in_ok-list.ensures.kept
+
+pub returns-clause-value : goal.returns-clause-value
+returns-clause-value c =
+    let u = open_view c.args.unit.now in
+    let whole : IsWhole u c.in-Some.list = rw c.in-Some.is at c.in_ok-list.ensures.value in
+    c.in_ok-found.ensures.value u whole
+
+pub returns-clause-kept : goal.returns-clause-kept
+returns-clause-kept c =
+    let u = open_view c.args.unit.now in
+    let whole : IsWhole u c.in-Some.list = rw c.in-Some.is at c.in_ok-list.ensures.value in
+    c.put_whole.ensures u (c.in_ok-found.ensures.kept u whole) c.in_ok-list.ensures.kept

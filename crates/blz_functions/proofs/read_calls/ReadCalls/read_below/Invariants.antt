@@ -1,0 +1,23 @@
+use Rattle.std.proofs.Common.{◌≡◌, ◌-◌, []}
+use Rattle.blz_model.specs.Reads.{◌>>=◌}
+use Rattle.blz_functions.specs.CallTree.{CallLists, calls_from}
+use Rattle.blz_functions.specs.KeptLists.{AreKeptLists}
+use Rattle.blz_functions.specs.Leaves.{source_in}
+use Rattle.blz_functions.specs.Opened.{open_view}
+use Rattle.blz_functions.specs.ReadCalls.{IsOfCalls}
+use Rattle.blz_functions.proofs.CallSteps.{calls_rest, first}
+use Rattle.blz_functions.proofs.read_calls.ReadCalls.read_below.Given as goal
+
+abbrev pub invariant-loop-entries : goal.invariant-loop-entries
+invariant-loop-entries g l = record {
+  pending : l.entries.pending ≡ [];
+  source : l.entries.source ≡ source_in (open_view l.unit);
+  same : g.F.Links.linkage l.links ≡ g.F.Links.linkage l.fn.links;
+  all : CallLists;
+  kept : AreKeptLists (open_view l.unit) l.kept;
+  read : IsOfCalls (open_view l.unit) l.calls all;
+  rest : (calls_rest (g.F.Links.refer (g.F.Links.linkage l.fn.links)) (open_view l.unit) l.levels (all, l.entries.place) >>= first) ≡ calls_from (g.F.Links.refer (g.F.Links.linkage l.fn.links)) (open_view l.unit) l.fn.entries.place;
+}
+
+abbrev pub decreases-loop-entries : goal.decreases-loop-entries
+decreases-loop-entries g l = l.unit.header.end - l.entries.place

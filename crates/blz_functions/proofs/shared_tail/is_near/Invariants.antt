@@ -1,0 +1,9 @@
+use Rattle.std.proofs.Common.{◌-◌}
+use Rattle.blz_functions.proofs.SharedTails.{IsPowerUpTo}
+use Rattle.blz_functions.proofs.shared_tail.is_near.Given as goal
+
+abbrev pub invariant-loop-power : goal.invariant-loop-power
+invariant-loop-power l = IsPowerUpTo l.count l.power
+
+abbrev pub decreases-loop-power : goal.decreases-loop-power
+decreases-loop-power l = l.count - l.power

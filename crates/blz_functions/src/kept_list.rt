@@ -1,0 +1,69 @@
+//! A list of ranges that is kept with an index of it.
+ghost use Rattle.std.specs.Prelude.{◌≡◌, ◌-◌, ◌≤◌, length, true, IfOk, IfSome};
+ghost use Rattle.blz_ranges.specs.Best.{best};
+ghost use Rattle.blz_ranges.specs.Groups.{AreApart};
+ghost use Rattle.blz_functions.specs.KeptList.{AreFewLooks};
+
+use blz_bytes::{ByStdSort, Steps};
+use blz_ranges::{RangeIndex, Span};
+use std::alloc::{AllocError, Global};
+use std::marker::Model;
+use std::sync::ledger::Ledger;
+
+/// The ranges of a list, in an order that was accepted.
+#[derive(Drop)]
+pub struct KeptList {
+    index: RangeIndex,
+    len: usize,
+    /// Whether the order showed that no two ranges share an address.
+    apart: bool,
+}
+
+impl Model for KeptList {
+    ghost use Rattle.blz_functions.specs.KeptList.{KeptList, IsKept};
+
+    ghost Value = { KeptList };
+
+    ghost view = { λ l. record { spans = l.index.spans; apart = l.apart } };
+
+    ghost invariant = { λ l. IsKept l.index l.len l.apart };
+}
+
+impl KeptList {
+    /// None where the order was not accepted, so that each list that is kept is seen in few looks.
+    pub(crate) fn build(alloc: Global, spans: Vec<Span>) -> Result<Option<KeptList>, AllocError>
+        ensures { IfOk result (λ o. IfSome o (λ l. l.spans ≡ spans.items)) }
+    {
+        let len = spans.len();
+        let index = RangeIndex::build(alloc, &mut ByStdSort, spans)?;
+        if !index.is_ordered() {
+            return Ok(None);
+        }
+        let apart = index.is_apart();
+        Ok(Some(KeptList { index, len, apart }))
+    }
+
+    /// How many ranges the list has.
+    pub(crate) fn len(&self) -> usize
+        ensures { result ≡ length self.now.spans }
+    {
+        self.len
+    }
+
+    /// Whether the order showed that the ranges are not empty and no two share an address.
+    pub(crate) fn is_apart(&self) -> bool
+        ensures is { result ≡ self.now.apart }
+        ensures apart { result ≡ true → AreApart self.now.spans }
+    {
+        self.apart
+    }
+
+    /// The place of the best range that covers an address.
+    pub(crate) fn best_at<L: Ledger>(&self, addr: u64, steps: &mut Steps<L>) -> Option<usize>
+        ensures best { result ≡ best self.now.spans addr }
+        ensures cost { AreFewLooks self.now.spans (steps.new - steps.old) }
+        ensures later { steps.old ≤ steps.new }
+    {
+        self.index.best_at(addr, steps)
+    }
+}

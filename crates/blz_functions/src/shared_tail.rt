@@ -1,0 +1,81 @@
+//! The ranges of a list from one of them on, found in the index of the list.
+ghost use Rattle.std.specs.Prelude.{◌≡◌, ◌-◌, ◌<◌, ◌≤◌, drop, is_some, true, IfOk, IfSome};
+ghost use Rattle.std.specs.Arc.{arc_value};
+ghost use Rattle.blz_ranges.specs.Best.{best};
+ghost use Rattle.blz_functions.specs.KeptList.{AreFewLooks};
+ghost use Rattle.blz_functions.specs.SharedTail.{IsNear, IsTail};
+
+use crate::kept_list::KeptList;
+use blz_bytes::Steps;
+use std::alloc::AllocError;
+use std::marker::Model;
+use std::ops::Deref;
+use std::sync::Arc;
+use std::sync::ledger::Ledger;
+
+/// The ranges of a list from one of them on, found in the index of the whole list, which the lists that begin within it
+/// share.
+#[derive(Drop)]
+pub struct SharedTail {
+    list: Arc<KeptList>,
+    skip: usize,
+}
+
+impl Model for SharedTail {
+    ghost use Rattle.std.specs.Prelude.{◌<◌, List, drop};
+    ghost use Rattle.std.specs.Arc.{arc_value};
+    ghost use Rattle.blz_ranges.specs.declared.span.Span.{Span};
+    ghost use Rattle.blz_functions.specs.SharedTail.{IsTail};
+
+    ghost Value = { List Span };
+
+    ghost view = { λ t. drop t.skip (arc_value t.list).spans };
+
+    ghost invariant = { λ t. 0 < t.skip → IsTail (arc_value t.list).spans t.skip };
+}
+
+/// Whether a power of two that is not above a count is, doubled, above another one.
+fn is_near(count: usize, all: usize) -> bool
+    requires { 0 < count }
+    ensures { result ≡ true → IsNear count all }
+{
+    let mut power = 1;
+    while power <= count / 2 {
+        power *= 2;
+    }
+    all / 2 < power
+}
+
+/// Whether the index of a list serves for its ranges without the first ones.
+fn is_tail(list: &KeptList, skip: usize) -> bool
+    ensures { result ≡ true → IsTail list.now.spans skip }
+{
+    let len = list.len();
+    skip < len && list.is_apart() && is_near(len - skip, len)
+}
+
+impl SharedTail {
+    /// The ranges of a list without the first ones. None where the index of the whole list could give one of the first in
+    /// place of another, or would take more looks than one of those that are left.
+    pub(crate) fn new(list: &Arc<KeptList>, skip: usize) -> Result<Option<SharedTail>, AllocError>
+        ensures { IfOk result (λ o. IfSome o (λ t. t ≡ drop skip (arc_value list.now).spans)) }
+    {
+        if skip > 0 && !is_tail(list.deref(), skip) {
+            return Ok(None);
+        }
+        let list = Arc::try_clone(list)?;
+        Ok(Some(SharedTail { list, skip }))
+    }
+
+    /// Whether a range covers an address.
+    pub(crate) fn covers<L: Ledger>(&self, addr: u64, steps: &mut Steps<L>) -> bool
+        ensures is { result ≡ is_some (best self.now addr) }
+        ensures cost { AreFewLooks self.now (steps.new - steps.old) }
+        ensures later { steps.old ≤ steps.new }
+    {
+        match self.list.deref().best_at(addr, steps) {
+            Some(place) => place >= self.skip,
+            None => false,
+        }
+    }
+}
