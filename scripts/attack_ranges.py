@@ -24,13 +24,14 @@ def one_range_list_of_functions(n):
     return functions_of_tails(pairs(n), [0] * n)
 
 
-def calls_of_tails(lists, offsets, nested, beside=0):
-    """A call for each of some offsets within a list, all beside or below one another, and as many calls of a range beside each."""
+def calls_of_tails(lists, offsets, nested, beside=None):
+    """A call for each of some offsets within a list, all beside or below one another, and beside each a call of a range, if
+    it is told where that begins."""
     shapes = {ROOT: lined_root(), OUTER: subprogram(RANGE, 1), CALL: Abbreviation(DW_TAG_INLINED_SUBROUTINE, nested, RANGES),
               NAMED: Abbreviation(DW_TAG_INLINED_SUBROUTINE, 0, RANGE)}
     data, first = range_lists(lists + b"\0")
-    others = entry(shapes, NAMED, BASE, 1) * beside
-    calls = b"".join(others + entry(shapes, CALL, first + offset) for offset in offsets)
+    others = [entry(shapes, NAMED, beside(k), 1) if beside else b"" for k in range(len(offsets))]
+    calls = b"".join(other + entry(shapes, CALL, first + offset) for other, offset in zip(others, offsets))
     below = entry(shapes, OUTER, BASE, 0x10000) + calls + b"\0" * (nested * len(offsets) + 1)
     return Attack(one_lined_unit(shapes, below, rnglists=data), [BASE + 1])
 
@@ -47,7 +48,12 @@ def one_range_list_of_calls_within_one_another(n):
 
 @shape
 def one_range_list_of_calls_within_one_another_and_beside_others(n):
-    return calls_of_tails(pairs(n), [0] * n, 1, 1)
+    return calls_of_tails(pairs(n), [0] * n, 1, lambda k: BASE)
+
+
+@shape
+def one_range_list_of_calls_within_one_another_and_each_beside_another(n):
+    return calls_of_tails(pairs(n), [0] * n, 1, lambda k: BASE + k)
 
 
 def calls_of_each_function(lists, offsets):
@@ -78,9 +84,30 @@ def two_range_lists_of_calls_of_each_function(n):
 
 
 @shape
+def pairs_of_range_lists_of_calls_of_each_function(n):
+    # each function names two of as many lists as the root of n, no two functions the same
+    root = max(1, int(n ** 0.5))
+    lists = [pairs(root) + b"\0"] * root
+    begins = begins_of(lists)
+    return calls_of_each_function(b"".join(lists), [[one, two] for one in begins for two in begins])
+
+
+@shape
 def tails_of_a_range_list_of_a_call_of_each_function(n):
     lists = pairs_of_a_size(n)
     return calls_of_each_function(b"".join(lists), [[begin] for begin in begins_of(lists)])
+
+
+@shape
+def tails_of_a_range_list_of_a_call_of_each_function_the_shortest_first(n):
+    lists = pairs_of_a_size(n)
+    return calls_of_each_function(b"".join(lists), [[begin] for begin in reversed(begins_of(lists))])
+
+
+@shape
+def tails_of_a_range_list_of_calls_within_one_another_the_shortest_first(n):
+    lists = pairs_of_a_size(n)
+    return calls_of_tails(b"".join(lists), list(reversed(begins_of(lists))), 1)
 
 
 @shape
