@@ -1,4 +1,4 @@
--- The ranges that begin alike, one after the other, and the first unit with one of these that is not its own keeper.
+-- The ranges that begin alike, one after the other, and the first part with one of these that is not its own keeper.
 use Rattle.std.proofs.Common.{◌≡◌, ℕ, ◌+◌, ◌<◌, ◌≤◌, true, false, List, Option, Some, None, refl, sym, ap, subst, ◌∙◌, arith, inl, inr}
 use Rattle.std.specs.Prelude.{nat_lt, option_map}
 use Rattle.std.specs.List.{slice_get}
@@ -11,8 +11,8 @@ use Rattle.blz_ranges.specs.Owned.{Owned, items_of, owner_at}
 use Rattle.blz_announced.specs.Copies.{begins_in, no_longer, where_begins, IsKept}
 use Rattle.blz_announced.specs.Repeats.{begins_at, sooner, IsAlike, IsAlikeOf, IsFirstRepeat, IsNextBegun, IsNextOf, IsRepeatOf, RepeatsAt}
 use Rattle.blz_announced.specs.Seen.{is_seen, seen}
-use Rattle.blz_announced.specs.declared.announced.Asked.{Asked}
-use Rattle.blz_announced.specs.declared.announced.Place.{Place}
+use Rattle.blz_announced.specs.declared.announced_parts.Asked.{Asked}
+use Rattle.blz_announced.specs.declared.announced_parts.Place.{Place}
 use Rattle.blz_announced.proofs.NextCopies.{after_is, begins_is, has_item, item_at, some_is, After, IsNext, IsNextAt}
 use Rattle.blz_announced.proofs.SeenRanges.{seen_itself, seen_there}
 
@@ -87,14 +87,14 @@ module _ (asked : Asked) (kept : List (Owned Span)) (begin : ℕ) where
   pub alike_owner : (place : ℕ) → begins_at asked.addr begin (slice_get (items_of kept) place) ≡ true → is_seen asked kept place ≡ true → IsAlikeOf (seen asked kept) asked.addr begin place (owner_at kept place)
   alike_owner place t s = by_item place (slice_get kept place) refl (ap (begins_at asked.addr begin) (sym (item_map place)) ∙ t) s
 
--- ---- the first unit with one of the ranges
+-- ---- the first part with one of the ranges
 
-module _ (kept : List (Owned Span)) (keepers : List ℕ) (unit addr begin : ℕ) where
+module _ (kept : List (Owned Span)) (keepers : List ℕ) (part addr begin : ℕ) where
   abbrev Repeated : ℕ → ℕ → Type 0
-  Repeated other q = RepeatsAt kept keepers unit addr begin other q
+  Repeated other q = RepeatsAt kept keepers part addr begin other q
 
   abbrev First : (ℕ → Type 0) → Option Place → Type 0
-  First Among found = IsFirstRepeat Among kept keepers unit addr begin found
+  First Among found = IsFirstRepeat Among kept keepers part addr begin found
 
   -- the same of other ranges, where each that is alike was among them
   first_of : (Among Others : ℕ → Type 0) → ((k q : ℕ) → Others q → IsAlike kept k addr begin q → Among q) → (found : Option Place) → First Among found → First Others found
@@ -123,15 +123,15 @@ module _ (kept : List (Owned Span)) (keepers : List ℕ) (unit addr begin : ℕ)
     with_none found f none = first_of (λ q. q < place) (λ q. q < place + 1) (λ k q lt a. elim (cases_lt q place) [ inl less ↦ less | inr le ↦ absurd (let e : q ≡ place = omega arith in none k (subst (IsAlike kept k addr begin) e a)) ]) found f
 
     module _ (keeper : ℕ) (here : IsAlike kept keeper addr begin place) where
-      -- a unit with the range at the place has its keeper
+      -- a part with the range at the place has its keeper
       same_keeper : (k q : ℕ) → q ≡ place → IsAlike kept k addr begin q → k ≡ keeper
       same_keeper k q e a = ap (λ (x : Owned Span). x.owner) (some_is (sym a.is ∙ subst (λ (n : ℕ). IsKept kept n here.span keeper) (sym e) here.is))
 
-      repeats_here : (other q : ℕ) → q ≡ place → Repeated other q → IsRepeatOf keepers keeper unit other
-      repeats_here other q e r = subst (λ (k : ℕ). IsRepeatOf keepers k unit other) (same_keeper r.keeper q e r.alike) r.repeats
+      repeats_here : (other q : ℕ) → q ≡ place → Repeated other q → IsRepeatOf keepers keeper part other
+      repeats_here other q e r = subst (λ (k : ℕ). IsRepeatOf keepers k part other) (same_keeper r.keeper q e r.alike) r.repeats
 
-      -- a unit that stands before all that were found
-      new_first : (next : ℕ) → IsNextOf keepers keeper unit (Some next) → ((other q : ℕ) → q < place → Repeated other q → next < other) → UpTo (Some (record { place = place; unit = next }))
+      -- a part that stands before all that were found
+      new_first : (next : ℕ) → IsNextOf keepers keeper part (Some next) → ((other q : ℕ) → q < place → Repeated other q → next < other) → UpTo (Some (record { place = place; part = next }))
       new_first next n before = record {
         keeper = keeper;
         repeats = n.0;
@@ -142,8 +142,8 @@ module _ (kept : List (Owned Span)) (keepers : List ℕ) (unit addr begin : ℕ)
         ];
       }
 
-      -- one that was found, before all units of the keeper
-      same_first : (at : Place) → Before (Some at) → ((other : ℕ) → IsRepeatOf keepers keeper unit other → at.unit ≤ other) → UpTo (Some at)
+      -- one that was found, before all parts of the keeper
+      same_first : (at : Place) → Before (Some at) → ((other : ℕ) → IsRepeatOf keepers keeper part other → at.part ≤ other) → UpTo (Some at)
       same_first at f after = record {
         keeper = f.keeper;
         repeats = f.repeats;
@@ -154,14 +154,14 @@ module _ (kept : List (Owned Span)) (keepers : List ℕ) (unit addr begin : ℕ)
         ];
       }
 
-      pub with_keeper : (found : Option Place) → Before found → (next : Option ℕ) → IsNextOf keepers keeper unit next → UpTo (sooner found place next)
+      pub with_keeper : (found : Option Place) → Before found → (next : Option ℕ) → IsNextOf keepers keeper part next → UpTo (sooner found place next)
       with_keeper None f None n = λ other q lt r. elim (cases_lt q place) [
         | inl less ↦ f other q less r
         | inr le ↦ n other (repeats_here other q (omega arith) r)
       ]
       with_keeper None f (Some next) n = new_first next n (λ other q less r. absurd (f other q less r))
       with_keeper (Some at) f None n = same_first at f (λ other r. absurd (n other r))
-      with_keeper (Some at) f (Some next) n = elim (cases_Bool (nat_lt next at.unit)) [
-        | inl t ↦ rw t (new_first next n (λ other q less r. let k = ltb-true next at.unit t in let l = f.least other q less r in omega arith))
-        | inr g ↦ rw g (same_first at f (λ other r. let k = ltb-false next at.unit g in let l = n.1 other r in omega arith))
+      with_keeper (Some at) f (Some next) n = elim (cases_Bool (nat_lt next at.part)) [
+        | inl t ↦ rw t (new_first next n (λ other q less r. let k = ltb-true next at.part t in let l = f.least other q less r in omega arith))
+        | inr g ↦ rw g (same_first at f (λ other r. let k = ltb-false next at.part g in let l = n.1 other r in omega arith))
       ]

@@ -1,4 +1,4 @@
--- The units that are told where each is told once, among all that announce an address.
+-- The parts that are told where each is told once, among all that announce an address.
 use Rattle.std.proofs.Common.{◌≡◌, ℕ, zero, suc, ◌<◌, ◌≤◌, eqb, true, false, List, [], ◌∷◌, map, Option, Some, None, refl, sym, ap, subst, ◌∙◌, arith, inl, inr, ◌⊎◌}
 use Rattle.std.specs.Prelude.{option_map, if◌then◌else◌}
 use Rattle.std.specs.List.{slice_get}
@@ -12,9 +12,9 @@ use Rattle.blz_ranges.specs.Owned.{Owned, items_of, owner_at, owners_of}
 use Rattle.blz_ranges.specs.Turns.{covering}
 use Rattle.blz_ranges.proofs.BestOf.{best_is_best}
 use Rattle.blz_ranges.proofs.InTurn.{turns}
-use Rattle.blz_announced.specs.Copies.{announced_all, announced_copies, copies, copies_of, same_number, told, Announced, Copy, IsKept}
+use Rattle.blz_announced.specs.Copies.{all_of_parts, announced_copies, copies, copies_of, same_number, told, AnnouncedParts, Copy, IsKept}
 use Rattle.blz_announced.specs.Seen.{by_owner, is_seen, seen, seen_by, seen_from, Holds, LeavesOut}
-use Rattle.blz_announced.specs.declared.announced.Asked.{Asked}
+use Rattle.blz_announced.specs.declared.announced_parts.Asked.{Asked}
 use Rattle.blz_announced.proofs.Copies.{are_copies}
 use Rattle.blz_announced.proofs.NextCopies.{full_item, has_copy, has_item, next_is, owner_told, some_is, After, IsFirst, IsNext}
 use Rattle.blz_announced.proofs.SeenRanges.{best_of_keeper, no_cover, seen_by_best, seen_not_once, there_mapped, IsBestOr}
@@ -170,31 +170,31 @@ module _ (xs ys : List (Owned Span)) (addr : ℕ) where
 
 module _ (asked : Asked) (kept : List (Owned Span)) where
   shown : Copy → Copy
-  shown c = record { unit = c.unit; place = c.place; span = if is_seen asked kept c.place then c.span else no_span }
+  shown c = record { part = c.part; place = c.place; span = if is_seen asked kept c.place then c.span else no_span }
 
-  copies_of_seen : (unit keeper at : ℕ) (list : List (Owned Span)) → copies_of unit keeper at (seen_from asked kept at list) ≡ map shown (copies_of unit keeper at list)
+  copies_of_seen : (part keeper at : ℕ) (list : List (Owned Span)) → copies_of part keeper at (seen_from asked kept at list) ≡ map shown (copies_of part keeper at list)
   unfolding copies_of seen_from shown
-  copies_of_seen unit keeper at [] = refl
-  copies_of_seen unit keeper at (x ∷ list) =
+  copies_of_seen part keeper at [] = refl
+  copies_of_seen part keeper at (x ∷ list) =
       elim (cases_Bool (is_seen asked kept at)) [
         | inl t ↦ elim (cases_Bool (eqb x.owner keeper)) [
-          | inl own ↦ rw (t, own, copies_of_seen unit keeper (suc at) list, t) refl
-          | inr other ↦ rw (t, other, copies_of_seen unit keeper (suc at) list) refl
+          | inl own ↦ rw (t, own, copies_of_seen part keeper (suc at) list, t) refl
+          | inr other ↦ rw (t, other, copies_of_seen part keeper (suc at) list) refl
         ]
         | inr f ↦ elim (cases_Bool (eqb x.owner keeper)) [
-          | inl own ↦ rw (f, own, copies_of_seen unit keeper (suc at) list, f) refl
-          | inr other ↦ rw (f, other, copies_of_seen unit keeper (suc at) list) refl
+          | inl own ↦ rw (f, own, copies_of_seen part keeper (suc at) list, f) refl
+          | inr other ↦ rw (f, other, copies_of_seen part keeper (suc at) list) refl
         ]
       ]
 
-  copies_seen : (unit : ℕ) (keepers : List ℕ) → copies (seen asked kept) unit keepers ≡ map shown (copies kept unit keepers)
+  copies_seen : (part : ℕ) (keepers : List ℕ) → copies (seen asked kept) part keepers ≡ map shown (copies kept part keepers)
   unfolding copies
-  copies_seen unit [] = refl
-  copies_seen unit (keeper ∷ keepers) = rw (copies_of_seen unit keeper 0 kept, copies_seen (suc unit) keepers) (sym (map-append shown (copies_of unit keeper 0 kept) (copies kept (suc unit) keepers)))
+  copies_seen part [] = refl
+  copies_seen part (keeper ∷ keepers) = rw (copies_of_seen part keeper 0 kept, copies_seen (suc part) keepers) (sym (map-append shown (copies_of part keeper 0 kept) (copies kept (suc part) keepers)))
 
-module _ (asked : Asked) (a : Announced) where
-  abbrev kept_ranges : List (Owned Span)
-  kept_ranges = a.kept.ranges
+module _ (asked : Asked) (a : AnnouncedParts) where
+  abbrev kept_parts : List (Owned Span)
+  kept_parts = a.kept.ranges
 
   abbrev list : List Copy
   list = announced_copies a
@@ -202,51 +202,51 @@ module _ (asked : Asked) (a : Announced) where
   abbrev list_seen : List Copy
   list_seen = announced_copies (seen_by asked a)
 
-  told_at : (l : List Copy) (q : ℕ) → slice_get (told l) q ≡ option_map (λ (c : Copy). record { item = c.span; owner = c.unit }) (slice_get l q)
-  told_at l q = slice_get-map (λ (c : Copy). record { item = c.span; owner = c.unit }) l q
+  told_at : (l : List Copy) (q : ℕ) → slice_get (told l) q ≡ option_map (λ (c : Copy). record { item = c.span; owner = c.part }) (slice_get l q)
+  told_at l q = slice_get-map (λ (c : Copy). record { item = c.span; owner = c.part }) l q
 
-  seen_copy : (q : ℕ) → slice_get list_seen q ≡ option_map (shown asked kept_ranges) (slice_get list q)
-  seen_copy q = ap (λ (l : List Copy). slice_get l q) (copies_seen asked kept_ranges 0 a.keepers) ∙ slice_get-map (shown asked kept_ranges) list q
+  seen_copy : (q : ℕ) → slice_get list_seen q ≡ option_map (shown asked kept_parts) (slice_get list q)
+  seen_copy q = ap (λ (l : List Copy). slice_get l q) (copies_seen asked kept_parts 0 a.keepers) ∙ slice_get-map (shown asked kept_parts) list q
 
   same_owners : (q : ℕ) → owner_at (told list_seen) q ≡ owner_at (told list) q
   unfolding shown
-  same_owners q = ap (option_map (λ (x : Owned Span). x.owner)) (told_at list_seen q ∙ ap (option_map (λ (c : Copy). record { item = c.span; owner = c.unit })) (seen_copy q)) ∙ (by (slice_get list q) ∙ sym (ap (option_map (λ (x : Owned Span). x.owner)) (told_at list q)))
+  same_owners q = ap (option_map (λ (x : Owned Span). x.owner)) (told_at list_seen q ∙ ap (option_map (λ (c : Copy). record { item = c.span; owner = c.part })) (seen_copy q)) ∙ (by (slice_get list q) ∙ sym (ap (option_map (λ (x : Owned Span). x.owner)) (told_at list q)))
     where
-      by : (o : Option Copy) → option_map (λ (x : Owned Span). x.owner) (option_map (λ (c : Copy). record { item = c.span; owner = c.unit }) (option_map (shown asked kept_ranges) o)) ≡ option_map (λ (x : Owned Span). x.owner) (option_map (λ (c : Copy). record { item = c.span; owner = c.unit }) o)
+      by : (o : Option Copy) → option_map (λ (x : Owned Span). x.owner) (option_map (λ (c : Copy). record { item = c.span; owner = c.part }) (option_map (shown asked kept_parts) o)) ≡ option_map (λ (x : Owned Span). x.owner) (option_map (λ (c : Copy). record { item = c.span; owner = c.part }) o)
       by None = refl
       by (Some c) = refl
 
-  shown_item : (q : ℕ) (c : Copy) → slice_get list q ≡ Some c → slice_get (items_of (told list_seen)) q ≡ Some (shown asked kept_ranges c).span
-  shown_item q c is = full_item list_seen q (seen_copy q ∙ ap (option_map (shown asked kept_ranges)) is)
+  shown_item : (q : ℕ) (c : Copy) → slice_get list q ≡ Some c → slice_get (items_of (told list_seen)) q ≡ Some (shown asked kept_parts c).span
+  shown_item q c is = full_item list_seen q (seen_copy q ∙ ap (option_map (shown asked kept_parts)) is)
 
-  shown_same : (c : Copy) → is_seen asked kept_ranges c.place ≡ true → (shown asked kept_ranges c).span ≡ c.span
+  shown_same : (c : Copy) → is_seen asked kept_parts c.place ≡ true → (shown asked kept_parts c).span ≡ c.span
   unfolding shown
   shown_same c t = rw t refl
 
-  shown_none : (c : Copy) → is_seen asked kept_ranges c.place ≡ false → (shown asked kept_ranges c).span ≡ no_span
+  shown_none : (c : Copy) → is_seen asked kept_parts c.place ≡ false → (shown asked kept_parts c).span ≡ no_span
   unfolding shown
   shown_none c f = rw f refl
 
   among_all : AreAmong (items_of (told list)) (items_of (told list_seen)) asked.addr
   among_all = λ q t is reached.
       let d = has_copy list_seen q t is in
-      let k = there_mapped (shown asked kept_ranges) (slice_get list q) d.copy (sym (seen_copy q) ∙ d.is) in
+      let k = there_mapped (shown asked kept_parts) (slice_get list q) d.copy (sym (seen_copy q) ∙ d.is) in
       let c = k.0 in
-      let span : (shown asked kept_ranges c).span ≡ t = some_is (sym (shown_item q c k.1) ∙ is) in
-      elim (cases_Bool (is_seen asked kept_ranges c.place)) [
+      let span : (shown asked kept_parts c).span ≡ t = some_is (sym (shown_item q c k.1) ∙ is) in
+      elim (cases_Bool (is_seen asked kept_parts c.place)) [
         | inl seen_it ↦ full_item list q k.1 ∙ ap (λ (s : Span). Some s) (sym (shown_same c seen_it) ∙ span)
         | inr hid ↦ absurd (no_cover asked.addr (ap (λ (s : Span). covers s asked.addr) (sym (shown_none c hid) ∙ span) ∙ reached))
       ]
 
-  -- where the best range of a keeper stands among those of one of its units
-  told_before : (q : ℕ) (c : Copy) (keeper : ℕ) → slice_get list q ≡ Some c → slice_get a.keepers c.unit ≡ Some keeper → IsKept kept_ranges c.place c.span keeper → covers c.span asked.addr ≡ true → is_seen asked kept_ranges c.place ≡ false
-      → (o : Option ℕ) → best_in (by_owner kept_ranges) keeper asked.addr ≡ o → IsBestOr kept_ranges keeper asked.addr o → IsTold (told list) (told list_seen) asked.addr q c.span
+  -- where the best range of a keeper stands among those of one of its parts
+  told_before : (q : ℕ) (c : Copy) (keeper : ℕ) → slice_get list q ≡ Some c → slice_get a.keepers c.part ≡ Some keeper → IsKept kept_parts c.place c.span keeper → covers c.span asked.addr ≡ true → is_seen asked kept_parts c.place ≡ false
+      → (o : Option ℕ) → best_in (by_owner kept_parts) keeper asked.addr ≡ o → IsBestOr kept_parts keeper asked.addr o → IsTold (told list) (told list_seen) asked.addr q c.span
   told_before q c keeper is row kept_is reached hid None e h = absurd (h c.place c.span (record { is = kept_is; reached = reached }))
   told_before q c keeper is row kept_is reached hid (Some p) e h =
-      let are = are_copies kept_ranges a.keepers in
-      let there = are.there c.unit keeper p h.span row h.own.is in
-      let once = seen_not_once asked kept_ranges c.place hid in
-      let other : p ≡ c.place → ⊥ = λ same. false≢true (sym hid ∙ (seen_by_best asked kept_ranges c.place keeper once (ap (option_map (λ (x : Owned Span). x.owner)) kept_is) ∙ (ap (λ (o : Option ℕ). same_number o (Some c.place)) e ∙ eq-eqb p c.place same))) in
+      let are = are_copies kept_parts a.keepers in
+      let there = are.there c.part keeper p h.span row h.own.is in
+      let once = seen_not_once asked kept_parts c.place hid in
+      let other : p ≡ c.place → ⊥ = λ same. false≢true (sym hid ∙ (seen_by_best asked kept_parts c.place keeper once (ap (option_map (λ (x : Owned Span). x.owner)) kept_is) ∙ (ap (λ (o : Option ℕ). same_number o (Some c.place)) e ∙ eq-eqb p c.place same))) in
       let after = other_after p c.place h.span c.span other (h.first c.place c.span (record { is = kept_is; reached = reached })) in
       record {
         place = there.at;
@@ -258,39 +258,39 @@ module _ (asked : Asked) (a : Announced) where
         hides = λ t is_t covered. no_cover asked.addr (ap (λ (s : Span). covers s asked.addr) (sym (shown_none c hid) ∙ some_is (sym (shown_item q c is) ∙ is_t)) ∙ covered);
       }
     where
-      full_before : (i : ℕ) → slice_get list i ≡ Some (record { unit = c.unit; place = p; span = h.span }) → p < c.place → i < q
+      full_before : (i : ℕ) → slice_get list i ≡ Some (record { part = c.part; place = p; span = h.span }) → p < c.place → i < q
       full_before i is_i lt = elim (cases_lt i q) [
         | inl less ↦ less
         | inr more ↦ absurd (not_behind i is_i lt (cases_lt q i) more)
       ]
         where
-          not_behind : (i : ℕ) → slice_get list i ≡ Some (record { unit = c.unit; place = p; span = h.span }) → p < c.place → (q < i) ⊎ (i ≤ q) → q ≤ i → ⊥
-          not_behind i is_i lt (inl less) le = by ((are_copies kept_ranges a.keepers).sorted q i c (record { unit = c.unit; place = p; span = h.span }) less is is_i)
+          not_behind : (i : ℕ) → slice_get list i ≡ Some (record { part = c.part; place = p; span = h.span }) → p < c.place → (q < i) ⊎ (i ≤ q) → q ≤ i → ⊥
+          not_behind i is_i lt (inl less) le = by ((are_copies kept_parts a.keepers).sorted q i c (record { part = c.part; place = p; span = h.span }) less is is_i)
             where
-              by : (c.unit < c.unit) ⊎ ((c.unit ≡ c.unit) × (c.place < p)) → ⊥
+              by : (c.part < c.part) ⊎ ((c.part ≡ c.part) × (c.place < p)) → ⊥
               by (inl k) = omega arith
               by (inr k) = let l = k.1 in omega arith
           not_behind i is_i lt (inr more) le =
               let e : i ≡ q = omega arith in
-              let same : record { unit = c.unit; place = p; span = h.span } ≡ c = some_is (sym is_i ∙ subst (λ (n : ℕ). slice_get list n ≡ Some c) (sym e) is) in
+              let same : record { part = c.part; place = p; span = h.span } ≡ c = some_is (sym is_i ∙ subst (λ (n : ℕ). slice_get list n ≡ Some c) (sym e) is) in
               let k : p ≡ c.place = ap (λ (d : Copy). d.place) same in
               omega arith
 
-      full_after : (i : ℕ) → slice_get list i ≡ Some (record { unit = c.unit; place = p; span = h.span }) → After p h.span c.place c.span → After i h.span q c.span
+      full_after : (i : ℕ) → slice_get list i ≡ Some (record { part = c.part; place = p; span = h.span }) → After p h.span c.place c.span → After i h.span q c.span
       full_after i is_i (inl less) = inl less
       full_after i is_i (inr k) = inr (k.0, full_before i is_i k.1)
 
   each_told : (q : ℕ) (s : Span) → slice_get (items_of (told list)) q ≡ Some s → covers s asked.addr ≡ true → (slice_get (items_of (told list_seen)) q ≡ Some s) ⊎ IsTold (told list) (told list_seen) asked.addr q s
   each_told q s is reached =
       let h = has_copy list q s is in
-      let t = (are_copies kept_ranges a.keepers).told q h.copy h.is in
-      let unit : t.row ≡ h.copy.unit = omega (arith, t.unit_is) in
-      let row = subst (λ (n : ℕ). slice_get a.keepers n ≡ Some t.keeper) unit t.has in
+      let t = (are_copies kept_parts a.keepers).told q h.copy h.is in
+      let part : t.row ≡ h.copy.part = omega (arith, t.part_is) in
+      let row = subst (λ (n : ℕ). slice_get a.keepers n ≡ Some t.keeper) part t.has in
       let covered : covers h.copy.span asked.addr ≡ true = ap (λ (z : Span). covers z asked.addr) h.span_is ∙ reached in
-      elim (cases_Bool (is_seen asked kept_ranges h.copy.place)) [
+      elim (cases_Bool (is_seen asked kept_parts h.copy.place)) [
         | inl seen_it ↦ inl (shown_item q h.copy h.is ∙ ap (λ (z : Span). Some z) (shown_same h.copy seen_it ∙ h.span_is))
-        | inr hid ↦ inr (subst (λ (z : Span). IsTold (told list) (told list_seen) asked.addr q z) h.span_is (told_before q h.copy t.keeper h.is row t.is covered hid (best_in (by_owner kept_ranges) t.keeper asked.addr) refl (best_of_keeper kept_ranges t.keeper asked.addr (best_in (by_owner kept_ranges) t.keeper asked.addr) refl)))
+        | inr hid ↦ inr (subst (λ (z : Span). IsTold (told list) (told list_seen) asked.addr q z) h.span_is (told_before q h.copy t.keeper h.is row t.is covered hid (best_in (by_owner kept_parts) t.keeper asked.addr) refl (best_of_keeper kept_parts t.keeper asked.addr (best_in (by_owner kept_parts) t.keeper asked.addr) refl)))
       ]
 
-  pub told_once : LeavesOut [] (owners_of (announced_all a).ranges (covering (items_of (announced_all a).ranges) asked.addr)) (owners_of (announced_all (seen_by asked a)).ranges (covering (items_of (announced_all (seen_by asked a)).ranges) asked.addr))
+  pub told_once : LeavesOut [] (owners_of (all_of_parts a).ranges (covering (items_of (all_of_parts a).ranges) asked.addr)) (owners_of (all_of_parts (seen_by asked a)).ranges (covering (items_of (all_of_parts (seen_by asked a)).ranges) asked.addr))
   told_once = left_out (told list) (told list_seen) asked.addr same_owners among_all each_told

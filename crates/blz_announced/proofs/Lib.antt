@@ -8,6 +8,7 @@ pub mod SeenRanges
 pub mod BegunSteps
 pub mod BehindSteps
 pub mod LeftOver
-pub mod Parts
+pub mod Beside
 pub mod TurnSteps
-pub mod UnitsBefore
+pub mod PartsBefore
+pub mod UnitSteps

@@ -9,7 +9,7 @@ use Rattle.blz_ranges.specs.declared.placed.Placed.{Placed}
 use Rattle.blz_ranges.specs.Best.{best, covers, comes_after, next, next_after, no_span, placed, NotAfter, IsBest, IsBestAt}
 use Rattle.blz_ranges.specs.Owned.{Owned, items_of, owner_at}
 use Rattle.blz_ranges.proofs.BestOf.{best_is, best_is_best}
-use Rattle.blz_announced.specs.declared.announced.Place.{Place}
+use Rattle.blz_announced.specs.declared.announced_parts.Place.{Place}
 use Rattle.blz_announced.specs.Copies.{begin_alike, begins_in, comes_first, full_place, no_longer, told, Copy, HaveKeepers, IsKept, IsLater, IsNextOwn, IsOwn, IsPlaced}
 use Rattle.blz_announced.specs.Repeats.{IsAlike, IsNextRepeat, NoRepeatBefore, RepeatsAt}
 use Rattle.blz_announced.proofs.Copies.{copy_place, AreCopies}
@@ -120,12 +120,12 @@ item_at kept p e = slice_get-map (λ (y : Owned Span). y.item) kept p ∙ ap (op
 pub begins_is : {s : Span} (kept : List (Owned Span)) (begin p : ℕ) → slice_get (items_of kept) p ≡ Some s → begins_in kept begin p ≡ eqb s.begin begin
 begins_is kept begin p is = ap (λ (o : Option Span). begin_alike o (Some (no_longer begin))) is
 
-pub comes_at : {x : Owned Span} (kept : List (Owned Span)) (begin unit p : ℕ) → slice_get kept p ≡ Some x → comes_first kept begin unit (Some p) ≡ (nat_lt x.owner unit && eqb x.item.begin begin)
-comes_at kept begin unit p is = rw (item_at kept p is, ap (option_map (λ (y : Owned Span). y.owner)) is) refl
+pub comes_at : {x : Owned Span} (kept : List (Owned Span)) (begin part p : ℕ) → slice_get kept p ≡ Some x → comes_first kept begin part (Some p) ≡ (nat_lt x.owner part && eqb x.item.begin begin)
+comes_at kept begin part p is = rw (item_at kept p is, ap (option_map (λ (y : Owned Span). y.owner)) is) refl
 
-pub owner_told : {c : Copy} (list : List Copy) (q : ℕ) → slice_get list q ≡ Some c → owner_at (told list) q ≡ Some c.unit
+pub owner_told : {c : Copy} (list : List Copy) (q : ℕ) → slice_get list q ≡ Some c → owner_at (told list) q ≡ Some c.part
 owner_told [] q e = absurd cc
-owner_told (d ∷ list) zero e = ap (λ (x : Copy). Some x.unit) (some_is e)
+owner_told (d ∷ list) zero e = ap (λ (x : Copy). Some x.part) (some_is e)
 owner_told (d ∷ list) (suc q) e = owner_told list q e
 
 pub full_item : {c : Copy} (list : List Copy) (q : ℕ) → slice_get list q ≡ Some c → slice_get (items_of (told list)) q ≡ Some c.span
@@ -152,13 +152,13 @@ module _ (kept : List (Owned Span)) (keepers : List ℕ) (list : List Copy) (row
   -- a place with its range among all
   pub record IsAt (at : Place) (s : Span) : Type 0 where
     pub full : slice_get all_spans (full_place list at) ≡ Some s
-    pub copy : slice_get list (full_place list at) ≡ Some (record { unit = at.unit; place = at.place; span = s })
+    pub copy : slice_get list (full_place list at) ≡ Some (record { part = at.part; place = at.place; span = s })
 
-  pub is_at : (at : Place) (keeper : ℕ) (s : Span) → slice_get keepers at.unit ≡ Some keeper → IsKept kept at.place s keeper → IsAt at s
+  pub is_at : (at : Place) (keeper : ℕ) (s : Span) → slice_get keepers at.part ≡ Some keeper → IsKept kept at.place s keeper → IsAt at s
   is_at at keeper s row is =
-      let there = are.there at.unit keeper at.place s row is in
-      let place = copy_place kept keepers list there.at (record { unit = at.unit; place = at.place; span = s }) are there.is in
-      let copy = subst (λ (n : ℕ). slice_get list n ≡ Some (record { unit = at.unit; place = at.place; span = s })) (sym place) there.is in
+      let there = are.there at.part keeper at.place s row is in
+      let place = copy_place kept keepers list there.at (record { part = at.part; place = at.place; span = s }) are there.is in
+      let copy = subst (λ (n : ℕ). slice_get list n ≡ Some (record { part = at.part; place = at.place; span = s })) (sym place) there.is in
       record { full = full_item list (full_place list at) copy; copy = copy }
 
   -- a range among all, with what is kept of it
@@ -166,36 +166,36 @@ module _ (kept : List (Owned Span)) (keepers : List ℕ) (list : List Copy) (row
     pub copy : Copy
     pub is : slice_get list q ≡ Some copy
     pub keeper : ℕ
-    pub row : slice_get keepers copy.unit ≡ Some keeper
+    pub row : slice_get keepers copy.part ≡ Some keeper
     pub kept_is : IsKept kept copy.place s keeper
 
   is_range : (q : ℕ) (s : Span) → slice_get all_spans q ≡ Some s → IsRange q s
   is_range q s e =
       let h = has_copy list q s e in
       let t = are.told q h.copy h.is in
-      let unit : t.row ≡ h.copy.unit = omega (arith, t.unit_is) in
+      let part : t.row ≡ h.copy.part = omega (arith, t.part_is) in
       record {
         copy = h.copy;
         is = h.is;
         keeper = t.keeper;
-        row = subst (λ (n : ℕ). slice_get keepers n ≡ Some t.keeper) unit t.has;
+        row = subst (λ (n : ℕ). slice_get keepers n ≡ Some t.keeper) part t.has;
         kept_is = t.is ∙ ap (λ (x : Span). Some (record { item = x; owner = t.keeper })) h.span_is;
       }
 
-  -- of two ranges the one that stands later is of a later unit, or of the same one and a later place
-  in_order : (p q : ℕ) (c d : Copy) → slice_get list p ≡ Some c → slice_get list q ≡ Some d → p < q → (c.unit < d.unit) ⊎ ((c.unit ≡ d.unit) × (c.place < d.place))
+  -- of two ranges the one that stands later is of a later part, or of the same one and a later place
+  in_order : (p q : ℕ) (c d : Copy) → slice_get list p ≡ Some c → slice_get list q ≡ Some d → p < q → (c.part < d.part) ⊎ ((c.part ≡ d.part) × (c.place < d.place))
   in_order p q c d is_c is_d lt = are.sorted p q c d lt is_c is_d
 
   -- no other stands between
-  not_before : (p q : ℕ) (c d : Copy) → slice_get list p ≡ Some c → slice_get list q ≡ Some d → (d.unit < c.unit → ⊥) → (c.unit ≡ d.unit → c.place ≤ d.place) → p ≤ q
-  not_before p q c d is_c is_d unit place =
+  not_before : (p q : ℕ) (c d : Copy) → slice_get list p ≡ Some c → slice_get list q ≡ Some d → (d.part < c.part → ⊥) → (c.part ≡ d.part → c.place ≤ d.place) → p ≤ q
+  not_before p q c d is_c is_d part place =
       elim (cases_lt q p) [
         | inl lt ↦ absurd (by (in_order q p d c is_d is_c lt))
         | inr ge ↦ ge
       ]
     where
-      by : (d.unit < c.unit) ⊎ ((d.unit ≡ c.unit) × (d.place < c.place)) → ⊥
-      by (inl lt) = unit lt
+      by : (d.part < c.part) ⊎ ((d.part ≡ c.part) × (d.place < c.place)) → ⊥
+      by (inl lt) = part lt
       by (inr h) = let k = place (sym h.0) in let l = h.1 in omega arith
 
   -- the keeper of a range that is kept is its own
@@ -211,7 +211,7 @@ module _ (kept : List (Owned Span)) (keepers : List ℕ) (list : List Copy) (row
       none r.copy.place t (item_at kept r.copy.place r.kept_is) passes
 
   abbrev pub as_kept : ℕ → ℕ → Place
-  as_kept p keeper = record { place = p; unit = keeper }
+  as_kept p keeper = record { place = p; part = keeper }
 
   abbrev best_at : Option ℕ → Type 0
   best_at o = IsBest (λ at s. covers s addr) (items_of kept) o
@@ -235,8 +235,8 @@ module _ (kept : List (Owned Span)) (keepers : List ℕ) (list : List Copy) (row
               tie = λ e.
                   let le = n.tie e in
                   let k = later_kept p r.copy.place keeper r.keeper b.span t is r.kept_is le in
-                  let l = rows.before r.copy.unit r.keeper r.row in
-                  not_before (full_place list (as_kept p keeper)) q (record { unit = keeper; place = p; span = b.span }) r.copy here.copy r.is (λ lt. omega arith) (λ _. le);
+                  let l = rows.before r.copy.part r.keeper r.row in
+                  not_before (full_place list (as_kept p keeper)) q (record { part = keeper; place = p; span = b.span }) r.copy here.copy r.is (λ lt. omega arith) (λ _. le);
             };
       }
 
@@ -251,29 +251,29 @@ module _ (kept : List (Owned Span)) (keepers : List ℕ) (list : List Copy) (row
 
   -- ---- the next one
 
-  pub stands_before : (p q : ℕ) (c d : Copy) → slice_get list p ≡ Some c → slice_get list q ≡ Some d → (c.unit < d.unit) ⊎ ((c.unit ≡ d.unit) × (c.place < d.place)) → p < q
+  pub stands_before : (p q : ℕ) (c d : Copy) → slice_get list p ≡ Some c → slice_get list q ≡ Some d → (c.part < d.part) ⊎ ((c.part ≡ d.part) × (c.place < d.place)) → p < q
   stands_before p q c d is_c is_d h =
       elim (cases_lt p q) [
         | inl lt ↦ lt
         | inr ge ↦ absurd (not_later ge (cases_lt q p) h)
       ]
     where
-      apart : (d.unit < c.unit) ⊎ ((d.unit ≡ c.unit) × (d.place < c.place)) → (c.unit < d.unit) ⊎ ((c.unit ≡ d.unit) × (c.place < d.place)) → ⊥
+      apart : (d.part < c.part) ⊎ ((d.part ≡ c.part) × (d.place < c.place)) → (c.part < d.part) ⊎ ((c.part ≡ d.part) × (c.place < d.place)) → ⊥
       apart (inl x) (inl y) = omega arith
       apart (inl x) (inr y) = let e = y.0 in omega arith
       apart (inr x) (inl y) = let e = x.0 in omega arith
       apart (inr x) (inr y) = let k = x.1 in let l = y.1 in omega arith
 
-      not_itself : c ≡ d → (c.unit < d.unit) ⊎ ((c.unit ≡ d.unit) × (c.place < d.place)) → ⊥
-      not_itself e (inl x) = let k : c.unit ≡ d.unit = ap (λ (y : Copy). y.unit) e in omega arith
+      not_itself : c ≡ d → (c.part < d.part) ⊎ ((c.part ≡ d.part) × (c.place < d.place)) → ⊥
+      not_itself e (inl x) = let k : c.part ≡ d.part = ap (λ (y : Copy). y.part) e in omega arith
       not_itself e (inr x) = let k : c.place ≡ d.place = ap (λ (y : Copy). y.place) e in let l = x.1 in omega arith
 
-      not_later : q ≤ p → (q < p) ⊎ (p ≤ q) → (c.unit < d.unit) ⊎ ((c.unit ≡ d.unit) × (c.place < d.place)) → ⊥
+      not_later : q ≤ p → (q < p) ⊎ (p ≤ q) → (c.part < d.part) ⊎ ((c.part ≡ d.part) × (c.place < d.place)) → ⊥
       not_later ge (inl lt) h = apart (are.sorted q p d c lt is_d is_c) h
       not_later ge (inr le) h = let e : p ≡ q = omega arith in not_itself (some_is (sym is_c ∙ subst (λ (n : ℕ). slice_get list n ≡ Some d) (sym e) is_d)) h
 
-  same_keeper : (unit other keeper next : ℕ) → unit ≡ other → slice_get keepers unit ≡ Some keeper → slice_get keepers other ≡ Some next → next ≡ keeper
-  same_keeper unit other keeper next e is_k is_n = some_is (sym is_n ∙ subst (λ (n : ℕ). slice_get keepers n ≡ Some keeper) e is_k)
+  same_keeper : (part other keeper next : ℕ) → part ≡ other → slice_get keepers part ≡ Some keeper → slice_get keepers other ≡ Some next → next ≡ keeper
+  same_keeper part other keeper next e is_k is_n = some_is (sym is_n ∙ subst (λ (n : ℕ). slice_get keepers n ≡ Some keeper) e is_k)
 
   module _ (at : Place) (w : IsPlaced kept keepers addr at) where
     here : IsAt at w.span
@@ -283,19 +283,19 @@ module _ (kept : List (Owned Span)) (keepers : List ℕ) (list : List Copy) (row
     full = full_place list at
 
     abbrev pub this : Copy
-    this = record { unit = at.unit; place = at.place; span = w.span }
+    this = record { part = at.part; place = at.place; span = w.span }
 
-    -- of the same unit
+    -- of the same part
 
-    pub moved_next : (q : ℕ) (n : IsNextAt (items_of kept) addr at.place w.span q) → IsKept kept q n.span w.keeper → n.span.begin ≡ w.span.begin → IsNextAt all_spans addr full w.span (full_place list (record { place = q; unit = at.unit }))
+    pub moved_next : (q : ℕ) (n : IsNextAt (items_of kept) addr at.place w.span q) → IsKept kept q n.span w.keeper → n.span.begin ≡ w.span.begin → IsNextAt all_spans addr full w.span (full_place list (record { place = q; part = at.part }))
     unfolding here
     moved_next q n is same =
-        let there = is_at (record { place = q; unit = at.unit }) w.keeper n.span w.row is in
+        let there = is_at (record { place = q; part = at.part }) w.keeper n.span w.row is in
         record {
           span = n.span;
           at = there.full;
           reached = n.reached;
-          behind = inr (same, stands_before full (full_place list (record { place = q; unit = at.unit })) this (record { unit = at.unit; place = q; span = n.span }) here.copy there.copy (inr (refl, later_place n.behind)));
+          behind = inr (same, stands_before full (full_place list (record { place = q; part = at.part })) this (record { part = at.part; place = q; span = n.span }) here.copy there.copy (inr (refl, later_place n.behind)));
           first = λ r t is_t reached after. not_after there r t is_t reached after;
         }
       where
@@ -303,21 +303,21 @@ module _ (kept : List (Owned Span)) (keepers : List ℕ) (list : List Copy) (row
         later_place (inl lt) = absurd (omega arith)
         later_place (inr h) = h.1
 
-        not_after : IsAt (record { place = q; unit = at.unit }) n.span → (r : ℕ) (t : Span) → slice_get all_spans r ≡ Some t → covers t addr ≡ true → After full w.span r t → NotAfter (full_place list (record { place = q; unit = at.unit })) n.span r t
+        not_after : IsAt (record { place = q; part = at.part }) n.span → (r : ℕ) (t : Span) → slice_get all_spans r ≡ Some t → covers t addr ≡ true → After full w.span r t → NotAfter (full_place list (record { place = q; part = at.part })) n.span r t
         not_after there r t is_t reached (inl lt) = record { below = omega arith; tie = λ e. absurd (omega arith) }
         not_after there r t is_t reached (inr h) =
             let x = is_range r t is_t in
-            record { below = let k = h.0 in omega arith; tie = λ e. not_before (full_place list (record { place = q; unit = at.unit })) r (record { unit = at.unit; place = q; span = n.span }) x.copy there.copy x.is (not_unit x.copy (in_order full r this x.copy here.copy x.is h.1)) (place_after x e (in_order full r this x.copy here.copy x.is h.1)) }
+            record { below = let k = h.0 in omega arith; tie = λ e. not_before (full_place list (record { place = q; part = at.part })) r (record { part = at.part; place = q; span = n.span }) x.copy there.copy x.is (not_part x.copy (in_order full r this x.copy here.copy x.is h.1)) (place_after x e (in_order full r this x.copy here.copy x.is h.1)) }
           where
-            not_unit : (d : Copy) → (at.unit < d.unit) ⊎ ((at.unit ≡ d.unit) × (at.place < d.place)) → d.unit < at.unit → ⊥
-            not_unit d (inl a) b = omega arith
-            not_unit d (inr a) b = let k = a.0 in omega arith
+            not_part : (d : Copy) → (at.part < d.part) ⊎ ((at.part ≡ d.part) × (at.place < d.place)) → d.part < at.part → ⊥
+            not_part d (inl a) b = omega arith
+            not_part d (inr a) b = let k = a.0 in omega arith
 
-            place_after : (x : IsRange r t) → t.begin ≡ n.span.begin → (at.unit < x.copy.unit) ⊎ ((at.unit ≡ x.copy.unit) × (at.place < x.copy.place)) → at.unit ≡ x.copy.unit → q ≤ x.copy.place
+            place_after : (x : IsRange r t) → t.begin ≡ n.span.begin → (at.part < x.copy.part) ⊎ ((at.part ≡ x.copy.part) × (at.place < x.copy.place)) → at.part ≡ x.copy.part → q ≤ x.copy.place
             place_after x e (inl a) same = absurd (omega arith)
             place_after x e (inr a) same = (n.first x.copy.place t (item_at kept x.copy.place x.kept_is) reached (inr (h.0, a.1))).tie e
 
-    pub moved_placed : (q : ℕ) (n : IsNextAt (items_of kept) addr at.place w.span q) → IsKept kept q n.span w.keeper → n.span.begin ≡ w.span.begin → IsPlaced kept keepers addr (record { place = q; unit = at.unit })
+    pub moved_placed : (q : ℕ) (n : IsNextAt (items_of kept) addr at.place w.span q) → IsKept kept q n.span w.keeper → n.span.begin ≡ w.span.begin → IsPlaced kept keepers addr (record { place = q; part = at.part })
     moved_placed q n is same = record {
       keeper = w.keeper;
       span = n.span;
@@ -326,7 +326,7 @@ module _ (kept : List (Owned Span)) (keepers : List ℕ) (list : List Copy) (row
       reached = n.reached;
     }
 
-    -- ---- behind the unit
+    -- ---- behind the part
 
     -- no range of the keeper that begins alike comes after it
     abbrev pub IsLastOne : Type 0
@@ -335,18 +335,18 @@ module _ (kept : List (Owned Span)) (keepers : List ℕ) (list : List Copy) (row
     alike : (r : ℕ) (t : Span) (x : IsRange r t) → covers t addr ≡ true → t.begin ≡ w.span.begin → IsAlike kept x.keeper addr w.span.begin x.copy.place
     alike r t x reached same = record { span = t; is = x.kept_is; begins = same; reached = reached }
 
-    later_unit : IsLastOne → (r : ℕ) (t : Span) (x : IsRange r t) → covers t addr ≡ true → t.begin ≡ w.span.begin → full < r → at.unit < x.copy.unit
+    later_part : IsLastOne → (r : ℕ) (t : Span) (x : IsRange r t) → covers t addr ≡ true → t.begin ≡ w.span.begin → full < r → at.part < x.copy.part
     unfolding here
-    later_unit last r t x reached same lt = by (in_order full r this x.copy here.copy x.is lt)
+    later_part last r t x reached same lt = by (in_order full r this x.copy here.copy x.is lt)
       where
-        by : (at.unit < x.copy.unit) ⊎ ((at.unit ≡ x.copy.unit) × (at.place < x.copy.place)) → at.unit < x.copy.unit
+        by : (at.part < x.copy.part) ⊎ ((at.part ≡ x.copy.part) × (at.place < x.copy.place)) → at.part < x.copy.part
         by (inl a) = a
-        by (inr a) = absurd (last x.copy.place (subst (λ (n : ℕ). IsAlike kept n addr w.span.begin x.copy.place) (same_keeper at.unit x.copy.unit w.keeper x.keeper a.0 w.row x.row) (alike r t x reached same)) a.1)
+        by (inr a) = absurd (last x.copy.place (subst (λ (n : ℕ). IsAlike kept n addr w.span.begin x.copy.place) (same_keeper at.part x.copy.part w.keeper x.keeper a.0 w.row x.row) (alike r t x reached same)) a.1)
 
     abbrev Repeated : ℕ → ℕ → Type 0
-    Repeated other p = RepeatsAt kept keepers at.unit addr w.span.begin other p
+    Repeated other p = RepeatsAt kept keepers at.part addr w.span.begin other p
 
-    repeated : (r : ℕ) (t : Span) (x : IsRange r t) → covers t addr ≡ true → t.begin ≡ w.span.begin → at.unit < x.copy.unit → x.keeper < x.copy.unit → Repeated x.copy.unit x.copy.place
+    repeated : (r : ℕ) (t : Span) (x : IsRange r t) → covers t addr ≡ true → t.begin ≡ w.span.begin → at.part < x.copy.part → x.keeper < x.copy.part → Repeated x.copy.part x.copy.place
     repeated r t x reached same lt less = record {
       keeper = x.keeper;
       repeats = record { later = lt; row = x.row; differs = less };
@@ -355,25 +355,25 @@ module _ (kept : List (Owned Span)) (keepers : List ℕ) (list : List Copy) (row
 
     -- nothing is next where neither is
 
-    pub none_next : IsLastOne → IsNextOwn kept at.unit addr w.span.begin None → IsNextRepeat kept keepers at.unit addr w.span.begin None → IsNext all_spans addr full w.span None
+    pub none_next : IsLastOne → IsNextOwn kept at.part addr w.span.begin None → IsNextRepeat kept keepers at.part addr w.span.begin None → IsNext all_spans addr full w.span None
     none_next last own repeat = λ r t is_t reached after. by r t (is_range r t is_t) reached after
       where
         by : (r : ℕ) (t : Span) → IsRange r t → covers t addr ≡ true → After full w.span r t → ⊥
         by r t x reached (inl lt) = own x.copy.place (record { item = t; owner = x.keeper }) x.kept_is reached (inl lt)
         by r t x reached (inr h) =
-            let lt = later_unit last r t x reached h.0 h.1 in
-            elim (cases_lt x.keeper x.copy.unit) [
-              | inl less ↦ repeat x.copy.unit x.copy.place tt (repeated r t x reached h.0 lt less)
+            let lt = later_part last r t x reached h.0 h.1 in
+            elim (cases_lt x.keeper x.copy.part) [
+              | inl less ↦ repeat x.copy.part x.copy.place tt (repeated r t x reached h.0 lt less)
               | inr same ↦ own x.copy.place (record { item = t; owner = x.keeper }) x.kept_is reached (inr (h.0, omega arith))
             ]
 
-    -- the best that is kept for a later unit or begins below
+    -- the best that is kept for a later part or begins below
 
-    -- it precedes each unit that is not its own keeper
-    abbrev pub Precedes : (q : ℕ) → IsOwn kept at.unit addr w.span.begin q → Type 0
+    -- it precedes each part that is not its own keeper
+    abbrev pub Precedes : (q : ℕ) → IsOwn kept at.part addr w.span.begin q → Type 0
     Precedes q n = (other p : ℕ) → Repeated other p → (n.range.item.begin ≡ w.span.begin) × (n.range.owner < other)
 
-    pub own_next : IsLastOne → (q : ℕ) (n : IsOwn kept at.unit addr w.span.begin q) → Precedes q n → IsNextAt all_spans addr full w.span (full_place list (as_kept q n.range.owner))
+    pub own_next : IsLastOne → (q : ℕ) (n : IsOwn kept at.part addr w.span.begin q) → Precedes q n → IsNextAt all_spans addr full w.span (full_place list (as_kept q n.range.owner))
     unfolding here
     own_next last q n precedes =
         let there = is_at (as_kept q n.range.owner) n.range.owner n.range.item (own_row q n.range.owner n.range.item n.is) n.is in
@@ -385,11 +385,11 @@ module _ (kept : List (Owned Span)) (keepers : List ℕ) (list : List Copy) (row
           first = λ r t is_t reached after. not_after there r t (is_range r t is_t) reached after;
         }
       where
-        behind : IsAt (as_kept q n.range.owner) n.range.item → IsLater at.unit w.span.begin n.range → After full w.span (full_place list (as_kept q n.range.owner)) n.range.item
+        behind : IsAt (as_kept q n.range.owner) n.range.item → IsLater at.part w.span.begin n.range → After full w.span (full_place list (as_kept q n.range.owner)) n.range.item
         behind there (inl lt) = inl lt
-        behind there (inr h) = inr (h.0, stands_before full (full_place list (as_kept q n.range.owner)) this (record { unit = n.range.owner; place = q; span = n.range.item }) here.copy there.copy (inl h.1))
+        behind there (inr h) = inr (h.0, stands_before full (full_place list (as_kept q n.range.owner)) this (record { part = n.range.owner; place = q; span = n.range.item }) here.copy there.copy (inl h.1))
 
-        after_kept : IsAt (as_kept q n.range.owner) n.range.item → (r : ℕ) (t : Span) (x : IsRange r t) → covers t addr ≡ true → IsLater at.unit w.span.begin (record { item = t; owner = x.keeper }) → NotAfter (full_place list (as_kept q n.range.owner)) n.range.item r t
+        after_kept : IsAt (as_kept q n.range.owner) n.range.item → (r : ℕ) (t : Span) (x : IsRange r t) → covers t addr ≡ true → IsLater at.part w.span.begin (record { item = t; owner = x.keeper }) → NotAfter (full_place list (as_kept q n.range.owner)) n.range.item r t
         after_kept there r t x reached later =
             let k = n.first x.copy.place (record { item = t; owner = x.keeper }) x.kept_is reached later in
             record {
@@ -397,50 +397,50 @@ module _ (kept : List (Owned Span)) (keepers : List ℕ) (list : List Copy) (row
               tie = λ e.
                   let le = k.tie e in
                   let above = later_kept q x.copy.place n.range.owner x.keeper n.range.item t n.is x.kept_is le in
-                  let l = rows.before x.copy.unit x.keeper x.row in
-                  not_before (full_place list (as_kept q n.range.owner)) r (record { unit = n.range.owner; place = q; span = n.range.item }) x.copy there.copy x.is (λ lt. omega arith) (λ _. le);
+                  let l = rows.before x.copy.part x.keeper x.row in
+                  not_before (full_place list (as_kept q n.range.owner)) r (record { part = n.range.owner; place = q; span = n.range.item }) x.copy there.copy x.is (λ lt. omega arith) (λ _. le);
             }
 
         not_after : IsAt (as_kept q n.range.owner) n.range.item → (r : ℕ) (t : Span) → IsRange r t → covers t addr ≡ true → After full w.span r t → NotAfter (full_place list (as_kept q n.range.owner)) n.range.item r t
         not_after there r t x reached (inl lt) = after_kept there r t x reached (inl lt)
         not_after there r t x reached (inr h) =
-            let lt = later_unit last r t x reached h.0 h.1 in
-            elim (cases_lt x.keeper x.copy.unit) [
+            let lt = later_part last r t x reached h.0 h.1 in
+            elim (cases_lt x.keeper x.copy.part) [
               | inl less ↦
-                  let p = precedes x.copy.unit x.copy.place (repeated r t x reached h.0 lt less) in
+                  let p = precedes x.copy.part x.copy.place (repeated r t x reached h.0 lt less) in
                   let begins = p.0 in
                   let before = p.1 in
                   let same = h.0 in
-                  record { below = omega arith; tie = λ e. not_before (full_place list (as_kept q n.range.owner)) r (record { unit = n.range.owner; place = q; span = n.range.item }) x.copy there.copy x.is (λ l. omega arith) (λ u. absurd (omega arith)) }
+                  record { below = omega arith; tie = λ e. not_before (full_place list (as_kept q n.range.owner)) r (record { part = n.range.owner; place = q; span = n.range.item }) x.copy there.copy x.is (λ l. omega arith) (λ u. absurd (omega arith)) }
               | inr same ↦ after_kept there r t x reached (inr (h.0, omega arith))
             ]
 
-    pub own_placed : (q : ℕ) (n : IsOwn kept at.unit addr w.span.begin q) → IsPlaced kept keepers addr (as_kept q n.range.owner)
+    pub own_placed : (q : ℕ) (n : IsOwn kept at.part addr w.span.begin q) → IsPlaced kept keepers addr (as_kept q n.range.owner)
     own_placed q n = record { keeper = n.range.owner; span = n.range.item; is = n.is; row = own_row q n.range.owner n.range.item n.is; reached = n.reached }
 
-    pub precedes_repeat : (q : ℕ) (n : IsOwn kept at.unit addr w.span.begin q) (bound : ℕ) → NoRepeatBefore kept keepers at.unit addr w.span.begin bound → comes_first kept w.span.begin bound (Some q) ≡ true → Precedes q n
+    pub precedes_repeat : (q : ℕ) (n : IsOwn kept at.part addr w.span.begin q) (bound : ℕ) → NoRepeatBefore kept keepers at.part addr w.span.begin bound → comes_first kept w.span.begin bound (Some q) ≡ true → Precedes q n
     precedes_repeat q n bound none e = λ other p a.
         let both = and_parts _ _ (sym (comes_at kept w.span.begin bound q n.is) ∙ e) in
         let before = ltb-true n.range.owner bound both.0 in
         let least = none other p a in
         (eqb-true n.range.item.begin w.span.begin both.1, omega arith)
 
-    -- the next unit that is not its own keeper
+    -- the next part that is not its own keeper
 
-    none_first : (o : Option ℕ) → IsNextOwn kept at.unit addr w.span.begin o → (unit : ℕ) → comes_first kept w.span.begin unit o ≡ false → (p : ℕ) (x : Owned Span) → slice_get kept p ≡ Some x → covers x.item addr ≡ true → x.item.begin ≡ w.span.begin → at.unit < x.owner → x.owner < unit → ⊥
-    none_first None own unit f p x is reached same above below = own p x is reached (inr (same, above))
-    none_first (Some q) own unit f p x is reached same above below =
+    none_first : (o : Option ℕ) → IsNextOwn kept at.part addr w.span.begin o → (part : ℕ) → comes_first kept w.span.begin part o ≡ false → (p : ℕ) (x : Owned Span) → slice_get kept p ≡ Some x → covers x.item addr ≡ true → x.item.begin ≡ w.span.begin → at.part < x.owner → x.owner < part → ⊥
+    none_first None own part f p x is reached same above below = own p x is reached (inr (same, above))
+    none_first (Some q) own part f p x is reached same above below =
         let k = own.first p x is reached (inr (same, above)) in
         let begins : own.range.item.begin ≡ w.span.begin = not_below own.later k.below in
         let le = k.tie (same ∙ sym begins) in
         let up = rows.sorted q p own.range x le own.is is in
-        false≢true (sym f ∙ (comes_at kept w.span.begin unit q own.is ∙ and_from _ _ (lt-ltb own.range.owner unit (omega arith)) (eq-eqb own.range.item.begin w.span.begin begins)))
+        false≢true (sym f ∙ (comes_at kept w.span.begin part q own.is ∙ and_from _ _ (lt-ltb own.range.owner part (omega arith)) (eq-eqb own.range.item.begin w.span.begin begins)))
       where
-        not_below : IsLater at.unit w.span.begin own.range → x.item.begin ≤ own.range.item.begin → own.range.item.begin ≡ w.span.begin
+        not_below : IsLater at.part w.span.begin own.range → x.item.begin ≤ own.range.item.begin → own.range.item.begin ≡ w.span.begin
         not_below (inl lt) le = absurd (omega arith)
         not_below (inr h) le = h.0
 
-    pub repeat_next : IsLastOne → (o : Option ℕ) → IsNextOwn kept at.unit addr w.span.begin o → (r : Place) (n : IsNextRepeat kept keepers at.unit addr w.span.begin (Some r)) → comes_first kept w.span.begin r.unit o ≡ false → IsNextAt all_spans addr full w.span (full_place list r)
+    pub repeat_next : IsLastOne → (o : Option ℕ) → IsNextOwn kept at.part addr w.span.begin o → (r : Place) (n : IsNextRepeat kept keepers at.part addr w.span.begin (Some r)) → comes_first kept w.span.begin r.part o ≡ false → IsNextAt all_spans addr full w.span (full_place list r)
     unfolding here
     repeat_next last o own r n f =
         let there = is_at r n.keeper n.first.0.span n.repeats.row n.first.0.is in
@@ -448,16 +448,16 @@ module _ (kept : List (Owned Span)) (keepers : List ℕ) (list : List Copy) (row
           span = n.first.0.span;
           at = there.full;
           reached = n.first.0.reached;
-          behind = inr (n.first.0.begins, stands_before full (full_place list r) this (record { unit = r.unit; place = r.place; span = n.first.0.span }) here.copy there.copy (inl n.repeats.later));
+          behind = inr (n.first.0.begins, stands_before full (full_place list r) this (record { part = r.part; place = r.place; span = n.first.0.span }) here.copy there.copy (inl n.repeats.later));
           first = λ p t is_t reached after. not_after there p t (is_range p t is_t) reached after;
         }
       where
-        no_unit : (p : ℕ) (t : Span) (x : IsRange p t) → covers t addr ≡ true → t.begin ≡ w.span.begin → at.unit < x.copy.unit → x.copy.unit < r.unit → ⊥
-        no_unit p t x reached same lt less =
-            let l = rows.before x.copy.unit x.keeper x.row in
-            elim (cases_lt x.keeper x.copy.unit) [
-              | inl other ↦ let k = n.least x.copy.unit x.copy.place tt (repeated p t x reached same lt other) in absurd (omega arith)
-              | inr one ↦ none_first o own r.unit f x.copy.place (record { item = t; owner = x.keeper }) x.kept_is reached same (omega arith) (omega arith)
+        no_part : (p : ℕ) (t : Span) (x : IsRange p t) → covers t addr ≡ true → t.begin ≡ w.span.begin → at.part < x.copy.part → x.copy.part < r.part → ⊥
+        no_part p t x reached same lt less =
+            let l = rows.before x.copy.part x.keeper x.row in
+            elim (cases_lt x.keeper x.copy.part) [
+              | inl other ↦ let k = n.least x.copy.part x.copy.place tt (repeated p t x reached same lt other) in absurd (omega arith)
+              | inr one ↦ none_first o own r.part f x.copy.place (record { item = t; owner = x.keeper }) x.kept_is reached same (omega arith) (omega arith)
             ]
 
         not_after : IsAt r n.first.0.span → (p : ℕ) (t : Span) → IsRange p t → covers t addr ≡ true → After full w.span p t → NotAfter (full_place list r) n.first.0.span p t
@@ -465,13 +465,13 @@ module _ (kept : List (Owned Span)) (keepers : List ℕ) (list : List Copy) (row
         not_after there p t x reached (inr h) =
             let b = n.first.0.begins in
             let same = h.0 in
-            let lt = later_unit last p t x reached h.0 h.1 in
+            let lt = later_part last p t x reached h.0 h.1 in
             record {
               below = omega arith;
-              tie = λ e. not_before (full_place list r) p (record { unit = r.unit; place = r.place; span = n.first.0.span }) x.copy there.copy x.is
-                  (λ less. no_unit p t x reached same lt less)
-                  (λ unit. n.first.1 x.copy.place (subst (λ (k : ℕ). IsAlike kept k addr w.span.begin x.copy.place) (same_keeper r.unit x.copy.unit n.keeper x.keeper unit n.repeats.row x.row) (alike p t x reached same)));
+              tie = λ e. not_before (full_place list r) p (record { part = r.part; place = r.place; span = n.first.0.span }) x.copy there.copy x.is
+                  (λ less. no_part p t x reached same lt less)
+                  (λ part. n.first.1 x.copy.place (subst (λ (k : ℕ). IsAlike kept k addr w.span.begin x.copy.place) (same_keeper r.part x.copy.part n.keeper x.keeper part n.repeats.row x.row) (alike p t x reached same)));
             }
 
-    pub repeat_placed : (r : Place) → IsNextRepeat kept keepers at.unit addr w.span.begin (Some r) → IsPlaced kept keepers addr r
+    pub repeat_placed : (r : Place) → IsNextRepeat kept keepers at.part addr w.span.begin (Some r) → IsPlaced kept keepers addr r
     repeat_placed r n = record { keeper = n.keeper; span = n.first.0.span; is = n.first.0.is; row = n.repeats.row; reached = n.first.0.reached }

@@ -10,13 +10,13 @@ use Rattle.blz_ranges.specs.Best.{best, covers, next, IsBest}
 use Rattle.blz_ranges.specs.Groups.{AreApart}
 use Rattle.blz_ranges.specs.Owned.{Owned, items_of, owner_at}
 use Rattle.blz_ranges.proofs.BestOf.{best_is, best_is_best}
-use Rattle.blz_announced.specs.declared.announced.Place.{Place}
-use Rattle.blz_announced.specs.Copies.{all_spans, announced_all, announced_copies, begun, comes_first, full_place, goes_on, moved, told, Announced, Copy, HaveKeepers, IsKept, IsNextOwn, IsOwn, IsPlaced, StandsFor}
+use Rattle.blz_announced.specs.declared.announced_parts.Place.{Place}
+use Rattle.blz_announced.specs.Copies.{all_spans, all_of_parts, announced_copies, begun, comes_first, full_place, goes_on, moved, told, AnnouncedParts, Copy, HaveKeepers, IsKept, IsNextOwn, IsOwn, IsPlaced, StandsFor}
 use Rattle.blz_announced.specs.Repeats.{IsAlike, IsLast, IsNextRepeat, NoRepeatBefore}
 use Rattle.blz_announced.proofs.Copies.{are_copies, there_at, AreCopies}
 use Rattle.blz_announced.proofs.NextCopies.{as_kept, best_none, best_some, has_item, is_at, is_next, item_at, moved_next, moved_placed, next_is, none_next, own_next, own_placed, placed_kept, precedes_repeat, repeat_next, repeat_placed, some_is, stands_before, IsAt, IsNext, Precedes}
 
-module _ (a : Announced) (rows : HaveKeepers a.kept.ranges a.keepers) (addr : ℕ) where
+module _ (a : AnnouncedParts) (rows : HaveKeepers a.kept.ranges a.keepers) (addr : ℕ) where
   abbrev kept : List (Owned Span)
   kept = a.kept.ranges
 
@@ -76,7 +76,7 @@ module _ (a : Announced) (rows : HaveKeepers a.kept.ranges a.keepers) (addr : �
         let begin : n.span.begin ≡ w.span.begin = sym (eqb-true w.span.begin n.span.begin both.1) in
         let is = subst (λ (k : ℕ). IsKept kept q n.span k) same h.is in
         record {
-          is = is_full_next (Some (full_place list (record { place = q; unit = at.unit }))) (moved_next kept a.keepers list rows are addr at w q n is begin);
+          is = is_full_next (Some (full_place list (record { place = q; part = at.part }))) (moved_next kept a.keepers list rows are addr at w q n is begin);
           placed = moved_placed kept a.keepers list rows are addr at w q n is begin;
         }
 
@@ -115,51 +115,51 @@ module _ (a : Announced) (rows : HaveKeepers a.kept.ranges a.keepers) (addr : �
     moved_found None e goes = tt
     moved_found (Some q) e goes = moved_stands (Some q) e goes
 
-    -- ---- behind its unit
+    -- ---- behind its part
 
     module _ (last : IsLast kept addr w.span.begin at.place) where
       last_one : (q : ℕ) → IsAlike kept w.keeper addr w.span.begin q → at.place < q → ⊥
       last_one q a lt = last w.keeper q (owner_is at.place w.keeper w.span w.is) a lt
 
-      own_by : (q : ℕ) (n : IsOwn kept at.unit addr w.span.begin q) → Precedes kept a.keepers list rows are addr at w q n → Stands (begun kept (Some q)) (next all addr (full_place list at))
+      own_by : (q : ℕ) (n : IsOwn kept at.part addr w.span.begin q) → Precedes kept a.keepers list rows are addr at w q n → Stands (begun kept (Some q)) (next all addr (full_place list at))
       own_by q n precedes =
           rw (owner_is q n.range.owner n.range.item n.is) (record {
             is = is_full_next (Some (full_place list (as_kept kept a.keepers list rows are addr q n.range.owner))) (own_next kept a.keepers list rows are addr at w last_one q n precedes);
             placed = own_placed kept a.keepers list rows are addr at w q n;
           })
 
-      own_stands : (o : Option ℕ) → IsNextOwn kept at.unit addr w.span.begin o → IsNextRepeat kept a.keepers at.unit addr w.span.begin None → Stands (begun kept o) (next all addr (full_place list at))
+      own_stands : (o : Option ℕ) → IsNextOwn kept at.part addr w.span.begin o → IsNextRepeat kept a.keepers at.part addr w.span.begin None → Stands (begun kept o) (next all addr (full_place list at))
       own_stands None own repeat = record { is = is_full_next None (none_next kept a.keepers list rows are addr at w last_one own repeat); placed = tt }
       own_stands (Some q) own repeat = own_by q own (λ other p a. absurd (repeat other p tt a))
 
-      own_first_stands : (o : Option ℕ) → IsNextOwn kept at.unit addr w.span.begin o → (bound : ℕ) → NoRepeatBefore kept a.keepers at.unit addr w.span.begin bound → comes_first kept w.span.begin bound o ≡ true → Stands (begun kept o) (next all addr (full_place list at))
+      own_first_stands : (o : Option ℕ) → IsNextOwn kept at.part addr w.span.begin o → (bound : ℕ) → NoRepeatBefore kept a.keepers at.part addr w.span.begin bound → comes_first kept w.span.begin bound o ≡ true → Stands (begun kept o) (next all addr (full_place list at))
       own_first_stands None own bound none e = absurd cc
       own_first_stands (Some q) own bound none e = own_by q own (precedes_repeat kept a.keepers list rows are addr at w q own bound none e)
 
-      repeat_stands : (o : Option ℕ) → IsNextOwn kept at.unit addr w.span.begin o → (r : Place) → IsNextRepeat kept a.keepers at.unit addr w.span.begin (Some r) → comes_first kept w.span.begin r.unit o ≡ false → Stands (Some r) (next all addr (full_place list at))
+      repeat_stands : (o : Option ℕ) → IsNextOwn kept at.part addr w.span.begin o → (r : Place) → IsNextRepeat kept a.keepers at.part addr w.span.begin (Some r) → comes_first kept w.span.begin r.part o ≡ false → Stands (Some r) (next all addr (full_place list at))
       repeat_stands o own r repeat e = record {
         is = is_full_next (Some (full_place list r)) (repeat_next kept a.keepers list rows are addr at w last_one o own r repeat e);
         placed = repeat_placed kept a.keepers list rows are addr at w r repeat;
       }
 
-    pub first_owner : (x : Owned Span) → slice_get kept 0 ≡ Some x → x.owner ≤ at.unit
+    pub first_owner : (x : Owned Span) → slice_get kept 0 ≡ Some x → x.owner ≤ at.part
     first_owner x is =
         let up = rows.sorted 0 at.place x (record { item = w.span; owner = w.keeper }) (omega arith) is w.is in
-        let le = rows.before at.unit w.keeper w.row in
+        let le = rows.before at.part w.keeper w.row in
         omega arith
 
     abbrev Next : Option Place → Type 0
     Next found = Stands found (next all addr (full_place list at))
 
     -- what is next, by what was found of the ranges that begin at a number or below it
-    pub record IsBehindUnit (begin : ℕ) : Type 0 where
-      pub own : (o : Option ℕ) → IsNextOwn kept at.unit addr begin o → IsNextRepeat kept a.keepers at.unit addr begin None → Next (begun kept o)
-      pub own_first : (o : Option ℕ) → IsNextOwn kept at.unit addr begin o → (bound : ℕ) → NoRepeatBefore kept a.keepers at.unit addr begin bound → comes_first kept begin bound o ≡ true → Next (begun kept o)
-      pub repeat : (o : Option ℕ) → IsNextOwn kept at.unit addr begin o → (r : Place) → IsNextRepeat kept a.keepers at.unit addr begin (Some r) → comes_first kept begin r.unit o ≡ false → Next (Some r)
+    pub record IsBehindPart (begin : ℕ) : Type 0 where
+      pub own : (o : Option ℕ) → IsNextOwn kept at.part addr begin o → IsNextRepeat kept a.keepers at.part addr begin None → Next (begun kept o)
+      pub own_first : (o : Option ℕ) → IsNextOwn kept at.part addr begin o → (bound : ℕ) → NoRepeatBefore kept a.keepers at.part addr begin bound → comes_first kept begin bound o ≡ true → Next (begun kept o)
+      pub repeat : (o : Option ℕ) → IsNextOwn kept at.part addr begin o → (r : Place) → IsNextRepeat kept a.keepers at.part addr begin (Some r) → comes_first kept begin r.part o ≡ false → Next (Some r)
 
     -- by the begin as it was read
-    pub behind_by : (begin : ℕ) → w.span.begin ≡ begin → IsLast kept addr begin at.place → IsBehindUnit begin
-    behind_by begin is_begin = subst (λ (b : ℕ). IsLast kept addr b at.place → IsBehindUnit b) is_begin (λ last. record {
+    pub behind_by : (begin : ℕ) → w.span.begin ≡ begin → IsLast kept addr begin at.place → IsBehindPart begin
+    behind_by begin is_begin = subst (λ (b : ℕ). IsLast kept addr b at.place → IsBehindPart b) is_begin (λ last. record {
       own = own_stands last;
       own_first = own_first_stands last;
       repeat = repeat_stands last;
@@ -167,7 +167,7 @@ module _ (a : Announced) (rows : HaveKeepers a.kept.ranges a.keepers) (addr : �
 
 -- ---- looks
 
-module _ (a : Announced) (rows : HaveKeepers a.kept.ranges a.keepers) where
+module _ (a : AnnouncedParts) (rows : HaveKeepers a.kept.ranges a.keepers) where
   abbrev ranges : List (Owned Span)
   ranges = a.kept.ranges
 
@@ -175,11 +175,11 @@ module _ (a : Announced) (rows : HaveKeepers a.kept.ranges a.keepers) where
   copies_in = announced_copies a
 
   abbrev all_in : List Span
-  all_in = items_of (announced_all a).ranges
+  all_in = items_of (all_of_parts a).ranges
 
   -- where a range that is kept stands among all, as that of its keeper
   abbrev own_place : ℕ → ℕ → Place
-  own_place p keeper = record { place = p; unit = keeper }
+  own_place p keeper = record { place = p; part = keeper }
 
   stands_at : (p keeper : ℕ) (s : Span) → IsKept ranges p s keeper → IsAt ranges a.keepers copies_in rows (are_copies ranges a.keepers) 0 (own_place p keeper) s
   stands_at p keeper s is = is_at ranges a.keepers copies_in rows (are_copies ranges a.keepers) 0 (own_place p keeper) keeper s (rows.ranges p (record { item = s; owner = keeper }) is) is
@@ -188,8 +188,8 @@ module _ (a : Announced) (rows : HaveKeepers a.kept.ranges a.keepers) where
   same_place p q m n s t is_p is_q e =
       let x = (stands_at p m s is_p).copy in
       let y = (stands_at q n t is_q).copy in
-      let z = subst (λ (k : ℕ). slice_get copies_in k ≡ Some (record { unit = m; place = p; span = s })) e x in
-      let same : Some (record { unit = m; place = p; span = s }) ≡ Some (record { unit = n; place = q; span = t }) = sym z ∙ y in
+      let z = subst (λ (k : ℕ). slice_get copies_in k ≡ Some (record { part = m; place = p; span = s })) e x in
+      let same : Some (record { part = m; place = p; span = s }) ≡ Some (record { part = n; place = q; span = t }) = sym z ∙ y in
       let one = some_is same in
       ap (λ (x : Copy). x.place) one
 
@@ -210,7 +210,7 @@ module _ (a : Announced) (rows : HaveKeepers a.kept.ranges a.keepers) where
       let y = there_at ranges p (omega arith) in
       let le = rises p y.0 y.1 in
       let up = rows.sorted p (suc p) y.0 x (omega arith) y.1 is in
-      let less = stands_before ranges a.keepers copies_in rows (are_copies ranges a.keepers) 0 (full_place copies_in (own_place p y.0.owner)) (full_place copies_in (own_place (suc p) x.owner)) (record { unit = y.0.owner; place = p; span = y.0.item }) (record { unit = x.owner; place = suc p; span = x.item }) (stands_at p y.0.owner y.0.item y.1).copy (stands_at (suc p) x.owner x.item is).copy (by y.0.owner x.owner up) in
+      let less = stands_before ranges a.keepers copies_in rows (are_copies ranges a.keepers) 0 (full_place copies_in (own_place p y.0.owner)) (full_place copies_in (own_place (suc p) x.owner)) (record { part = y.0.owner; place = p; span = y.0.item }) (record { part = x.owner; place = suc p; span = x.item }) (stands_at p y.0.owner y.0.item y.1).copy (stands_at (suc p) x.owner x.item is).copy (by y.0.owner x.owner up) in
       omega arith
     where
       by : (m n : ℕ) → m ≤ n → (m < n) ⊎ ((m ≡ n) × (p < suc p))
@@ -225,12 +225,12 @@ module _ (a : Announced) (rows : HaveKeepers a.kept.ranges a.keepers) where
       omega arith
 
   -- a bound that was proved of the ranges that are kept
-  pub first_cost : (spans : List Span) (ordered : Bool) (cost : ℕ) → items_of ranges ≡ spans → (ordered ≡ true → AreApart spans → cost ≤ 4 * (2 * length spans + 1)) → ordered ≡ true → AreApart all_in → cost ≤ 4 * (2 * length (announced_all a).ranges + 1)
+  pub first_cost : (spans : List Span) (ordered : Bool) (cost : ℕ) → items_of ranges ≡ spans → (ordered ≡ true → AreApart spans → cost ≤ 4 * (2 * length spans + 1)) → ordered ≡ true → AreApart all_in → cost ≤ 4 * (2 * length (all_of_parts a).ranges + 1)
   first_cost spans ordered cost e few is apart =
       let k = few is (subst AreApart e (apart_kept apart)) in
       let l = ap length e in
       let m = length-map ranges (λ (x : Owned Span). x.item) in
       let n = fewer (length ranges) refl in
-      let o : length (told copies_in) ≡ length copies_in = length-map copies_in (λ (c : Copy). record { item = c.span; owner = c.unit }) in
-      let t : length (announced_all a).ranges ≡ length (told copies_in) = refl in
+      let o : length (told copies_in) ≡ length copies_in = length-map copies_in (λ (c : Copy). record { item = c.span; owner = c.part }) in
+      let t : length (all_of_parts a).ranges ≡ length (told copies_in) = refl in
       omega arith

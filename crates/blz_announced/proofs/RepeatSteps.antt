@@ -1,4 +1,4 @@
--- The units that are not their own keepers, asked one after the other for their first range that begins alike.
+-- The parts that are not their own keepers, asked one after the other for their first range that begins alike.
 use Rattle.std.proofs.Common.{◌≡◌, ℕ, zero, suc, ◌+◌, ◌-◌, ◌<◌, ◌≤◌, eqb, true, false, leb, List, length, Option, Some, None, refl, sym, ap, subst, ◌∙◌, arith, inl, inr}
 use Rattle.std.specs.Prelude.{◌&&◌, option_map, unwrap_or}
 use Rattle.std.specs.List.{slice_get}
@@ -69,7 +69,7 @@ module _ (kept : List (Owned Span)) (keepers ends : List ℕ) (have : HaveKeeper
         | inr more ↦ rw e.1 more
       ]
 
-  -- and no earlier unit has a range there
+  -- and no earlier part has a range there
   owner_from : (keeper q : ℕ) (x : Owned Span) → keeper < length keepers → slice_get kept q ≡ Some x → start_of ends keeper ≤ q → keeper ≤ x.owner
   owner_from zero q x lt is le = omega arith
   owner_from (suc n) q x lt is le =
@@ -112,30 +112,30 @@ module _ (kept : List (Owned Span)) (keepers ends : List ℕ) (have : HaveKeeper
         let down = owner_from keeper r (record { item = n.alike.span; owner = n.keeper }) lt n.alike.is (let b = n.behind in omega (arith, start)) in
         false≢true (sym g ∙ (same_owner r n ∙ eq-eqb n.keeper keeper (omega arith)))
 
-  -- ---- the best that is kept for a later unit or begins below
+  -- ---- the best that is kept for a later part or begins below
 
-  module _ (unit addr begin end : ℕ) (lt : unit < length keepers) (is_end : end ≡ start_of ends (suc unit)) where
-    end_is : (e : ℕ) → slice_get ends unit ≡ Some e → end ≡ e
+  module _ (part addr begin end : ℕ) (lt : part < length keepers) (is_end : end ≡ start_of ends (suc part)) where
+    end_is : (e : ℕ) → slice_get ends part ≡ Some e → end ≡ e
     end_is e is = is_end ∙ ap (λ (o : Option ℕ). unwrap_or o 0) is
 
-    end_there : (e : ℕ) × (slice_get ends unit ≡ Some e)
-    end_there = there_at ends unit (let k = are.count in omega arith)
+    end_there : (e : ℕ) × (slice_get ends part ≡ Some e)
+    end_there = there_at ends part (let k = are.count in omega arith)
 
-    later_behind : (q : ℕ) (x : Owned Span) → slice_get kept q ≡ Some x → 0 < end → IsLater unit begin x → After (end - 1) (no_longer begin) q x.item
+    later_behind : (q : ℕ) (x : Owned Span) → slice_get kept q ≡ Some x → 0 < end → IsLater part begin x → After (end - 1) (no_longer begin) q x.item
     later_behind q x is some (inl less) = inl less
     later_behind q x is some (inr h) =
         let e = end_there in
         let same = end_is e.0 e.1 in
         elim (cases_lt q e.0) [
-          | inl less ↦ absurd (let k = are.below unit e.0 q x e.1 is less in let l = h.1 in omega arith)
+          | inl less ↦ absurd (let k = are.below part e.0 q x e.1 is less in let l = h.1 in omega arith)
           | inr more ↦ inr (h.0, omega arith)
         ]
 
-    behind_later : (q : ℕ) (x : Owned Span) → slice_get kept q ≡ Some x → 0 < end → After (end - 1) (no_longer begin) q x.item → IsLater unit begin x
+    behind_later : (q : ℕ) (x : Owned Span) → slice_get kept q ≡ Some x → 0 < end → After (end - 1) (no_longer begin) q x.item → IsLater part begin x
     behind_later q x is some (inl less) = inl less
-    behind_later q x is some (inr h) = let e = end_there in let same = end_is e.0 e.1 in let l = h.1 in inr (h.0, are.above unit e.0 q x e.1 is (omega arith))
+    behind_later q x is some (inr h) = let e = end_there in let same = end_is e.0 e.1 in let l = h.1 in inr (h.0, are.above part e.0 q x e.1 is (omega arith))
 
-    pub own_is : 0 < end → (o : Option ℕ) → IsNext (items_of kept) addr (end - 1) (no_longer begin) o → IsNextOwn kept unit addr begin o
+    pub own_is : 0 < end → (o : Option ℕ) → IsNext (items_of kept) addr (end - 1) (no_longer begin) o → IsNextOwn kept part addr begin o
     own_is some None n = λ q x is reached later. n q x.item (item_at kept q is) reached (later_behind q x is some later)
     own_is some (Some r) n =
         let h = has_item kept r n.at in
@@ -147,27 +147,27 @@ module _ (kept : List (Owned Span)) (keepers ends : List ℕ) (have : HaveKeeper
           first = λ q x is reached later. n.first q x.item (item_at kept q is) reached (later_behind q x is some later);
         }
 
-    -- no unit without a range up to it is asked
-    pub own_none : end ≡ 0 → ((x : Owned Span) → slice_get kept 0 ≡ Some x → x.owner ≤ unit) → IsNextOwn kept unit addr begin None
+    -- no part without a range up to it is asked
+    pub own_none : end ≡ 0 → ((x : Owned Span) → slice_get kept 0 ≡ Some x → x.owner ≤ part) → IsNextOwn kept part addr begin None
     own_none zero_end some = λ q x is reached later.
         let e = end_there in
         let same = end_is e.0 e.1 in
         let y = there_at kept 0 (let k = slice_get_within kept q _ is in omega arith) in
-        let up = are.above unit e.0 0 y.0 e.1 y.1 (omega arith) in
+        let up = are.above part e.0 0 y.0 e.1 y.1 (omega arith) in
         let le = some y.0 y.1 in
         omega arith
 
--- ---- the next of the units that are not their own keepers
+-- ---- the next of the parts that are not their own keepers
 
--- no such unit before a place has a range that begins alike
+-- no such part before a place has a range that begins alike
 abbrev pub NoneAsked : List (Owned Span) → List ℕ → List ℕ → ℕ → ℕ → ℕ → ℕ → Type 0
-NoneAsked kept keepers repeats unit addr begin at = (i other q : ℕ) → i < at → slice_get repeats i ≡ Some other → RepeatsAt kept keepers unit addr begin other q → ⊥
+NoneAsked kept keepers repeats part addr begin at = (i other q : ℕ) → i < at → slice_get repeats i ≡ Some other → RepeatsAt kept keepers part addr begin other q → ⊥
 
-module _ (kept : List (Owned Span)) (keepers repeats : List ℕ) (are : AreRepeats keepers repeats) (unit addr begin from : ℕ) (split : IsSplitAt repeats unit from) where
-  pub none_from : NoneAsked kept keepers repeats unit addr begin from
+module _ (kept : List (Owned Span)) (keepers repeats : List ℕ) (are : AreRepeats keepers repeats) (part addr begin from : ℕ) (split : IsSplitAt repeats part from) where
+  pub none_from : NoneAsked kept keepers repeats part addr begin from
   none_from = λ i other q lt is a. let le = split.below i other lt is in let l = a.repeats.later in omega arith
 
-  pub none_more : (at r : ℕ) → NoneAsked kept keepers repeats unit addr begin at → slice_get repeats at ≡ Some r → ((keeper : ℕ) → slice_get keepers r ≡ Some keeper → IsFirstAlike kept keeper addr begin None) → NoneAsked kept keepers repeats unit addr begin (at + 1)
+  pub none_more : (at r : ℕ) → NoneAsked kept keepers repeats part addr begin at → slice_get repeats at ≡ Some r → ((keeper : ℕ) → slice_get keepers r ≡ Some keeper → IsFirstAlike kept keeper addr begin None) → NoneAsked kept keepers repeats part addr begin (at + 1)
   none_more at r none is first = λ i other q lt at_i a. elim (cases_lt i at) [
     | inl before ↦ none i other q before at_i a
     | inr here ↦
@@ -176,10 +176,10 @@ module _ (kept : List (Owned Span)) (keepers repeats : List ℕ) (are : AreRepea
         first a.keeper (subst (λ (n : ℕ). slice_get keepers n ≡ Some a.keeper) same a.repeats.row) q a.alike
   ]
 
-  pub none_left : (at : ℕ) → length repeats ≤ at → NoneAsked kept keepers repeats unit addr begin at → IsNextRepeat kept keepers unit addr begin None
+  pub none_left : (at : ℕ) → length repeats ≤ at → NoneAsked kept keepers repeats part addr begin at → IsNextRepeat kept keepers part addr begin None
   none_left at over none = λ other q all a. let e = are.all other a.keeper a.repeats.row a.repeats.differs in none e.0 other q (let l = slice_get_within repeats e.0 _ e.1 in omega arith) e.1 a
 
-  pub none_before : (at r : ℕ) → NoneAsked kept keepers repeats unit addr begin at → slice_get repeats at ≡ Some r → NoRepeatBefore kept keepers unit addr begin r
+  pub none_before : (at r : ℕ) → NoneAsked kept keepers repeats part addr begin at → slice_get repeats at ≡ Some r → NoRepeatBefore kept keepers part addr begin r
   none_before at r none is = λ other q a.
       let e = are.all other a.keeper a.repeats.row a.repeats.differs in
       elim (cases_lt e.0 at) [
@@ -191,9 +191,9 @@ module _ (kept : List (Owned Span)) (keepers repeats : List ℕ) (are : AreRepea
             omega arith
       ]
 
-  pub repeat_found : (at r place : ℕ) → from ≤ at → NoneAsked kept keepers repeats unit addr begin at → slice_get repeats at ≡ Some r → ((keeper : ℕ) → slice_get keepers r ≡ Some keeper → IsFirstAlike kept keeper addr begin (Some place)) → IsNextRepeat kept keepers unit addr begin (Some (record { place = place; unit = r }))
+  pub repeat_found : (at r place : ℕ) → from ≤ at → NoneAsked kept keepers repeats part addr begin at → slice_get repeats at ≡ Some r → ((keeper : ℕ) → slice_get keepers r ≡ Some keeper → IsFirstAlike kept keeper addr begin (Some place)) → IsNextRepeat kept keepers part addr begin (Some (record { place = place; part = r }))
   repeat_found at r place le none is first =
-      let there = there_at keepers r (are.units at r is) in
+      let there = there_at keepers r (are.parts at r is) in
       record {
         keeper = there.0;
         repeats = record { later = split.above at r le is; row = there.1; differs = are.differ at r there.0 is there.1 };

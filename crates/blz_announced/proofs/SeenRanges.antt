@@ -12,8 +12,8 @@ use Rattle.blz_ranges.proofs.BestOf.{best_is, best_is_best}
 use Rattle.blz_announced.specs.Copies.{begins_in, begun, comes_first, kept_at, same_number, up_to, where_begins, AreEnds, HaveKeepers, IsKept, IsNextOwn, IsPlaced}
 use Rattle.blz_announced.specs.Repeats.{IsAlike, IsFirstAlike, IsLast}
 use Rattle.blz_announced.specs.Seen.{by_owner, hidden, is_seen, seen, seen_from}
-use Rattle.blz_announced.specs.declared.announced.Asked.{Asked}
-use Rattle.blz_announced.specs.declared.announced.Place.{Place}
+use Rattle.blz_announced.specs.declared.announced_parts.Asked.{Asked}
+use Rattle.blz_announced.specs.declared.announced_parts.Place.{Place}
 use Rattle.blz_announced.proofs.NextCopies.{begins_is, comes_at, has_item, item_at, some_is, After, IsNext}
 use Rattle.blz_announced.proofs.SeenSteps.{both_first, AreAmong, FirstFrom, IsFrom}
 
@@ -151,7 +151,7 @@ unfolding seen_from
 length_seen asked kept at [] = refl
 length_seen asked kept at (x ∷ list) = ap suc (length_seen asked kept (suc at) list)
 
--- where each unit is told as often as it stands there
+-- where each part is told as often as it stands there
 all_seen_from : (asked : Asked) (kept : List (Owned Span)) → asked.once ≡ false → (at : ℕ) (list : List (Owned Span)) → seen_from asked kept at list ≡ list
 unfolding seen_from
 all_seen_from asked kept f at [] = refl
@@ -179,12 +179,12 @@ seen_keepers asked kept keepers have = record {
 pub seen_ends : (asked : Asked) (kept : List (Owned Span)) (keepers ends : List ℕ) → AreEnds kept keepers ends → AreEnds (seen asked kept) keepers ends
 seen_ends asked kept keepers ends are = record {
   count = are.count;
-  within = λ unit end is. let k = are.within unit end is in let l = length_seen asked kept 0 kept in omega arith;
-  below = λ unit end p x is is_x lt. let h = seen_is asked kept p x is_x in let k = are.below unit end p h.item is h.is lt in let e = h.owner in omega arith;
-  above = λ unit end p x is is_x le. let h = seen_is asked kept p x is_x in let k = are.above unit end p h.item is h.is le in let e = h.owner in omega arith;
+  within = λ part end is. let k = are.within part end is in let l = length_seen asked kept 0 kept in omega arith;
+  below = λ part end p x is is_x lt. let h = seen_is asked kept p x is_x in let k = are.below part end p h.item is h.is lt in let e = h.owner in omega arith;
+  above = λ part end p x is is_x le. let h = seen_is asked kept p x is_x in let k = are.above part end p h.item is h.is le in let e = h.owner in omega arith;
 }
 
--- ---- where units are told once, of each keeper its best range is seen alone
+-- ---- where parts are told once, of each keeper its best range is seen alone
 
 same_some : (o : Option ℕ) (q : ℕ) → same_number o (Some q) ≡ true → o ≡ Some q
 same_some None q t = absurd (false≢true t)
@@ -277,11 +277,11 @@ pub begun_seen : (asked : Asked) (kept : List (Owned Span)) (o : Option ℕ) →
 begun_seen asked kept None = refl
 begun_seen asked kept (Some p) = ap (λ (k : Option ℕ). kept_at k p) (owner_seen asked kept p)
 
-pub comes_seen : (asked : Asked) (kept : List (Owned Span)) (from begin unit : ℕ) (o : Option ℕ) → IsNextOwn (seen asked kept) from asked.addr begin o → comes_first (seen asked kept) begin unit o ≡ comes_first kept begin unit o
-comes_seen asked kept from begin unit None own = refl
-comes_seen asked kept from begin unit (Some p) own =
+pub comes_seen : (asked : Asked) (kept : List (Owned Span)) (from begin part : ℕ) (o : Option ℕ) → IsNextOwn (seen asked kept) from asked.addr begin o → comes_first (seen asked kept) begin part o ≡ comes_first kept begin part o
+comes_seen asked kept from begin part None own = refl
+comes_seen asked kept from begin part (Some p) own =
     let h = seen_there asked kept asked.addr p own.is own.reached in
-    comes_at (seen asked kept) begin unit p own.is ∙ sym (comes_at kept begin unit p h.is)
+    comes_at (seen asked kept) begin part p own.is ∙ sym (comes_at kept begin part p h.is)
 
 -- a place that is seen has its range among all that are kept
 pub placed_kept : (asked : Asked) (kept : List (Owned Span)) (keepers : List ℕ) (at : Place) (w : IsPlaced (seen asked kept) keepers asked.addr at) → IsKept kept at.place w.span w.keeper
@@ -298,7 +298,7 @@ is_hidden asked kept p f t is reached =
     let k = seen_there asked kept asked.addr p h.is reached in
     false≢true (sym f ∙ k.seen)
 
--- the last that begins alike, where units are told once
+-- the last that begins alike, where parts are told once
 pub last_once : (asked : Asked) (kept : List (Owned Span)) (keepers : List ℕ) (at : Place) → asked.once ≡ true → (w : IsPlaced (seen asked kept) keepers asked.addr at) (begin : ℕ) → IsLast (seen asked kept) asked.addr begin at.place
 last_once asked kept keepers at once w begin = λ keeper q own a lt.
     let k : w.keeper ≡ keeper = some_is (sym (ap (option_map (λ (x : Owned Span). x.owner)) w.is) ∙ own) in
@@ -306,15 +306,15 @@ last_once asked kept keepers at once w begin = λ keeper q own a lt.
     let e = one_alone asked kept once at.place q keeper w.span a.span here w.reached a.is a.reached in
     omega arith
 
--- ---- up to a unit
+-- ---- up to a part
 
 pub up_to_nothing : (kept : List (Owned Span)) (begin : ℕ) (before : Option ℕ) → up_to kept begin before None ≡ None
 up_to_nothing kept begin None = refl
-up_to_nothing kept begin (Some unit) = refl
+up_to_nothing kept begin (Some part) = refl
 
 pub up_to_some : (kept : List (Owned Span)) (begin p : ℕ) (before o : Option ℕ) → up_to kept begin before o ≡ Some p → o ≡ Some p
 up_to_some kept begin p None o e = e
-up_to_some kept begin p (Some unit) o e = elim (cases_Bool (comes_first kept begin unit o)) [ inl t ↦ rw t at e | inr f ↦ absurd (let k = rw f at e in cc) ]
+up_to_some kept begin p (Some part) o e = elim (cases_Bool (comes_first kept begin part o)) [ inl t ↦ rw t at e | inr f ↦ absurd (let k = rw f at e in cc) ]
 
 -- a range that is not over
 pub on_up_to : {ys : List Span} {addr : ℕ} {target : Option ℕ} (kept : List (Owned Span)) (begin p : ℕ) (before o : Option ℕ) → up_to kept begin before o ≡ Some p → FirstFrom (items_of kept) ys addr o target → IsFrom (items_of kept) ys addr p target
@@ -335,27 +335,27 @@ low_next kept addr p s begin le (Some r) n = λ t is. let e : n.span ≡ t = som
 
 module _ (asked : Asked) (kept : List (Owned Span)) (keepers : List ℕ) (have : HaveKeepers kept keepers) where
   -- what comes later is no sooner over than what comes before it
-  not_first : (begin unit p : ℕ) (target : Option ℕ) (h : IsFrom (items_of kept) (items_of (seen asked kept)) asked.addr p target) → h.span.begin ≤ begin → comes_first kept begin unit (Some p) ≡ false → comes_first kept begin unit target ≡ false
-  not_first begin unit p None h low f = refl
-  not_first begin unit p (Some q) h low f = elim (cases_Bool (comes_first kept begin unit (Some q))) [
+  not_first : (begin part p : ℕ) (target : Option ℕ) (h : IsFrom (items_of kept) (items_of (seen asked kept)) asked.addr p target) → h.span.begin ≤ begin → comes_first kept begin part (Some p) ≡ false → comes_first kept begin part target ≡ false
+  not_first begin part p None h low f = refl
+  not_first begin part p (Some q) h low f = elim (cases_Bool (comes_first kept begin part (Some q))) [
     | inl t ↦
         let x = has_item kept p h.at in
         let y = has_item kept q (among_kept asked kept q h.first.span h.first.at h.first.reached) in
-        let both = and_parts _ _ (sym (comes_at kept begin unit q y.is) ∙ t) in
-        let lt = ltb-true y.keeper unit both.0 in
+        let both = and_parts _ _ (sym (comes_at kept begin part q y.is) ∙ t) in
+        let lt = ltb-true y.keeper part both.0 in
         let begins = eqb-true h.first.span.begin begin both.1 in
         let below = h.first.behind.below in
         let same : h.first.span.begin ≡ h.span.begin = omega arith in
         let le = h.first.behind.tie same in
         let up = have.sorted p q (record { item = h.span; owner = x.keeper }) (record { item = h.first.span; owner = y.keeper }) le x.is y.is in
-        absurd (false≢true (sym f ∙ (comes_at kept begin unit p x.is ∙ and_from _ _ (lt-ltb x.keeper unit (omega arith)) (eq-eqb h.span.begin begin (omega arith)))))
+        absurd (false≢true (sym f ∙ (comes_at kept begin part p x.is ∙ and_from _ _ (lt-ltb x.keeper part (omega arith)) (eq-eqb h.span.begin begin (omega arith)))))
     | inr g ↦ g
   ]
 
   pub over_up_to : (begin : ℕ) (before next target : Option ℕ) → FirstFrom (items_of kept) (items_of (seen asked kept)) asked.addr next target → IsLow kept begin next → up_to kept begin before next ≡ None → up_to kept begin before target ≡ None
   over_up_to begin before None target f low e = ap (up_to kept begin before) f ∙ up_to_nothing kept begin before
   over_up_to begin None (Some p) target f low e = absurd cc
-  over_up_to begin (Some unit) (Some p) target f low e = elim (cases_Bool (comes_first kept begin unit (Some p))) [
+  over_up_to begin (Some part) (Some p) target f low e = elim (cases_Bool (comes_first kept begin part (Some p))) [
     | inl t ↦ absurd (let k = rw t at e in cc)
-    | inr g ↦ rw (not_first begin unit p target f (low f.span f.at) g) refl
+    | inr g ↦ rw (not_first begin part p target f (low f.span f.at) g) refl
   ]

@@ -4,12 +4,13 @@ use Rattle.std.specs.Prelude.{option_map, IfSome}
 use Rattle.std.specs.List.{slice_get}
 use Rattle.std.proofs.lemmas.Bool.{eq-eqb, ne_eqb}
 use Rattle.blz_ranges.specs.declared.span.Span.{Span}
-use Rattle.blz_announced.specs.declared.announced.Place.{Place}
-use Rattle.blz_announced.specs.declared.units_at.Turn.{Turn}
-use Rattle.blz_announced.specs.Copies.{Announced, announced_all, announced_copies, full_place, IsPlaced, StandsFor}
+use Rattle.blz_announced.specs.declared.announced_parts.Place.{Place}
+use Rattle.blz_announced.specs.declared.parts_at.Turn.{Turn}
+use Rattle.blz_announced.specs.Copies.{AnnouncedParts, all_of_parts, announced_copies, full_place, IsPlaced, StandsFor}
 use Rattle.blz_announced.proofs.NextCopies.{owner_told}
 use Rattle.blz_announced.proofs.Copies.{are_copies, copy_place}
-use Rattle.blz_announced.specs.Announced.{Announcing, Left, All, Behind, Nothing, behind, left_behind, is_first, left_at, places_left, turn_behind, turn_place, unit_at, units_left, IsCovering, IsLeft, IsPlacedTurn, IsTurn}
+use Rattle.blz_announced.specs.Announced.{Announcing}
+use Rattle.blz_announced.specs.Turns.{Left, All, Behind, Nothing, behind, left_behind, is_first, left_at, places_left, turn_behind, turn_place, part_at, parts_left, IsCovering, IsLeft, IsPlacedTurn, IsTurn}
 use Rattle.blz_ranges.specs.Best.{best, next}
 use Rattle.blz_ranges.specs.Owned.{Owned, items_of, owner_at}
 use Rattle.blz_ranges.specs.Ranges.{OwnedRanges, owner_of}
@@ -92,7 +93,7 @@ places_behind ranges a left t (Some p) e =
     behind_is (covering (items_of ranges) a) (at_turn ranges a left t) p (once (items_of ranges) a) (stands ranges a left t p (sym e))
     ∙ drop_one (covering (items_of ranges) a) (at_turn ranges a left t) ∙ ap (λ (l : List ℕ). drop 1 l) (sym (left_is ranges a left t))
 
--- ---- the units of the places
+-- ---- the parts of the places
 
 owner_there : (ranges : List (Owned Span)) (p : ℕ) → p < length ranges → owner_at ranges p ≡ None → ⊥
 owner_there [] p lt e = omega arith
@@ -100,25 +101,25 @@ owner_there (x ∷ ranges) zero lt e = cc
 owner_there (x ∷ ranges) (suc p) lt e = owner_there ranges p (omega arith) e
 
 record IsTaken (ranges : List (Owned Span)) (places : List ℕ) (place : Option ℕ) : Type 0 where
-  pub unit : owner_of ranges place ≡ slice_get (owners_of ranges places) 0
+  pub part : owner_of ranges place ≡ slice_get (owners_of ranges places) 0
   pub left : owners_of ranges (drop 1 places) ≡ drop 1 (owners_of ranges places)
 
 owned_front : (ranges : List (Owned Span)) (p : ℕ) (rest : List ℕ) (o : Option ℕ) → owner_at ranges p ≡ o → (o ≡ None → ⊥) → IsTaken ranges (p ∷ rest) (Some p)
 owned_front ranges p rest None e some = absurd (some refl)
-owned_front ranges p rest (Some n) e some = record { unit = rw e refl; left = rw e refl }
+owned_front ranges p rest (Some n) e some = record { part = rw e refl; left = rw e refl }
 
 taken : (ranges : List (Owned Span)) (places : List ℕ) → ((p : ℕ) → slice_get places 0 ≡ Some p → p < length ranges) → IsTaken ranges places (slice_get places 0)
-taken ranges [] within = record { unit = refl; left = refl }
+taken ranges [] within = record { part = refl; left = refl }
 taken ranges (p ∷ rest) within = owned_front ranges p rest (owner_at ranges p) refl (owner_there ranges p (within p refl))
 
 turn_taken : (ranges : List (Owned Span)) (a : ℕ) (left : Left) (t : IsLeft ranges a left) → IsTaken ranges (places_left ranges a left) (slice_get (places_left ranges a left) 0)
 turn_taken ranges a left t = taken ranges (places_left ranges a left) (λ p e. let c = covering_at ranges a (at_turn ranges a left t) p (stands ranges a left t p e) in c.within)
 
-pub unit_next : (ranges : List (Owned Span)) (a : ℕ) (left : Left) (t : IsLeft ranges a left) (place : Option ℕ) → place ≡ slice_get (places_left ranges a left) 0 → owner_of ranges place ≡ slice_get (owners_of ranges (places_left ranges a left)) 0
-unit_next ranges a left t place e = ap (λ o. owner_of ranges o) e ∙ (turn_taken ranges a left t).unit
+pub part_next : (ranges : List (Owned Span)) (a : ℕ) (left : Left) (t : IsLeft ranges a left) (place : Option ℕ) → place ≡ slice_get (places_left ranges a left) 0 → owner_of ranges place ≡ slice_get (owners_of ranges (places_left ranges a left)) 0
+part_next ranges a left t place e = ap (λ o. owner_of ranges o) e ∙ (turn_taken ranges a left t).part
 
-units_behind : (ranges : List (Owned Span)) (a : ℕ) (left : Left) (t : IsLeft ranges a left) (place : Option ℕ) → place ≡ slice_get (places_left ranges a left) 0 → owners_of ranges (places_left ranges a (left_behind place)) ≡ drop 1 (owners_of ranges (places_left ranges a left))
-units_behind ranges a left t place e = ap (λ (l : List ℕ). owners_of ranges l) (places_behind ranges a left t place e) ∙ (turn_taken ranges a left t).left
+parts_behind : (ranges : List (Owned Span)) (a : ℕ) (left : Left) (t : IsLeft ranges a left) (place : Option ℕ) → place ≡ slice_get (places_left ranges a left) 0 → owners_of ranges (places_left ranges a (left_behind place)) ≡ drop 1 (owners_of ranges (places_left ranges a left))
+parts_behind ranges a left t place e = ap (λ (l : List ℕ). owners_of ranges l) (places_behind ranges a left t place e) ∙ (turn_taken ranges a left t).left
 
 -- ---- what a call leaves
 
@@ -131,39 +132,39 @@ seen ranges a left fresh = record { announced = ranges; address = a; left = left
 
 -- ---- by what is kept
 
-left_after : (a : Announced) (at : Option Place) (o : Option ℕ) → option_map (full_place (announced_copies a)) at ≡ o → left_at a (turn_behind at) ≡ left_behind o
+left_after : (a : AnnouncedParts) (at : Option Place) (o : Option ℕ) → option_map (full_place (announced_copies a)) at ≡ o → left_at a (turn_behind at) ≡ left_behind o
 left_after a None o e = ap left_behind e
 left_after a (Some at) o e = ap left_behind e
 
-placed_unit : (a : Announced) (addr : ℕ) (at : Place) → IsPlaced a.kept.ranges a.keepers addr at → owner_at (announced_all a).ranges (full_place (announced_copies a) at) ≡ Some at.unit
-placed_unit a addr at w =
+placed_part : (a : AnnouncedParts) (addr : ℕ) (at : Place) → IsPlaced a.kept.ranges a.keepers addr at → owner_at (all_of_parts a).ranges (full_place (announced_copies a) at) ≡ Some at.part
+placed_part a addr at w =
     let are = are_copies a.kept.ranges a.keepers in
-    let there = are.there at.unit w.keeper at.place w.span w.row w.is in
-    let place = copy_place a.kept.ranges a.keepers (announced_copies a) there.at (record { unit = at.unit; place = at.place; span = w.span }) are there.is in
-    owner_told (announced_copies a) (full_place (announced_copies a) at) (subst (λ (n : ℕ). slice_get (announced_copies a) n ≡ Some (record { unit = at.unit; place = at.place; span = w.span })) (sym place) there.is)
+    let there = are.there at.part w.keeper at.place w.span w.row w.is in
+    let place = copy_place a.kept.ranges a.keepers (announced_copies a) there.at (record { part = at.part; place = at.place; span = w.span }) are there.is in
+    owner_told (announced_copies a) (full_place (announced_copies a) at) (subst (λ (n : ℕ). slice_get (announced_copies a) n ≡ Some (record { part = at.part; place = at.place; span = w.span })) (sym place) there.is)
 
-unit_by : (a : Announced) (addr : ℕ) (at : Option Place) (o : Option ℕ) → StandsFor a addr at o → unit_at at ≡ owner_of (announced_all a).ranges o
-unit_by a addr None o s = ap (owner_of (announced_all a).ranges) s.is
-unit_by a addr (Some at) o s = sym (placed_unit a addr at s.placed) ∙ ap (owner_of (announced_all a).ranges) s.is
+part_by : (a : AnnouncedParts) (addr : ℕ) (at : Option Place) (o : Option ℕ) → StandsFor a addr at o → part_at at ≡ owner_of (all_of_parts a).ranges o
+part_by a addr None o s = ap (owner_of (all_of_parts a).ranges) s.is
+part_by a addr (Some at) o s = sym (placed_part a addr at s.placed) ∙ ap (owner_of (all_of_parts a).ranges) s.is
 
-placed_turn : (a : Announced) (addr : ℕ) (at : Option Place) → IfSome at (IsPlaced a.kept.ranges a.keepers addr) → IsPlacedTurn a addr (turn_behind at)
+placed_turn : (a : AnnouncedParts) (addr : ℕ) (at : Option Place) → IfSome at (IsPlaced a.kept.ranges a.keepers addr) → IsPlacedTurn a addr (turn_behind at)
 placed_turn a addr None p = tt
 placed_turn a addr (Some at) p = p
 
-module _ (a : Announced) (addr : ℕ) (turn : Turn) (t : IsTurn a addr turn) (at : Option Place) where
+module _ (a : AnnouncedParts) (addr : ℕ) (turn : Turn) (t : IsTurn a addr turn) (at : Option Place) where
   abbrev next_left : Option ℕ
   next_left = turn_place a addr turn
 
   pub turn_at_kept : StandsFor a addr at next_left → IsTurn a addr (turn_behind at)
   turn_at_kept s = record {
-    left = subst (IsLeft (announced_all a).ranges addr) (sym (left_after a at next_left s.is)) (turn_kept (announced_all a).ranges addr (left_at a turn) t.left next_left refl);
+    left = subst (IsLeft (all_of_parts a).ranges addr) (sym (left_after a at next_left s.is)) (turn_kept (all_of_parts a).ranges addr (left_at a turn) t.left next_left refl);
     placed = placed_turn a addr at s.placed;
   }
 
-  pub unit_is : StandsFor a addr at next_left → unit_at at ≡ slice_get (owners_of (announced_all a).ranges (places_left (announced_all a).ranges addr (left_at a turn))) 0
-  unit_is s = unit_by a addr at next_left s ∙ unit_next (announced_all a).ranges addr (left_at a turn) t.left next_left refl
+  pub part_is : StandsFor a addr at next_left → part_at at ≡ slice_get (owners_of (all_of_parts a).ranges (places_left (all_of_parts a).ranges addr (left_at a turn))) 0
+  part_is s = part_by a addr at next_left s ∙ part_next (all_of_parts a).ranges addr (left_at a turn) t.left next_left refl
 
-  pub turn_seen : (r : OwnedRanges) → StandsFor a addr at next_left → seen r addr (units_left a addr (turn_behind at)) (is_first (turn_behind at)) ≡ seen r addr (drop 1 (units_left a addr turn)) false
+  pub turn_seen : (r : OwnedRanges) → StandsFor a addr at next_left → seen r addr (parts_left a addr (turn_behind at)) (is_first (turn_behind at)) ≡ seen r addr (drop 1 (parts_left a addr turn)) false
   turn_seen r s =
-      let units = ap (λ (l : Left). owners_of (announced_all a).ranges (places_left (announced_all a).ranges addr l)) (left_after a at next_left s.is) ∙ units_behind (announced_all a).ranges addr (left_at a turn) t.left next_left refl in
-      ap (λ (l : List ℕ). seen r addr l (is_first (turn_behind at))) units ∙ ap (λ (b : Bool). seen r addr (drop 1 (units_left a addr turn)) b) (not_first at)
+      let parts = ap (λ (l : Left). owners_of (all_of_parts a).ranges (places_left (all_of_parts a).ranges addr l)) (left_after a at next_left s.is) ∙ parts_behind (all_of_parts a).ranges addr (left_at a turn) t.left next_left refl in
+      ap (λ (l : List ℕ). seen r addr l (is_first (turn_behind at))) parts ∙ ap (λ (b : Bool). seen r addr (drop 1 (parts_left a addr turn)) b) (not_first at)

@@ -1,4 +1,4 @@
--- What units announce, kept once for those that announce one list, and all that it stands for. The first of such units is
+-- What parts announce, kept once for those that announce one list, and all that it stands for. The first of such parts is
 -- the keeper of each of them, and what is kept belongs to keepers.
 use Rattle.std.specs.Prelude.{◌≡◌, ℕ, zero, suc, ◌+◌, ◌<◌, ◌≤◌, Bool, true, false, List, [], ◌∷◌, ◌++◌, length, drop, map, Option, Some, None, IfSome, ◌⊎◌, ◌&&◌, ◌==◌, nat_lt, if◌then◌else◌, option_map, unwrap_or}
 use Rattle.std.specs.List.{slice_get}
@@ -9,12 +9,12 @@ use Rattle.blz_bytes.specs.declared.orders.Key.{Key}
 use Rattle.blz_ranges.specs.Keyed.{begin_key, IsAccepted}
 use Rattle.blz_ranges.specs.Owned.{Owned, items_of, own_all, owned, owner_at}
 use Rattle.blz_ranges.specs.Ranges.{OwnedRanges}
-use Rattle.blz_announced.specs.declared.announced.Place.{Place}
+use Rattle.blz_announced.specs.declared.announced_parts.Place.{Place}
 use Rattle.blz_announced.specs.declared.keepers.Keepers.{Keepers}
 
--- a range of a unit, and its place among the ranges that are kept
+-- a range of a part, and its place among the ranges that are kept
 pub record Copy : Type 0 where
-  pub unit : ℕ
+  pub part : ℕ
   pub place : ℕ
   pub span : Span
 
@@ -22,22 +22,22 @@ pub record Copy : Type 0 where
 abbrev pub IsKept : List (Owned Span) → ℕ → Span → ℕ → Type 0
 IsKept kept place s keeper = slice_get kept place ≡ Some (record { item = s; owner = keeper })
 
--- what a keeper announces, as the ranges of one of its units; at is the place of the first range
+-- what a keeper announces, as the ranges of one of its parts; at is the place of the first range
 unfoldable pub copies_of : ℕ → ℕ → ℕ → List (Owned Span) → List Copy
-copies_of unit keeper at [] = []
-copies_of unit keeper at (x ∷ kept) = if x.owner == keeper
-    then record { unit = unit; place = at; span = x.item } ∷ copies_of unit keeper (suc at) kept
-    else copies_of unit keeper (suc at) kept
+copies_of part keeper at [] = []
+copies_of part keeper at (x ∷ kept) = if x.owner == keeper
+    then record { part = part; place = at; span = x.item } ∷ copies_of part keeper (suc at) kept
+    else copies_of part keeper (suc at) kept
 
--- the ranges of the units from a number on, by their keepers
+-- the ranges of the parts from a number on, by their keepers
 unfoldable pub copies : List (Owned Span) → ℕ → List ℕ → List Copy
-copies kept unit [] = []
-copies kept unit (keeper ∷ keepers) = copies_of unit keeper 0 kept ++ copies kept (suc unit) keepers
+copies kept part [] = []
+copies kept part (keeper ∷ keepers) = copies_of part keeper 0 kept ++ copies kept (suc part) keepers
 
 abbrev pub told : List Copy → List (Owned Span)
-told list = map (λ (c : Copy). record { item = c.span; owner = c.unit }) list
+told list = map (λ (c : Copy). record { item = c.span; owner = c.part }) list
 
--- all ranges of all units
+-- all ranges of all parts
 abbrev pub all_ranges : List (Owned Span) → List ℕ → List (Owned Span)
 all_ranges kept keepers = told (copies kept 0 keepers)
 
@@ -45,36 +45,36 @@ all_ranges kept keepers = told (copies kept 0 keepers)
 abbrev pub list_of : List (Owned Span) → ℕ → List Span
 list_of kept keeper = map (λ (c : Copy). c.span) (copies_of keeper keeper 0 kept)
 
--- Keepers are their own, and stand at or before their units; ranges stand in the order of their keepers.
+-- Keepers are their own, and stand at or before their parts; ranges stand in the order of their keepers.
 pub record HaveKeepers (kept : List (Owned Span)) (keepers : List ℕ) : Type 0 where
-  pub before : (unit keeper : ℕ) → slice_get keepers unit ≡ Some keeper → keeper ≤ unit
-  pub own : (unit keeper : ℕ) → slice_get keepers unit ≡ Some keeper → slice_get keepers keeper ≡ Some keeper
+  pub before : (part keeper : ℕ) → slice_get keepers part ≡ Some keeper → keeper ≤ part
+  pub own : (part keeper : ℕ) → slice_get keepers part ≡ Some keeper → slice_get keepers keeper ≡ Some keeper
   pub ranges : (place : ℕ) (x : Owned Span) → slice_get kept place ≡ Some x → slice_get keepers x.owner ≡ Some x.owner
   pub sorted : (place other : ℕ) (x y : Owned Span) → place ≤ other
       → slice_get kept place ≡ Some x → slice_get kept other ≡ Some y → x.owner ≤ y.owner
 
--- For each unit where the ranges of the units up to it end.
+-- For each part where the ranges of the parts up to it end.
 pub record AreEnds (kept : List (Owned Span)) (keepers ends : List ℕ) : Type 0 where
   pub count : length ends ≡ length keepers
-  pub within : (unit end : ℕ) → slice_get ends unit ≡ Some end → end ≤ length kept
-  pub below : (unit end place : ℕ) (x : Owned Span) → slice_get ends unit ≡ Some end
-      → slice_get kept place ≡ Some x → place < end → x.owner ≤ unit
-  pub above : (unit end place : ℕ) (x : Owned Span) → slice_get ends unit ≡ Some end
-      → slice_get kept place ≡ Some x → end ≤ place → unit < x.owner
+  pub within : (part end : ℕ) → slice_get ends part ≡ Some end → end ≤ length kept
+  pub below : (part end place : ℕ) (x : Owned Span) → slice_get ends part ≡ Some end
+      → slice_get kept place ≡ Some x → place < end → x.owner ≤ part
+  pub above : (part end place : ℕ) (x : Owned Span) → slice_get ends part ≡ Some end
+      → slice_get kept place ≡ Some x → end ≤ place → part < x.owner
 
--- where the ranges of a unit begin
+-- where the ranges of a part begin
 abbrev pub start_of : List ℕ → ℕ → ℕ
 start_of ends zero = 0
-start_of ends (suc unit) = unwrap_or (slice_get ends unit) 0
+start_of ends (suc part) = unwrap_or (slice_get ends part) 0
 
--- All units that are not their own keepers, in their order.
+-- All parts that are not their own keepers, in their order.
 pub record AreRepeats (keepers repeats : List ℕ) : Type 0 where
   pub rising : IsNonDecreasingBy (λ (n : ℕ). n) repeats
-  pub units : (at unit : ℕ) → slice_get repeats at ≡ Some unit → unit < length keepers
-  pub differ : (at unit keeper : ℕ) → slice_get repeats at ≡ Some unit
-      → slice_get keepers unit ≡ Some keeper → keeper < unit
-  pub all : (unit keeper : ℕ) → slice_get keepers unit ≡ Some keeper → keeper < unit
-      → (at : ℕ) × (slice_get repeats at ≡ Some unit)
+  pub parts : (at part : ℕ) → slice_get repeats at ≡ Some part → part < length keepers
+  pub differ : (at part keeper : ℕ) → slice_get repeats at ≡ Some part
+      → slice_get keepers part ≡ Some keeper → keeper < part
+  pub all : (part keeper : ℕ) → slice_get keepers part ≡ Some keeper → keeper < part
+      → (at : ℕ) × (slice_get repeats at ≡ Some part)
 
 -- Up to a place no number of a list is above one, and from there on each is.
 pub record IsSplitAt (list : List ℕ) (n at : ℕ) : Type 0 where
@@ -82,100 +82,100 @@ pub record IsSplitAt (list : List ℕ) (n at : ℕ) : Type 0 where
   pub above : (i x : ℕ) → at ≤ i → slice_get list i ≡ Some x → n < x
   pub below : (i x : ℕ) → i < at → slice_get list i ≡ Some x → x ≤ n
 
--- The keepers of units, with what is found by them.
+-- The keepers of parts, with what is found by them.
 pub record AreKeepers (kept : List (Owned Span)) (k : Keepers) : Type 0 where
-  pub have : HaveKeepers kept k.of_units.items
-  pub ends : AreEnds kept k.of_units.items k.ends.items
-  pub repeats : AreRepeats k.of_units.items k.repeats.items
+  pub have : HaveKeepers kept k.of_parts.items
+  pub ends : AreEnds kept k.of_parts.items k.ends.items
+  pub repeats : AreRepeats k.of_parts.items k.repeats.items
 
 -- ---- what is kept, as it is seen
 
-pub record Announced : Type 0 where
+pub record AnnouncedParts : Type 0 where
   pub kept : OwnedRanges
   pub keepers : List ℕ
 
--- the same by its parts
-abbrev pub announced_of : List Span → List ℕ → Bool → List ℕ → Announced
+-- the same by what it is made of
+abbrev pub announced_of : List Span → List ℕ → Bool → List ℕ → AnnouncedParts
 announced_of spans owners ordered keepers = record {
   kept = record { ranges = owned spans owners; ordered = ordered };
   keepers = keepers;
 }
 
 -- whether the order of the ranges was accepted
-abbrev pub IsOrderedBy : Option (List Key → List ℕ) → Announced → Type 0
-IsOrderedBy told a = IsAccepted told (map begin_key (items_of a.kept.ranges)) a.kept.ordered
+abbrev pub ArePartsOrderedBy : Option (List Key → List ℕ) → AnnouncedParts → Type 0
+ArePartsOrderedBy told a = IsAccepted told (map begin_key (items_of a.kept.ranges)) a.kept.ordered
 
-abbrev pub announced_copies : Announced → List Copy
+abbrev pub announced_copies : AnnouncedParts → List Copy
 announced_copies a = copies a.kept.ranges 0 a.keepers
 
 -- what it stands for
-abbrev pub announced_all : Announced → OwnedRanges
-announced_all a = record { ranges = all_ranges a.kept.ranges a.keepers; ordered = a.kept.ordered }
+abbrev pub all_of_parts : AnnouncedParts → OwnedRanges
+all_of_parts a = record { ranges = all_ranges a.kept.ranges a.keepers; ordered = a.kept.ordered }
 
--- ---- while units are read
+-- ---- while parts are read
 
-pub record KeptRanges : Type 0 where
+pub record KeptParts : Type 0 where
   pub ranges : List (Owned Span)
   pub keepers : List ℕ
 
--- the same by its parts
-abbrev pub kept_of : List Span → List ℕ → List ℕ → KeptRanges
+-- the same by what it is made of
+abbrev pub kept_of : List Span → List ℕ → List ℕ → KeptParts
 kept_of spans owners keepers = record { ranges = owned spans owners; keepers = keepers }
 
-abbrev pub all_kept : KeptRanges → List (Owned Span)
-all_kept k = all_ranges k.ranges k.keepers
+abbrev pub all_kept_parts : KeptParts → List (Owned Span)
+all_kept_parts k = all_ranges k.ranges k.keepers
 
--- What is kept while units are read: the ranges from a place on are those of one keeper.
+-- What is kept while parts are read: the ranges from a place on are those of one keeper.
 pub record AreKeptOnce (spans : List Span) (owners : List ℕ) (k : Keepers) (keeper from : ℕ) : Type 0 where
   pub same : length spans ≡ length owners
   pub are : AreKeepers (owned spans owners) k
   pub within : from ≤ length spans
-  pub own : 0 < length k.of_units.items → slice_get k.of_units.items keeper ≡ Some keeper
+  pub own : 0 < length k.of_parts.items → slice_get k.of_parts.items keeper ≡ Some keeper
   pub list : list_of (owned spans owners) keeper ≡ drop from spans
 
--- A unit announces some ranges if it has that keeper, and none without one.
-abbrev pub IsListOf : KeptRanges → List Span → Option ℕ → Type 0
-IsListOf k spans None = spans ≡ []
-IsListOf k spans (Some keeper) = (slice_get k.keepers keeper ≡ Some keeper) × (list_of k.ranges keeper ≡ spans)
+-- A part announces some ranges if it has that keeper, and none without one.
+abbrev pub IsPartList : KeptParts → List Span → Option ℕ → Type 0
+IsPartList k spans None = spans ≡ []
+IsPartList k spans (Some keeper) = (slice_get k.keepers keeper ≡ Some keeper) × (list_of k.ranges keeper ≡ spans)
 
--- one unit more, which is its own keeper
-abbrev pub with_list : KeptRanges → List Span → KeptRanges
+-- one part more, which is its own keeper
+abbrev pub with_list : KeptParts → List Span → KeptParts
 with_list k spans = record {
   ranges = k.ranges ++ own_all (length k.keepers) spans;
   keepers = k.keepers ++ length k.keepers ∷ [];
 }
 
--- One unit more, which announces a list; what the keepers of others announce stays.
-pub record IsWithUnit (old : KeptRanges) (spans : List Span) (new : KeptRanges) : Type 0 where
-  pub all : all_kept new ≡ all_kept old ++ own_all (length old.keepers) spans
+-- One part more, which announces a list; what the keepers of others announce stays.
+pub record IsOnePartMore (old : KeptParts) (spans : List Span) (new : KeptParts) : Type 0 where
+  pub all : all_kept_parts new ≡ all_kept_parts old ++ own_all (length old.keepers) spans
   pub count : length new.keepers ≡ length old.keepers + 1
-  pub others : (list : List Span) (keeper : Option ℕ) → IsListOf old list keeper → IsListOf new list keeper
+  pub others : (list : List Span) (keeper : Option ℕ) → IsPartList old list keeper → IsPartList new list keeper
 
--- one unit more, which announces what one with a keeper does
-abbrev pub IsOnceMore : KeptRanges → Option ℕ → KeptRanges → Type 0
-IsOnceMore old keeper new = (spans : List Span) → IsListOf old spans keeper → IsWithUnit old spans new
+-- one part more, which announces what one with a keeper does
+abbrev pub IsSamePartMore : KeptParts → Option ℕ → KeptParts → Type 0
+IsSamePartMore old keeper new = (spans : List Span) → IsPartList old spans keeper → IsOnePartMore old spans new
 
--- one unit more, with its keeper
-pub record IsWithKeeper (old : KeptRanges) (spans : List Span) (new : KeptRanges × Option ℕ) : Type 0 where
-  pub with_unit : IsWithUnit old spans new.0
-  pub list : IsListOf new.0 spans new.1
+-- one part more, with its keeper
+pub record IsKeptPartMore (old : KeptParts) (spans : List Span) (new : KeptParts × Option ℕ) : Type 0 where
+  pub with_part : IsOnePartMore old spans new.0
+  pub list : IsPartList new.0 spans new.1
 
 -- ---- the ranges that cover an address, one after the other
 
--- where a range of a unit stands among all
+-- where a range of a part stands among all
 unfoldable pub place_of_copy : List Copy → ℕ → ℕ → ℕ
-place_of_copy [] unit place = 0
-place_of_copy (c ∷ list) unit place = if c.unit == unit && c.place == place then 0 else suc (place_of_copy list unit place)
+place_of_copy [] part place = 0
+place_of_copy (c ∷ list) part place = if c.part == part && c.place == place then 0 else suc (place_of_copy list part place)
 
 abbrev pub full_place : List Copy → Place → ℕ
-full_place list at = place_of_copy list at.unit at.place
+full_place list at = place_of_copy list at.part at.place
 
 -- A place among the ranges that cover an address.
 pub record IsPlaced (kept : List (Owned Span)) (keepers : List ℕ) (addr : ℕ) (at : Place) : Type 0 where
   pub keeper : ℕ
   pub span : Span
   pub is : IsKept kept at.place span keeper
-  pub row : slice_get keepers at.unit ≡ Some keeper
+  pub row : slice_get keepers at.part ≡ Some keeper
   pub reached : covers span addr ≡ true
 
 -- whether two numbers are there and the same
@@ -201,15 +201,15 @@ abbrev pub goes_on : List (Owned Span) → ℕ → Option ℕ → Bool
 goes_on kept place None = false
 goes_on kept place (Some next) = are_alike kept place next
 
--- the same unit at another place
+-- the same part at another place
 abbrev pub moved : Place → Option ℕ → Option Place
 moved at None = None
-moved at (Some place) = Some (record { place = place; unit = at.unit })
+moved at (Some place) = Some (record { place = place; part = at.part })
 
 -- a range as its keeper has it
 abbrev pub kept_at : Option ℕ → ℕ → Option Place
 kept_at None place = None
-kept_at (Some keeper) place = Some (record { place = place; unit = keeper })
+kept_at (Some keeper) place = Some (record { place = place; part = keeper })
 
 abbrev pub begun : List (Owned Span) → Option ℕ → Option Place
 begun kept None = None
@@ -217,23 +217,23 @@ begun kept (Some place) = kept_at (owner_at kept place) place
 
 -- ---- the best range that comes later
 
--- a range that begins below a number, or there and is kept for a later unit
+-- a range that begins below a number, or there and is kept for a later part
 abbrev pub IsLater : ℕ → ℕ → Owned Span → Type 0
-IsLater unit begin x = (x.item.begin < begin) ⊎ ((x.item.begin ≡ begin) × (unit < x.owner))
+IsLater part begin x = (x.item.begin < begin) ⊎ ((x.item.begin ≡ begin) × (part < x.owner))
 
 -- The best of these that covers an address.
-pub record IsOwn (kept : List (Owned Span)) (unit addr begin place : ℕ) : Type 0 where
+pub record IsOwn (kept : List (Owned Span)) (part addr begin place : ℕ) : Type 0 where
   pub range : Owned Span
   pub is : slice_get kept place ≡ Some range
   pub reached : covers range.item addr ≡ true
-  pub later : IsLater unit begin range
+  pub later : IsLater part begin range
   pub first : (q : ℕ) (x : Owned Span) → slice_get kept q ≡ Some x → covers x.item addr ≡ true
-      → IsLater unit begin x → NotAfter place range.item q x.item
+      → IsLater part begin x → NotAfter place range.item q x.item
 
 abbrev pub IsNextOwn : List (Owned Span) → ℕ → ℕ → ℕ → Option ℕ → Type 0
-IsNextOwn kept unit addr begin None = (q : ℕ) (x : Owned Span) → slice_get kept q ≡ Some x
-    → covers x.item addr ≡ true → IsLater unit begin x → ⊥
-IsNextOwn kept unit addr begin (Some place) = IsOwn kept unit addr begin place
+IsNextOwn kept part addr begin None = (q : ℕ) (x : Owned Span) → slice_get kept q ≡ Some x
+    → covers x.item addr ≡ true → IsLater part begin x → ⊥
+IsNextOwn kept part addr begin (Some place) = IsOwn kept part addr begin place
 
 abbrev pub no_longer : ℕ → Span
 no_longer begin = record { begin = begin; end = begin }
@@ -248,31 +248,31 @@ where_begins kept begin None = None
 where_begins kept begin (Some place) = if begins_in kept begin place then Some place else None
 
 abbrev pub is_below : ℕ → Option ℕ → Bool
-is_below unit None = false
-is_below unit (Some keeper) = nat_lt keeper unit
+is_below part None = false
+is_below part (Some keeper) = nat_lt keeper part
 
--- whether a range begins at a number and is kept for a unit before another one
+-- whether a range begins at a number and is kept for a part before another one
 abbrev pub comes_first : List (Owned Span) → ℕ → ℕ → Option ℕ → Bool
-comes_first kept begin unit None = false
-comes_first kept begin unit (Some place) = is_below unit (owner_at kept place) && begins_in kept begin place
+comes_first kept begin part None = false
+comes_first kept begin part (Some place) = is_below part (owner_at kept place) && begins_in kept begin place
 
--- a range, where it comes before those of a unit that begin at a number
+-- a range, where it comes before those of a part that begin at a number
 abbrev pub up_to : List (Owned Span) → ℕ → Option ℕ → Option ℕ → Option ℕ
 up_to kept begin None place = place
-up_to kept begin (Some unit) place = if comes_first kept begin unit place then place else None
+up_to kept begin (Some part) place = if comes_first kept begin part place then place else None
 
 -- a place that stands for one among all ranges
-pub record StandsFor (a : Announced) (addr : ℕ) (at : Option Place) (place : Option ℕ) : Type 0 where
+pub record StandsFor (a : AnnouncedParts) (addr : ℕ) (at : Option Place) (place : Option ℕ) : Type 0 where
   pub is : option_map (full_place (announced_copies a)) at ≡ place
   pub placed : IfSome at (IsPlaced a.kept.ranges a.keepers addr)
 
-abbrev pub all_spans : Announced → List Span
-all_spans a = items_of (announced_all a).ranges
+abbrev pub all_spans : AnnouncedParts → List Span
+all_spans a = items_of (all_of_parts a).ranges
 
 -- the best among all ranges
-abbrev pub IsBestOfAll : Announced → ℕ → Option Place → Type 0
+abbrev pub IsBestOfAll : AnnouncedParts → ℕ → Option Place → Type 0
 IsBestOfAll a addr found = StandsFor a addr found (best (all_spans a) addr)
 
 -- what is next behind a place among all ranges
-abbrev pub IsBehind : Announced → ℕ → Place → Option Place → Type 0
+abbrev pub IsBehind : AnnouncedParts → ℕ → Place → Option Place → Type 0
 IsBehind a addr at found = StandsFor a addr found (next (all_spans a) addr (full_place (announced_copies a) at))

@@ -3,3 +3,5 @@ pub mod Asking
 pub mod Copies
 pub mod Repeats
 pub mod Seen
+pub mod Turns
+pub mod Units

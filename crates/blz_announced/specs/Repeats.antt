@@ -1,4 +1,4 @@
--- The units that are not their own keepers, behind a unit, and which of them has a range that begins alike.
+-- The parts that are not their own keepers, behind a part, and which of them has a range that begins alike.
 use Rattle.std.specs.Prelude.{◌≡◌, ℕ, ◌<◌, ◌≤◌, Bool, true, false, List, map, Option, Some, None, ◌&&◌, ◌==◌, nat_lt, if◌then◌else◌, unwrap_or}
 use Rattle.std.specs.List.{slice_get}
 use Rattle.blz_ranges.specs.declared.grouped.Grouped.{Grouped}
@@ -7,9 +7,9 @@ use Rattle.blz_ranges.specs.Best.{covers}
 use Rattle.blz_ranges.specs.Groups.{grouped}
 use Rattle.blz_ranges.specs.Owned.{Owned, owner_at}
 use Rattle.blz_announced.specs.Copies.{same_number, span_at, IsKept}
-use Rattle.blz_announced.specs.declared.announced.Place.{Place}
-use Rattle.blz_announced.specs.declared.announced.repeats.Near.{Near}
-use Rattle.blz_announced.specs.declared.announced.repeats.Near.TheVariants.{Found, NoneBefore, NoneLeft}
+use Rattle.blz_announced.specs.declared.announced_parts.Place.{Place}
+use Rattle.blz_announced.specs.declared.announced_parts.repeats.Near.{Near}
+use Rattle.blz_announced.specs.declared.announced_parts.repeats.Near.TheVariants.{Found, NoneBefore, NoneLeft}
 use Rattle.blz_announced.specs.declared.keepers.Keepers.{Keepers}
 
 -- ---- ranges that begin alike
@@ -57,87 +57,87 @@ abbrev pub IsNextBegun : List (Owned Span) → ℕ → ℕ → ℕ → Option �
 IsNextBegun kept addr begin place None = (k q : ℕ) → IsAlike kept k addr begin q → place < q → ⊥
 IsNextBegun kept addr begin place (Some next) = IsBegunAt kept addr begin place next
 
--- ---- units that are not their own keepers
+-- ---- parts that are not their own keepers
 
--- One that stands behind a unit, with its keeper.
-pub record IsRepeatOf (keepers : List ℕ) (keeper unit other : ℕ) : Type 0 where
-  pub later : unit < other
+-- One that stands behind a part, with its keeper.
+pub record IsRepeatOf (keepers : List ℕ) (keeper part other : ℕ) : Type 0 where
+  pub later : part < other
   pub row : slice_get keepers other ≡ Some keeper
   pub differs : keeper < other
 
 -- the first of a keeper
 abbrev pub IsNextOf : List ℕ → ℕ → ℕ → Option ℕ → Type 0
-IsNextOf keepers keeper unit None = (other : ℕ) → IsRepeatOf keepers keeper unit other → ⊥
-IsNextOf keepers keeper unit (Some next) =
-    IsRepeatOf keepers keeper unit next × ((other : ℕ) → IsRepeatOf keepers keeper unit other → next ≤ other)
+IsNextOf keepers keeper part None = (other : ℕ) → IsRepeatOf keepers keeper part other → ⊥
+IsNextOf keepers keeper part (Some next) =
+    IsRepeatOf keepers keeper part next × ((other : ℕ) → IsRepeatOf keepers keeper part other → next ≤ other)
 
--- It is found as a range: that of all units before it covers each unit that it stands behind.
-abbrev pub units_before : List ℕ → ℕ → Grouped
-units_before keepers repeat =
+-- It is found as a range: that of all parts before it covers each part that it stands behind.
+abbrev pub parts_before : List ℕ → ℕ → Grouped
+parts_before keepers repeat =
     grouped (unwrap_or (slice_get keepers repeat) repeat) (record { begin = 0; end = repeat })
 
--- these ranges of all such units, in the groups of their keepers
+-- these ranges of all such parts, in the groups of their keepers
 abbrev pub repeats_by_keeper : List ℕ → List ℕ → List Grouped
-repeats_by_keeper keepers repeats = map (units_before keepers) repeats
+repeats_by_keeper keepers repeats = map (parts_before keepers) repeats
 
 abbrev pub all_repeats : Keepers → List Grouped
-all_repeats k = repeats_by_keeper k.of_units.items k.repeats.items
+all_repeats k = repeats_by_keeper k.of_parts.items k.repeats.items
 
 -- ---- the next of them with a range that begins alike
 
 -- One with such a range.
-pub record RepeatsAt (kept : List (Owned Span)) (keepers : List ℕ) (unit addr begin other place : ℕ) : Type 0 where
+pub record RepeatsAt (kept : List (Owned Span)) (keepers : List ℕ) (part addr begin other place : ℕ) : Type 0 where
   pub keeper : ℕ
-  pub repeats : IsRepeatOf keepers keeper unit other
+  pub repeats : IsRepeatOf keepers keeper part other
   pub alike : IsAlike kept keeper addr begin place
 
--- none stands before a unit
+-- none stands before a part
 abbrev pub NoRepeatBefore : List (Owned Span) → List ℕ → ℕ → ℕ → ℕ → ℕ → Type 0
-NoRepeatBefore kept keepers unit addr begin bound =
-    (other q : ℕ) → RepeatsAt kept keepers unit addr begin other q → bound ≤ other
+NoRepeatBefore kept keepers part addr begin bound =
+    (other q : ℕ) → RepeatsAt kept keepers part addr begin other q → bound ≤ other
 
 -- The first of those with one of some ranges, at the first of its ranges.
-pub record IsRepeatAt (Among : ℕ → Type 0) (kept : List (Owned Span)) (keepers : List ℕ) (unit addr begin : ℕ) (at : Place) : Type 0 where
+pub record IsRepeatAt (Among : ℕ → Type 0) (kept : List (Owned Span)) (keepers : List ℕ) (part addr begin : ℕ) (at : Place) : Type 0 where
   pub keeper : ℕ
-  pub repeats : IsRepeatOf keepers keeper unit at.unit
+  pub repeats : IsRepeatOf keepers keeper part at.part
   pub first : IsFirstAlike kept keeper addr begin (Some at.place)
-  pub least : (other q : ℕ) → Among q → RepeatsAt kept keepers unit addr begin other q → at.unit ≤ other
+  pub least : (other q : ℕ) → Among q → RepeatsAt kept keepers part addr begin other q → at.part ≤ other
 
 abbrev pub IsFirstRepeat : (ℕ → Type 0) → List (Owned Span) → List ℕ → ℕ → ℕ → ℕ → Option Place → Type 0
-IsFirstRepeat Among kept keepers unit addr begin None =
-    (other q : ℕ) → Among q → RepeatsAt kept keepers unit addr begin other q → ⊥
-IsFirstRepeat Among kept keepers unit addr begin (Some at) = IsRepeatAt Among kept keepers unit addr begin at
+IsFirstRepeat Among kept keepers part addr begin None =
+    (other q : ℕ) → Among q → RepeatsAt kept keepers part addr begin other q → ⊥
+IsFirstRepeat Among kept keepers part addr begin (Some at) = IsRepeatAt Among kept keepers part addr begin at
 
 -- of those with any range
 abbrev pub IsNextRepeat : List (Owned Span) → List ℕ → ℕ → ℕ → ℕ → Option Place → Type 0
-IsNextRepeat kept keepers unit addr begin found =
-    IsFirstRepeat (λ _. Unit {0}) kept keepers unit addr begin found
+IsNextRepeat kept keepers part addr begin found =
+    IsFirstRepeat (λ _. Unit {0}) kept keepers part addr begin found
 
 -- of those with a range before a place
 abbrev pub IsRepeatBefore : List (Owned Span) → List ℕ → ℕ → ℕ → ℕ → ℕ → Option Place → Type 0
-IsRepeatBefore kept keepers unit addr begin place found =
-    IsFirstRepeat (λ q. q < place) kept keepers unit addr begin found
+IsRepeatBefore kept keepers part addr begin place found =
+    IsFirstRepeat (λ q. q < place) kept keepers part addr begin found
 
--- of one that was found and a further unit with a range at a place, the one that stands first
+-- of one that was found and a further part with a range at a place, the one that stands first
 abbrev pub sooner : Option Place → ℕ → Option ℕ → Option Place
 sooner found place None = found
-sooner None place (Some unit) = Some (record { place = place; unit = unit })
-sooner (Some at) place (Some unit) =
-    if nat_lt unit at.unit then Some (record { place = place; unit = unit }) else Some at
+sooner None place (Some part) = Some (record { place = place; part = part })
+sooner (Some at) place (Some part) =
+    if nat_lt part at.part then Some (record { place = place; part = part }) else Some at
 
--- what the units tell that were asked one after the other
+-- what the parts tell that were asked one after the other
 abbrev pub IsNear : List (Owned Span) → List ℕ → ℕ → ℕ → ℕ → Near → Type 0
-IsNear kept keepers unit addr begin (Found at) = IsNextRepeat kept keepers unit addr begin (Some at)
-IsNear kept keepers unit addr begin (NoneBefore bound) = NoRepeatBefore kept keepers unit addr begin bound
-IsNear kept keepers unit addr begin NoneLeft = IsNextRepeat kept keepers unit addr begin None
+IsNear kept keepers part addr begin (Found at) = IsNextRepeat kept keepers part addr begin (Some at)
+IsNear kept keepers part addr begin (NoneBefore bound) = NoRepeatBefore kept keepers part addr begin bound
+IsNear kept keepers part addr begin NoneLeft = IsNextRepeat kept keepers part addr begin None
 
 -- what they tell when all were asked
 abbrev pub near_of : Option Place → Near
 near_of None = NoneLeft
 near_of (Some at) = Found at
 
--- the unit before which there is none
-abbrev pub unit_near : Near → Option ℕ
-unit_near (Found at) = Some at.unit
-unit_near (NoneBefore bound) = Some bound
-unit_near NoneLeft = None
+-- the part before which there is none
+abbrev pub part_near : Near → Option ℕ
+part_near (Found at) = Some at.part
+part_near (NoneBefore bound) = Some bound
+part_near NoneLeft = None

@@ -1,4 +1,4 @@
--- What is seen of the ranges that are kept: all, or of each keeper the best alone that covers an address, so that no unit is
+-- What is seen of the ranges that are kept: all, or of each keeper the best alone that covers an address, so that no part is
 -- told twice.
 use Rattle.std.specs.Prelude.{◌≡◌, ℕ, suc, Bool, true, false, List, [], ◌∷◌, length, map, Option, Some, None, ◌⊎◌, if◌then◌else◌}
 use Rattle.std.specs.List.{slice_get}
@@ -8,9 +8,9 @@ use Rattle.blz_ranges.specs.Best.{no_span}
 use Rattle.blz_ranges.specs.Groups.{best_in, grouped}
 use Rattle.blz_ranges.specs.Owned.{Owned, owned, owner_at}
 use Rattle.blz_announced.specs.Announced.{units_covering, Announcing}
-use Rattle.blz_announced.specs.Copies.{Announced, announced_all, same_number, AreKeepers}
+use Rattle.blz_announced.specs.Copies.{AnnouncedParts, all_of_parts, same_number, AreKeepers}
 use Rattle.blz_announced.specs.Repeats.{all_repeats}
-use Rattle.blz_announced.specs.declared.announced.Asked.{Asked}
+use Rattle.blz_announced.specs.declared.announced_parts.Asked.{Asked}
 use Rattle.blz_announced.specs.declared.keepers.Keepers.{Keepers}
 
 -- the ranges in the groups of their keepers
@@ -47,7 +47,7 @@ seen_from asked kept at (x ∷ rest) =
 abbrev pub seen : Asked → List (Owned Span) → List (Owned Span)
 seen asked kept = seen_from asked kept 0 kept
 
-abbrev pub seen_by : Asked → Announced → Announced
+abbrev pub seen_by : Asked → AnnouncedParts → AnnouncedParts
 seen_by asked a = record {
   kept = record { ranges = seen asked a.kept.ranges; ordered = a.kept.ordered };
   keepers = a.keepers;
@@ -65,9 +65,9 @@ LeavesOut before [] few = few ≡ []
 LeavesOut before (n ∷ all) few =
     (Holds before n × LeavesOut before all few) ⊎ (rest : List ℕ) × (few ≡ n ∷ rest) × LeavesOut (n ∷ before) all rest
 
--- the units that announce an address, before the first is asked for, without some that stand there again
-pub record IsOnce (a : Announced) (addr : ℕ) (units : Announcing) : Type 0 where
-  pub announced : units.announced ≡ announced_all a
-  pub address : units.address ≡ addr
-  pub fresh : units.fresh ≡ true
-  pub without : LeavesOut [] (units_covering (announced_all a) addr) units.left
+-- the parts that announce an address, before the first is asked for, without some that stand there again
+pub record ArePartsOnce (a : AnnouncedParts) (addr : ℕ) (parts : Announcing) : Type 0 where
+  pub announced : parts.announced ≡ all_of_parts a
+  pub address : parts.address ≡ addr
+  pub fresh : parts.fresh ≡ true
+  pub without : LeavesOut [] (units_covering (all_of_parts a) addr) parts.left

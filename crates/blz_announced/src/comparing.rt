@@ -56,11 +56,11 @@ pub fn begins_at(addr: u64, begin: u64, span: Option<Span>) -> bool
     }
 }
 
-pub fn is_below(unit: usize, keeper: Option<usize>) -> bool
-    ensures { result ≡ is_below unit keeper }
+pub fn is_below(part: usize, keeper: Option<usize>) -> bool
+    ensures { result ≡ is_below part keeper }
 {
     match keeper {
-        Some(keeper) => keeper < unit,
+        Some(keeper) => keeper < part,
         None => false,
     }
 }

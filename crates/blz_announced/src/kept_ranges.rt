@@ -1,105 +1,87 @@
 //! The ranges that units announce, while the units are read.
-ghost use Rattle.std.specs.Prelude.{◌≡◌, ◌<◌, [], length, IfOk, IfSome, Some};
-ghost use Rattle.std.specs.Bool.{OnTrue};
+ghost use Rattle.std.specs.Prelude.{◌≡◌, ◌+◌, IfOk, IfSome, Some};
 ghost use Rattle.std.specs.List.{slice_get};
-ghost use Rattle.blz_ranges.specs.Owned.{owned};
-ghost use Rattle.blz_announced.specs.Copies.{AreKeepers, IsListOf, IsOnceMore, IsWithKeeper};
+ghost use Rattle.blz_announced.specs.Units.{no_ranges, parts_kept, IsOnceMore, IsPartAgain, IsWithKeeper, IsWithKeptPart};
 
-use crate::keepers::Keepers;
-use blz_ranges::{Span, own};
+use crate::kept_parts::KeptParts;
+use crate::part_units::noted;
+use blz_ranges::Span;
 use std::alloc::{AllocError, Global};
 use std::marker::Model;
 
-/// The ranges that units announce. What several units announce is kept once, as that of the first of them, their keeper,
-/// where that is known.
+/// The ranges that units announce: each those of its parts, one behind the other. What several parts announce is kept once.
 #[derive(Drop)]
 pub struct KeptRanges {
-    spans: Vec<Span>,
-    owners: Vec<usize>,
-    keepers: Keepers,
-    /// The last unit that is its own keeper.
-    last: usize,
-    /// Where its list begins.
-    from: usize,
+    parts: KeptParts,
+    /// The unit of each part, as far as they are noted.
+    units: Vec<usize>,
+    /// How many units were read.
+    count: usize,
 }
 
 impl Model for KeptRanges {
-    ghost use Rattle.blz_announced.specs.Copies.{kept_of, AreKeptOnce, KeptRanges};
+    ghost use Rattle.std.specs.Prelude.{◌≤◌, length};
+    ghost use Rattle.blz_announced.specs.Units.{kept_by_units, KeptRanges};
 
     ghost Value = { KeptRanges };
 
-    ghost view = { λ k. kept_of k.spans.items k.owners.items k.keepers.of_units.items };
+    ghost view = { λ k. kept_by_units k.parts k.units.items k.count };
 
-    ghost invariant = { λ k. AreKeptOnce k.spans.items k.owners.items k.keepers k.last k.from };
-}
-
-/// Whether two lists of ranges are the same.
-fn are_same(left: &[Span], right: &[Span]) -> bool
-    ensures { OnTrue result (left.now ≡ right.now) }
-{
-    if left.len() != right.len() {
-        return false;
-    }
-    for at in 0..left.len() {
-        if left[at].begin != right[at].begin || left[at].end != right[at].end {
-            return false;
-        }
-    }
-    true
+    ghost invariant = { λ k. length k.units.items ≤ length k.parts.keepers };
 }
 
 impl KeptRanges {
+    /// Of no units; takes no memory.
     pub fn new(alloc: Global) -> KeptRanges
-        ensures { result ≡ record { ranges = []; keepers = [] } }
+        ensures { result ≡ no_ranges }
     {
         KeptRanges {
-            spans: Vec::new(alloc),
-            owners: Vec::new(alloc),
-            keepers: Keepers::new(alloc),
-            last: 0,
-            from: 0,
+            parts: KeptParts::new(alloc),
+            units: Vec::new(alloc),
+            count: 0,
         }
     }
 
-    /// The keeper of a list, where it is the last that was kept.
-    fn keeper_of(&self, spans: &[Span]) -> Option<usize>
-        ensures { IfSome result (λ keeper. IsListOf self.now spans.now (Some keeper)) }
+    /// One part more of the unit that is read, which announces some ranges, and the keeper that it has where these are any.
+    pub fn with_part(self, spans: &[Span]) -> Result<(KeptRanges, Option<usize>), AllocError>
+        ensures { IfOk result (IsWithKeptPart self spans.now) }
     {
-        if self.keepers.of_units.is_empty() || spans.is_empty() {
-            return None;
-        }
-        if are_same(&self.spans[self.from..], spans) {
-            Some(self.last)
-        } else {
-            None
-        }
+        let units = noted(self.units, self.parts.count(), self.count)?;
+        let (parts, keeper) = self.parts.with_part(spans)?;
+        let ranges = KeptRanges {
+            parts,
+            units,
+            count: self.count,
+        };
+        Ok((ranges, keeper))
     }
 
-    /// One unit more, with the keeper of another one.
-    fn with_keeper(mut self, keeper: usize) -> Result<KeptRanges, AllocError>
+    /// One part more of the unit that is read, which announces what one with a keeper does.
+    pub fn again_part(self, keeper: usize) -> Result<KeptRanges, AllocError>
         requires { slice_get self.keepers keeper ≡ Some keeper }
-        ensures { IfOk result (IsOnceMore self (Some keeper)) }
+        ensures { IfOk result (IsPartAgain self keeper) }
     {
-        let unit = self.keepers.of_units.len();
-        self.keepers.of_units.push(keeper)?;
-        self.keepers.ends.push(self.spans.len())?;
-        self.keepers.repeats.push(unit)?;
-        Ok(self)
+        let units = noted(self.units, self.parts.count(), self.count)?;
+        let parts = self.parts.again(Some(keeper))?;
+        Ok(KeptRanges {
+            parts,
+            units,
+            count: self.count,
+        })
     }
 
-    /// One unit more, with ranges of its own.
-    fn with_list(mut self, spans: &[Span]) -> Result<KeptRanges, AllocError>
-        ensures { IfOk result (λ k. IsWithKeeper self spans.now (k, Some (length self.keepers))) }
+    /// The unit that is read ends. No memory holds as many units as cannot be counted.
+    pub fn end_unit(self) -> Result<KeptRanges, AllocError>
+        ensures { IfOk result (λ k. k ≡ record self { count = self.count + 1 }) }
     {
-        let unit = self.keepers.of_units.len();
-        let from = self.spans.len();
-        self.spans.extend_from_slice(spans)?;
-        own(&mut self.owners, unit, self.spans.len())?;
-        self.keepers.of_units.push(unit)?;
-        self.keepers.ends.push(self.spans.len())?;
-        self.last = unit;
-        self.from = from;
-        Ok(self)
+        let Some(count) = self.count.checked_add(1) else {
+            return Err(AllocError);
+        };
+        Ok(KeptRanges {
+            parts: self.parts,
+            units: self.units,
+            count,
+        })
     }
 
     /// One unit more, which announces what one with a keeper does, and nothing without one.
@@ -108,8 +90,14 @@ impl KeptRanges {
         ensures { IfOk result (IsOnceMore self keeper) }
     {
         match keeper {
-            Some(keeper) => self.with_keeper(keeper),
-            None => self.with_list(&[]),
+            Some(keeper) => {
+                let ranges = self.again_part(keeper)?;
+                ranges.end_unit()
+            },
+            None => {
+                let (ranges, _) = self.with_part(&[])?;
+                ranges.end_unit()
+            },
         }
     }
 
@@ -117,26 +105,16 @@ impl KeptRanges {
     pub fn with_unit(self, spans: &[Span]) -> Result<(KeptRanges, Option<usize>), AllocError>
         ensures { IfOk result (IsWithKeeper self spans.now) }
     {
-        let known = self.keeper_of(spans);
-        if known.is_some() {
-            let ranges = self.again(known)?;
-            return Ok((ranges, known));
-        }
-        let unit = self.keepers.of_units.len();
-        let ranges = self.with_list(spans)?;
-        if spans.is_empty() {
-            return Ok((ranges, None));
-        }
-        Ok((ranges, Some(unit)))
+        let (ranges, keeper) = self.with_part(spans)?;
+        let ranges = ranges.end_unit()?;
+        Ok((ranges, keeper))
     }
 
-    /// The ranges, for each the number of its keeper, and the keepers of units.
-    pub fn into_parts(self) -> (Vec<Span>, Vec<usize>, Keepers)
-        ensures ranges { owned result.0.items result.1.items ≡ self.ranges }
-        ensures keepers { result.2.of_units.items ≡ self.keepers }
-        ensures same { length result.0.items ≡ length result.1.items }
-        ensures are { AreKeepers self.ranges result.2 }
+    /// What the parts announce, and the units of these.
+    pub fn into_parts(self) -> (KeptParts, Vec<usize>)
+        ensures parts { result.0 ≡ parts_kept self }
+        ensures units { result.1.items ≡ self.units }
     {
-        (self.spans, self.owners, self.keepers)
+        (self.parts, self.units)
     }
 }

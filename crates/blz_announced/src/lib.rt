@@ -1,13 +1,20 @@
-//! What the units of a file announce: their ranges, kept once for all units that announce the same.
+//! What the units of a file announce: their ranges, kept once for all parts of units that announce the same.
 #![tactic(auto)]
 
 mod announced;
+mod announced_parts;
 mod comparing;
 mod keepers;
+mod kept_parts;
 mod kept_ranges;
+mod part_units;
+mod parts_at;
 mod units_at;
 
-pub use announced::{Announced, Place};
+pub use announced::Announced;
+pub use announced_parts::{AnnouncedParts, Place};
 pub use keepers::Keepers;
+pub use kept_parts::KeptParts;
 pub use kept_ranges::KeptRanges;
+pub use parts_at::PartsAt;
 pub use units_at::UnitsAt;

@@ -1,74 +1,31 @@
 //! The units that announce an address.
 ghost use Rattle.std.specs.Prelude.{◌≡◌, ◌≤◌, ◌-◌, true, false, drop};
 ghost use Rattle.std.specs.List.{slice_get};
-ghost use Rattle.blz_announced.specs.Announced.{to_tell, turn_behind, IsTurn};
-ghost use Rattle.blz_announced.specs.Asking.{FirstTakesFew, IsTurnPlace, TakesFew};
-ghost use Rattle.blz_announced.specs.Copies.{announced_all};
-ghost use Rattle.blz_announced.specs.Seen.{seen_by, IsOnce};
+ghost use Rattle.blz_announced.specs.Announced.{to_tell, TakesFew};
+ghost use Rattle.blz_announced.specs.Units.{announced_all, IsOnce};
 
-use crate::announced::{Announced, Asked, Place, unit_at};
+use crate::announced::Announced;
+use crate::part_units::unit_of;
+use crate::parts_at::PartsAt;
 use blz_bytes::Steps;
 use std::marker::Model;
 use std::sync::ledger::Ledger;
-
-/// Which of the ranges that cover an address is next.
-#[derive(Clone, Copy)]
-enum Turn {
-    /// The best one.
-    First,
-    /// The one after the one at a place.
-    After(Place),
-    /// None.
-    Over,
-}
 
 /// The units that announce an address, from the next one on: by the ranges that cover it, those with the greatest begin
 /// first, then the earlier ones.
 #[derive(Drop)]
 pub struct UnitsAt<'u> {
-    announced: &'u Announced,
-    asked: Asked,
-    turn: Turn,
+    units: &'u [usize],
+    parts: PartsAt<'u>,
 }
 
 impl<'u> Model for UnitsAt<'u> {
-    ghost use Rattle.blz_announced.specs.Announced.{Announcing, IsTurn};
-    ghost use Rattle.blz_announced.specs.Asking.{told_from};
-    ghost use Rattle.blz_announced.specs.Seen.{seen_by};
+    ghost use Rattle.blz_announced.specs.Announced.{Announcing};
+    ghost use Rattle.blz_announced.specs.Units.{units_to_tell};
 
     ghost Value = { Announcing };
 
-    ghost view = { λ u. told_from u.asked u.announced.now u.turn };
-
-    ghost invariant = { λ u. IsTurn (seen_by u.asked u.announced.now) u.asked.addr u.turn };
-}
-
-fn turn_behind(place: Option<Place>) -> Turn
-    ensures { result ≡ turn_behind place }
-{
-    match place {
-        Some(place) => Turn::After(place),
-        None => Turn::Over,
-    }
-}
-
-/// The place of the range whose turn it is.
-fn next_place<L: Ledger>(
-    announced: &Announced,
-    asked: Asked,
-    turn: Turn,
-    steps: &mut Steps<L>,
-) -> Option<Place>
-    requires { IsTurn (seen_by asked announced.now) asked.addr turn }
-    ensures place { IsTurnPlace asked announced.now turn result }
-    ensures cost { FirstTakesFew announced.now turn (steps.new - steps.old) }
-    ensures later { steps.old ≤ steps.new }
-{
-    match turn {
-        Turn::First => announced.first(asked, steps),
-        Turn::After(place) => announced.after(asked, place, steps),
-        Turn::Over => None,
-    }
+    ghost view = { λ u. units_to_tell u.units.now u.parts };
 }
 
 impl<'u> UnitsAt<'u> {
@@ -76,11 +33,9 @@ impl<'u> UnitsAt<'u> {
     pub fn new(announced: &'u Announced, addr: u64) -> UnitsAt<'u>
         ensures { result ≡ to_tell (announced_all announced.now) addr }
     {
-        let asked = Asked { addr, once: false };
         UnitsAt {
-            announced,
-            asked,
-            turn: Turn::First,
+            units: announced.units.as_slice(),
+            parts: PartsAt::new(&announced.parts, addr),
         }
     }
 
@@ -88,11 +43,9 @@ impl<'u> UnitsAt<'u> {
     pub fn once(announced: &'u Announced, addr: u64) -> UnitsAt<'u>
         ensures { IsOnce announced.now addr result }
     {
-        let asked = Asked { addr, once: true };
         UnitsAt {
-            announced,
-            asked,
-            turn: Turn::First,
+            units: announced.units.as_slice(),
+            parts: PartsAt::once(&announced.parts, addr),
         }
     }
 
@@ -104,8 +57,9 @@ impl<'u> UnitsAt<'u> {
         ensures cost { self.old.fresh ≡ true → TakesFew self.old.announced (steps.new - steps.old) }
         ensures later { steps.old ≤ steps.new }
     {
-        let place = next_place(self.announced, self.asked, self.turn, steps);
-        self.turn = turn_behind(place);
-        unit_at(place)
+        match self.parts.next_part(steps) {
+            Some(part) => Some(unit_of(self.units, part)),
+            None => None,
+        }
     }
 }

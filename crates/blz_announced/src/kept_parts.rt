@@ -1,0 +1,149 @@
+//! The ranges that parts announce, while the parts are read.
+ghost use Rattle.std.specs.Prelude.{◌≡◌, ◌<◌, [], length, IfOk, IfSome, Some};
+ghost use Rattle.std.specs.Bool.{OnTrue};
+ghost use Rattle.std.specs.List.{slice_get};
+ghost use Rattle.blz_ranges.specs.Owned.{owned};
+ghost use Rattle.blz_announced.specs.Copies.{AreKeepers, IsPartList, IsSamePartMore, IsKeptPartMore};
+
+use crate::keepers::Keepers;
+use blz_ranges::{Span, own};
+use std::alloc::{AllocError, Global};
+use std::marker::Model;
+
+/// The ranges that parts announce. What several parts announce is kept once, as that of the first of them, their keeper,
+/// where that is known.
+#[derive(Drop)]
+pub struct KeptParts {
+    spans: Vec<Span>,
+    owners: Vec<usize>,
+    keepers: Keepers,
+    /// The last part that is its own keeper.
+    last: usize,
+    /// Where its list begins.
+    from: usize,
+}
+
+impl Model for KeptParts {
+    ghost use Rattle.blz_announced.specs.Copies.{kept_of, AreKeptOnce, KeptParts};
+
+    ghost Value = { KeptParts };
+
+    ghost view = { λ k. kept_of k.spans.items k.owners.items k.keepers.of_parts.items };
+
+    ghost invariant = { λ k. AreKeptOnce k.spans.items k.owners.items k.keepers k.last k.from };
+}
+
+/// Whether two lists of ranges are the same.
+fn are_same(left: &[Span], right: &[Span]) -> bool
+    ensures { OnTrue result (left.now ≡ right.now) }
+{
+    if left.len() != right.len() {
+        return false;
+    }
+    for at in 0..left.len() {
+        if left[at].begin != right[at].begin || left[at].end != right[at].end {
+            return false;
+        }
+    }
+    true
+}
+
+impl KeptParts {
+    pub fn new(alloc: Global) -> KeptParts
+        ensures { result ≡ record { ranges = []; keepers = [] } }
+    {
+        KeptParts {
+            spans: Vec::new(alloc),
+            owners: Vec::new(alloc),
+            keepers: Keepers::new(alloc),
+            last: 0,
+            from: 0,
+        }
+    }
+
+    /// How many parts there are.
+    pub fn count(&self) -> usize
+        ensures { result ≡ length self.now.keepers }
+    {
+        self.keepers.of_parts.len()
+    }
+
+    /// The keeper of a list, where it is the last that was kept.
+    fn keeper_of(&self, spans: &[Span]) -> Option<usize>
+        ensures { IfSome result (λ keeper. IsPartList self.now spans.now (Some keeper)) }
+    {
+        if self.keepers.of_parts.is_empty() || spans.is_empty() {
+            return None;
+        }
+        if are_same(&self.spans[self.from..], spans) {
+            Some(self.last)
+        } else {
+            None
+        }
+    }
+
+    /// One part more, with the keeper of another one.
+    fn with_keeper(mut self, keeper: usize) -> Result<KeptParts, AllocError>
+        requires { slice_get self.keepers keeper ≡ Some keeper }
+        ensures { IfOk result (IsSamePartMore self (Some keeper)) }
+    {
+        let part = self.keepers.of_parts.len();
+        self.keepers.of_parts.push(keeper)?;
+        self.keepers.ends.push(self.spans.len())?;
+        self.keepers.repeats.push(part)?;
+        Ok(self)
+    }
+
+    /// One part more, with ranges of its own.
+    fn with_list(mut self, spans: &[Span]) -> Result<KeptParts, AllocError>
+        ensures { IfOk result (λ k. IsKeptPartMore self spans.now (k, Some (length self.keepers))) }
+    {
+        let part = self.keepers.of_parts.len();
+        let from = self.spans.len();
+        self.spans.extend_from_slice(spans)?;
+        own(&mut self.owners, part, self.spans.len())?;
+        self.keepers.of_parts.push(part)?;
+        self.keepers.ends.push(self.spans.len())?;
+        self.last = part;
+        self.from = from;
+        Ok(self)
+    }
+
+    /// One part more, which announces what one with a keeper does, and nothing without one.
+    pub fn again(self, keeper: Option<usize>) -> Result<KeptParts, AllocError>
+        requires { IfSome keeper (λ k. slice_get self.keepers k ≡ Some k) }
+        ensures { IfOk result (IsSamePartMore self keeper) }
+    {
+        match keeper {
+            Some(keeper) => self.with_keeper(keeper),
+            None => self.with_list(&[]),
+        }
+    }
+
+    /// One part more, which announces some ranges, and the keeper that it has where these are any.
+    pub fn with_part(self, spans: &[Span]) -> Result<(KeptParts, Option<usize>), AllocError>
+        ensures { IfOk result (IsKeptPartMore self spans.now) }
+    {
+        let known = self.keeper_of(spans);
+        if known.is_some() {
+            let ranges = self.again(known)?;
+            return Ok((ranges, known));
+        }
+        let part = self.keepers.of_parts.len();
+        let ranges = self.with_list(spans)?;
+        if spans.is_empty() {
+            return Ok((ranges, None));
+        }
+        Ok((ranges, Some(part)))
+    }
+
+    /// The ranges, for each the number of its keeper, and the keepers of parts.
+    pub fn into_parts(self) -> (Vec<Span>, Vec<usize>, Keepers)
+        ensures ranges { owned result.0.items result.1.items ≡ self.ranges }
+        ensures keepers { result.2.of_parts.items ≡ self.keepers }
+        ensures same { length result.0.items ≡ length result.1.items }
+        ensures are { AreKeepers self.ranges result.2 }
+    {
+        (self.spans, self.owners, self.keepers)
+    }
+}
