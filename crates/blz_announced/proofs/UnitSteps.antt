@@ -1,16 +1,20 @@
 -- The units of parts, and ranges told by them.
 use Rattle.std.proofs.Common.{◌≡◌, ℕ, zero, suc, ◌+◌, ◌<◌, ◌≤◌, List, [], ◌∷◌, ◌++◌, length, map, Option, Some, None, refl, sym, ap, subst, ◌∙◌, arith, inl, inr, length-append}
-use Rattle.std.specs.Prelude.{unwrap_or, option_map}
+use Rattle.std.specs.Prelude.{unwrap_or, option_map, true, IfOk, Result, Ok, Err}
 use Rattle.std.specs.List.{slice_get}
 use Rattle.std.specs.Option.{option_to_list}
-use Rattle.std.proofs.lemmas.List.{map-append}
+use Rattle.std.proofs.lemmas.List.{length-map, map-append}
 use Rattle.std.proofs.lemmas.Option.{slice_get-map, slice_get_within}
 use Rattle.blz_ranges.specs.declared.span.Span.{Span}
+use Rattle.blz_ranges.specs.Groups.{AreApart}
 use Rattle.blz_ranges.specs.Owned.{Owned, items_of, own_all, owner_at, owners_of}
+use Rattle.blz_ranges.specs.Ranges.{OwnedRanges}
+use Rattle.blz_ranges.specs.Turns.{covering}
 use Rattle.blz_ranges.proofs.ListEnds.{at_end}
-use Rattle.blz_announced.specs.Copies.{all_kept_parts, all_ranges, copies, Copy, IsOnePartMore, IsPartList, KeptParts}
-use Rattle.blz_announced.specs.Seen.{Holds, LeavesOut}
-use Rattle.blz_announced.specs.Units.{by_units, kept_by_units, parts_kept, unit_of, IsFilled, IsNoted, IsWithPart, KeptRanges, TellAlike}
+use Rattle.blz_announced.specs.Announced.{to_tell, units_covering, Announcing, TakesFew}
+use Rattle.blz_announced.specs.Copies.{all_kept_parts, all_of_parts, all_ranges, copies, AnnouncedParts, Copy, IsOnePartMore, KeptParts}
+use Rattle.blz_announced.specs.Seen.{ArePartsOnce, Holds, LeavesOut}
+use Rattle.blz_announced.specs.Units.{all_by_units, announced_by_units, by_units, kept_by_units, parts_kept, unit_of, units_to_tell, IsFilled, IsNoted, IsOnce, IsOnceMore, IsPartAgain, IsWithPart, IsWithUnit, KeptRanges, TellAlike}
 use Rattle.blz_announced.proofs.Copies.{are_copies}
 use Rattle.blz_announced.proofs.NextCopies.{mapped}
 
@@ -108,6 +112,30 @@ part_more old spans parts units more noted = record {
   others = more.others;
 }
 
+-- ---- one unit more
+
+unit_ended : (old part : KeptRanges) (spans : List Span) → IsWithPart old spans part → IsWithUnit old spans (record part { count = part.count + 1 })
+unit_ended old part spans w = record { all = w.all; count = ap (λ (n : ℕ). n + 1) w.count; others = w.others }
+
+pub ended_again : {E : Type 0} (old part : KeptRanges) (keeper : ℕ) (result : Result KeptRanges E) → IsPartAgain old keeper part → IfOk result (λ k. k ≡ record part { count = part.count + 1 }) → IfOk result (IsOnceMore old (Some keeper))
+ended_again old part keeper (Ok k) again e = λ spans list. subst (IsWithUnit old spans) (sym e) (unit_ended old part spans (again spans list))
+ended_again old part keeper (Err e) again ended = tt
+
+-- ---- what is told of parts, by their units
+
+covering_by : (units : List ℕ) (all : OwnedRanges) (addr : ℕ) → units_covering (all_by_units units all) addr ≡ map (unit_of units) (units_covering all addr)
+covering_by units all addr =
+    ap (λ (l : List Span). owners_of (by_units units all.ranges) (covering l addr)) (items_by units all.ranges)
+    ∙ owners_by units all.ranges (covering (items_of all.ranges) addr)
+
+pub told_by : (units : List ℕ) (all : OwnedRanges) (addr : ℕ) → units_to_tell units (to_tell all addr) ≡ to_tell (all_by_units units all) addr
+told_by units all addr =
+    ap (λ (l : List ℕ). record { announced = all_by_units units all; address = addr; left = l; fresh = true }) (sym (covering_by units all addr))
+
+pub few_by : (units : List ℕ) (all : OwnedRanges) (looks : ℕ) → TakesFew all looks → TakesFew (all_by_units units all) looks
+few_by units all looks few = λ ordered apart.
+    rw (length-map {B = Owned Span} all.ranges (λ (x : Owned Span). record { item = x.item; owner = unit_of units x.owner })) (few ordered (subst AreApart (items_by units all.ranges) apart))
+
 -- ---- units that are left out
 
 holds_by : (f : ℕ → ℕ) (list : List ℕ) (n : ℕ) → Holds list n → Holds (map f list) (f n)
@@ -117,3 +145,11 @@ pub leaves_by : (f : ℕ → ℕ) (before all few : List ℕ) → LeavesOut befo
 leaves_by f before [] few out = ap (map f) out
 leaves_by f before (n ∷ all) few (inl h) = inl (holds_by f before n h.0, leaves_by f before all few h.1)
 leaves_by f before (n ∷ all) few (inr h) = inr (map f h.0, ap (map f) h.1, leaves_by f (n ∷ before) all h.0 h.2)
+
+pub once_by : (a : AnnouncedParts) (units : List ℕ) (addr : ℕ) (parts : Announcing) → ArePartsOnce a addr parts → IsOnce (announced_by_units a units) addr (units_to_tell units parts)
+once_by a units addr parts once = record {
+  announced = ap (all_by_units units) once.announced;
+  address = once.address;
+  fresh = once.fresh;
+  without = rw (covering_by units (all_of_parts a) addr) (leaves_by (unit_of units) [] (units_covering (all_of_parts a) addr) parts.left once.without);
+}
