@@ -1,6 +1,6 @@
 -- One part more among those whose lists are kept once.
 use Rattle.std.proofs.Common.{◌≡◌, ℕ, suc, ◌+◌, ◌-◌, ◌<◌, ◌≤◌, eqb, List, [], ◌∷◌, ◌++◌, length, map, drop, get_or, Some, refl, sym, ap, subst, ◌∙◌, append_assoc, length-append, arith, inl, inr, ◌⊎◌}
-use Rattle.std.specs.Prelude.{true, Option, None, IfSome, is_some}
+use Rattle.std.specs.Prelude.{Option, None}
 use Rattle.std.specs.List.{slice_get}
 use Rattle.std.proofs.lemmas.Bool.{cases_Bool, eq-eqb, ne_eqb}
 use Rattle.std.proofs.lemmas.List.{append-nil}
@@ -269,7 +269,7 @@ again_others : (k : KeptParts) (keeper : ℕ) (list : List Span) (o : Option ℕ
 again_others k keeper list None h = h
 again_others k keeper list (Some n) h = (in_front k.keepers (keeper ∷ []) n n h.0, h.1)
 
-pub again_part : (k : KeptParts) (have : HaveKeepers k.ranges k.keepers) (keeper : ℕ) → IsSamePartMore k (Some keeper) (record { ranges = k.ranges; keepers = k.keepers ++ keeper ∷ [] })
+pub again_part : (k : KeptParts) (have : HaveKeepers k.ranges k.keepers) (keeper : ℕ) → IsSamePartMore k keeper (record { ranges = k.ranges; keepers = k.keepers ++ keeper ∷ [] })
 again_part k have keeper = λ spans list. record {
   all = again_all k.ranges k.keepers have keeper spans list.1;
   count = length-append k.keepers (keeper ∷ []);
@@ -348,9 +348,8 @@ none_kept k parts ends repeats = record {
 }
 
 -- one part more, with the keeper of its list
-pub known_part : (old new : KeptParts) (spans : List Span) (keeper : Option ℕ) → IfSome keeper (λ k. IsPartList old spans (Some k)) → is_some keeper ≡ true → IsSamePartMore old keeper new → IsKeptPartMore old spans (new, keeper)
-known_part old new spans None list some more = absurd cc
-known_part old new spans (Some k) list some more = let w = more spans list in record { with_part = w; list = w.others spans (Some k) list }
+pub known_part : (old new : KeptParts) (spans : List Span) (keeper : ℕ) → IsPartList old spans (Some keeper) → IsSamePartMore old keeper new → IsKeptPartMore old spans (new, Some keeper)
+known_part old new spans keeper list more = let w = more spans list in record { with_part = w; list = w.others spans (Some keeper) list }
 
 pub none_part : (old new : KeptParts) (spans : List Span) → IsOnePartMore old spans new → length spans ≡ 0 → IsKeptPartMore old spans (new, None)
 none_part old new [] w e = record { with_part = w; list = refl }

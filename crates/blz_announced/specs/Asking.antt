@@ -1,12 +1,10 @@
 -- What is asked of the ranges that a question sees.
-use Rattle.std.specs.Prelude.{◌≡◌, ℕ, ◌<◌, ◌≤◌, ◌+◌, ◌*◌, ◌^◌, true, List, length, Option, Some}
+use Rattle.std.specs.Prelude.{◌≡◌, ℕ, ◌<◌, ◌≤◌, true, List, length, Option, Some}
 use Rattle.std.specs.List.{slice_get}
 use Rattle.blz_ranges.specs.declared.placed.Placed.{Placed}
 use Rattle.blz_ranges.specs.declared.span.Span.{Span}
 use Rattle.blz_ranges.specs.Best.{next_after}
-use Rattle.blz_ranges.specs.Groups.{AreApart}
 use Rattle.blz_ranges.specs.Owned.{Owned, items_of}
-use Rattle.blz_ranges.specs.Ranges.{OwnedRanges}
 use Rattle.blz_announced.specs.Announced.{Announcing, TakesFew}
 use Rattle.blz_announced.specs.Turns.{is_first, turn_place, parts_left}
 use Rattle.blz_announced.specs.Copies.{all_of_parts, up_to, AnnouncedParts, HaveKeepers, IsBehind, IsBestOfAll, IsNextOwn, IsPlaced, StandsFor}

@@ -1,5 +1,5 @@
--- What parts announce, kept once for those that announce one list, and all that it stands for. The first of such parts is
--- the keeper of each of them, and what is kept belongs to keepers.
+-- What the parts of units announce, kept once for those that announce one list, and all that it stands for. The first of
+-- such parts is the keeper of each of them, and what is kept belongs to keepers.
 use Rattle.std.specs.Prelude.{◌≡◌, ℕ, zero, suc, ◌+◌, ◌<◌, ◌≤◌, Bool, true, false, List, [], ◌∷◌, ◌++◌, length, drop, map, Option, Some, None, IfSome, ◌⊎◌, ◌&&◌, ◌==◌, nat_lt, if◌then◌else◌, option_map, unwrap_or}
 use Rattle.std.specs.List.{slice_get}
 use Rattle.std.specs.List.Sorted.{IsNonDecreasingBy}
@@ -152,8 +152,8 @@ pub record IsOnePartMore (old : KeptParts) (spans : List Span) (new : KeptParts)
   pub others : (list : List Span) (keeper : Option ℕ) → IsPartList old list keeper → IsPartList new list keeper
 
 -- one part more, which announces what one with a keeper does
-abbrev pub IsSamePartMore : KeptParts → Option ℕ → KeptParts → Type 0
-IsSamePartMore old keeper new = (spans : List Span) → IsPartList old spans keeper → IsOnePartMore old spans new
+abbrev pub IsSamePartMore : KeptParts → ℕ → KeptParts → Type 0
+IsSamePartMore old keeper new = (spans : List Span) → IsPartList old spans (Some keeper) → IsOnePartMore old spans new
 
 -- one part more, with its keeper
 pub record IsKeptPartMore (old : KeptParts) (spans : List Span) (new : KeptParts × Option ℕ) : Type 0 where

@@ -82,10 +82,10 @@ impl KeptParts {
         }
     }
 
-    /// One part more, with the keeper of another one.
-    fn with_keeper(mut self, keeper: usize) -> Result<KeptParts, AllocError>
+    /// One part more, which announces what one with a keeper does.
+    pub fn again(mut self, keeper: usize) -> Result<KeptParts, AllocError>
         requires { slice_get self.keepers keeper ≡ Some keeper }
-        ensures { IfOk result (IsSamePartMore self (Some keeper)) }
+        ensures { IfOk result (IsSamePartMore self keeper) }
     {
         let part = self.keepers.of_parts.len();
         self.keepers.of_parts.push(keeper)?;
@@ -109,25 +109,13 @@ impl KeptParts {
         Ok(self)
     }
 
-    /// One part more, which announces what one with a keeper does, and nothing without one.
-    pub fn again(self, keeper: Option<usize>) -> Result<KeptParts, AllocError>
-        requires { IfSome keeper (λ k. slice_get self.keepers k ≡ Some k) }
-        ensures { IfOk result (IsSamePartMore self keeper) }
-    {
-        match keeper {
-            Some(keeper) => self.with_keeper(keeper),
-            None => self.with_list(&[]),
-        }
-    }
-
     /// One part more, which announces some ranges, and the keeper that it has where these are any.
     pub fn with_part(self, spans: &[Span]) -> Result<(KeptParts, Option<usize>), AllocError>
         ensures { IfOk result (IsKeptPartMore self spans.now) }
     {
-        let known = self.keeper_of(spans);
-        if known.is_some() {
-            let ranges = self.again(known)?;
-            return Ok((ranges, known));
+        if let Some(keeper) = self.keeper_of(spans) {
+            let ranges = self.again(keeper)?;
+            return Ok((ranges, Some(keeper)));
         }
         let part = self.keepers.of_parts.len();
         let ranges = self.with_list(spans)?;

@@ -62,7 +62,7 @@ impl KeptRanges {
         ensures { IfOk result (IsPartAgain self keeper) }
     {
         let units = noted(self.units, self.parts.count(), self.count)?;
-        let parts = self.parts.again(Some(keeper))?;
+        let parts = self.parts.again(keeper)?;
         Ok(KeptRanges {
             parts,
             units,
@@ -70,7 +70,7 @@ impl KeptRanges {
         })
     }
 
-    /// The unit that is read ends. No memory holds as many units as cannot be counted.
+    /// The unit that is read ends. Only more units than can be counted are refused, for which no memory is enough.
     pub fn end_unit(self) -> Result<KeptRanges, AllocError>
         ensures { IfOk result (λ k. k ≡ record self { count = self.count + 1 }) }
     {
@@ -111,7 +111,7 @@ impl KeptRanges {
     }
 
     /// What the parts announce, and the units of these.
-    pub fn into_parts(self) -> (KeptParts, Vec<usize>)
+    pub(crate) fn into_parts(self) -> (KeptParts, Vec<usize>)
         ensures parts { result.0 ≡ parts_kept self }
         ensures units { result.1.items ≡ self.units }
     {

@@ -12,9 +12,5 @@ mod parts_at;
 mod units_at;
 
 pub use announced::Announced;
-pub use announced_parts::{AnnouncedParts, Place};
-pub use keepers::Keepers;
-pub use kept_parts::KeptParts;
 pub use kept_ranges::KeptRanges;
-pub use parts_at::PartsAt;
 pub use units_at::UnitsAt;

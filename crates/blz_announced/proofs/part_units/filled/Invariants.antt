@@ -1,4 +1,3 @@
-use Rattle.std.proofs.Common.{◌≡◌}
 use Rattle.blz_announced.specs.Units.{IsFilled}
 use Rattle.blz_announced.proofs.part_units.filled.Given as goal
 

@@ -2,7 +2,7 @@ use Rattle.std.proofs.Common.{◌≡◌, Some, arith, subst, sym}
 use Rattle.std.specs.List.{slice_get}
 use Rattle.blz_announced.specs.Copies.{KeptParts}
 use Rattle.blz_announced.proofs.RowSteps.{again_kept, again_part}
-use Rattle.blz_announced.proofs.kept_parts.KeptParts.with_keeper.Goals as goal
+use Rattle.blz_announced.proofs.kept_parts.KeptParts.again.Goals as goal
 
 pub invariant_of-self : goal.invariant_of-self
 invariant_of-self c =
