@@ -1,5 +1,5 @@
 -- The units of parts, and ranges told by them.
-use Rattle.std.proofs.Common.{◌≡◌, ℕ, zero, suc, ◌+◌, ◌<◌, ◌≤◌, List, [], ◌∷◌, ◌++◌, length, map, Option, Some, None, refl, sym, ap, subst, ◌∙◌, arith, inl, inr, length-append}
+use Rattle.std.proofs.Common.{◌≡◌, ℕ, zero, suc, ◌+◌, ◌<◌, ◌≤◌, List, [], ◌∷◌, ◌++◌, length, map, Option, Some, None, refl, sym, ap, subst, ◌∙◌, arith, inl, inr, append_assoc, length-append}
 use Rattle.std.specs.Prelude.{unwrap_or, option_map, true, IfOk, Result, Ok, Err}
 use Rattle.std.specs.List.{slice_get}
 use Rattle.std.specs.Option.{option_to_list}
@@ -14,7 +14,7 @@ use Rattle.blz_ranges.proofs.ListEnds.{at_end}
 use Rattle.blz_announced.specs.Announced.{to_tell, units_covering, Announcing, TakesFew}
 use Rattle.blz_announced.specs.Copies.{all_kept_parts, all_of_parts, all_ranges, copies, AnnouncedParts, Copy, IsOnePartMore, KeptParts}
 use Rattle.blz_announced.specs.Seen.{ArePartsOnce, Holds, LeavesOut}
-use Rattle.blz_announced.specs.Units.{all_by_units, announced_by_units, by_units, kept_by_units, parts_kept, unit_of, units_to_tell, IsFilled, IsNoted, IsOnce, IsOnceMore, IsPartAgain, IsWithPart, IsWithUnit, KeptRanges, TellAlike}
+use Rattle.blz_announced.specs.Units.{all_by_units, all_kept, announced_by_units, by_units, kept_by_units, parts_kept, unit_of, units_to_tell, IsFilled, IsNoted, IsOnce, IsOnceMore, IsPartAgain, IsWithPart, IsWithUnit, KeptRanges, TellAlike}
 use Rattle.blz_announced.proofs.Copies.{are_copies}
 use Rattle.blz_announced.proofs.NextCopies.{mapped}
 
@@ -114,7 +114,20 @@ part_more old spans parts units more noted = record {
 
 -- ---- one unit more
 
-unit_ended : (old part : KeptRanges) (spans : List Span) → IsWithPart old spans part → IsWithUnit old spans (record part { count = part.count + 1 })
+-- what several parts announce one behind the other
+pub parts_joined : (old between new : KeptRanges) (first last : List Span) → IsWithPart old first between → IsWithPart between last new → IsWithPart old (first ++ last) new
+parts_joined old between new first last one two = record {
+  all =
+      two.all
+      ∙ ap (λ (n : ℕ). all_kept between ++ own_all n last) one.count
+      ∙ ap (λ (l : List (Owned Span)). l ++ own_all old.count last) one.all
+      ∙ append_assoc (all_kept old) (own_all old.count first) (own_all old.count last)
+      ∙ ap (λ (l : List (Owned Span)). all_kept old ++ l) (sym (map-append (λ (s : Span). record { item = s; owner = old.count }) first last));
+  count = two.count ∙ one.count;
+  others = λ list keeper is. two.others list keeper (one.others list keeper is);
+}
+
+pub unit_ended : (old part : KeptRanges) (spans : List Span) → IsWithPart old spans part → IsWithUnit old spans (record part { count = part.count + 1 })
 unit_ended old part spans w = record { all = w.all; count = ap (λ (n : ℕ). n + 1) w.count; others = w.others }
 
 pub ended_again : {E : Type 0} (old part : KeptRanges) (keeper : ℕ) (result : Result KeptRanges E) → IsPartAgain old keeper part → IfOk result (λ k. k ≡ record part { count = part.count + 1 }) → IfOk result (IsOnceMore old (Some keeper))
