@@ -1,4 +1,5 @@
 pub mod RangeSteps
+pub mod FreeTails
 pub mod Settled
 pub mod FoldSteps
 pub mod RangesSettled

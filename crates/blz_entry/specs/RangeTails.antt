@@ -1,7 +1,7 @@
 -- Lists of ranges, entry by entry.
-use Rattle.std.specs.Prelude.{ℕ, ◌+◌, List, [], Option, Some, None, ◌==◌, if◌then◌else◌}
-use Rattle.blz_model.specs.Reads.{◌>>=◌}
-use Rattle.blz_entry.specs.RangeLists.{base_behind, is_end, list_length, range_entry_at, spans_in, spelled}
+use Rattle.std.specs.Prelude.{◌≡◌, ℕ, ◌+◌, Bool, false, List, [], Option, Some, None, ◌==◌, if◌then◌else◌}
+use Rattle.blz_model.specs.Reads.{Read, ◌>>=◌}
+use Rattle.blz_entry.specs.RangeLists.{base_behind, counts_from_base, is_end, list_length, range_entry_at, spans_in, spelled}
 use Rattle.blz_entry.specs.declared.range_list.RangeEntry.{RangeEntry}
 use Rattle.blz_entry.specs.declared.range_tail.RangeTail.{RangeTail}
 use Rattle.blz_entry.specs.declared.root.UnitRoot.{UnitRoot}
@@ -23,3 +23,18 @@ tail_behind h t e = if is_end e.0 then None else Some (spelled h.version h.addre
 
 unfoldable pub tail_step : Sections → UnitHeader → UnitRoot → RangeTail → Option (Option (Option Span × RangeTail))
 tail_step s h root t = if t.place == list_length s h then Some None else (range_entry_at s h root t.place >>= λ e. Some (tail_behind h t e))
+
+-- ---- what offsets are added to
+
+abbrev pub if_it_counts : Read RangeEntry → Bool
+if_it_counts None = false
+if_it_counts (Some e) = counts_from_base e.0
+
+-- whether the range of the entry at a place counts from the base
+unfoldable pub entry_counts : Sections → UnitHeader → UnitRoot → ℕ → Bool
+entry_counts s h root place = if_it_counts (range_entry_at s h root place)
+
+-- The list from a place on has the same ranges whatever offsets are added to there.
+abbrev pub IsFree : Sections → UnitHeader → UnitRoot → ℕ → Type 0
+IsFree s h root place = (base other : ℕ)
+    → tail_spans s h root (record { place = place; base = base }) ≡ tail_spans s h root (record { place = place; base = other })

@@ -3,7 +3,7 @@ ghost use Rattle.std.specs.Prelude.{◌≡◌, ◌≤◌, ◌<◌, ◌+◌, ◌^
 ghost use Rattle.std.specs.Option.{option_to_list};
 ghost use Rattle.blz_error.specs.declared.kind.ErrorKind.TheVariants.{OutOfMemory};
 ghost use Rattle.blz_info.specs.Contents.{section_view};
-ghost use Rattle.blz_entry.specs.RangeLists.{greatest, is_dead, live, spelled, base_behind, is_end, pair_meaning, pair_at, base_of_index, both_by_index, begin_by_index, offset_pair, base_address, begin_and_end, begin_and_length, coded_entry, coded_entry_at, range_entry_at, list_length};
+ghost use Rattle.blz_entry.specs.RangeLists.{greatest, is_dead, live, spelled, base_behind, is_end, counts_from_base, pair_meaning, pair_at, base_of_index, both_by_index, begin_by_index, offset_pair, base_address, begin_and_end, begin_and_length, coded_entry, coded_entry_at, range_entry_at, list_length};
 
 use crate::addresses::address_of;
 use crate::root::UnitRoot;
@@ -107,6 +107,15 @@ pub(crate) fn is_end(entry: RangeEntry) -> bool
 {
     match entry {
         RangeEntry::End => true,
+        _ => false,
+    }
+}
+
+pub(crate) fn counts_from_base(entry: RangeEntry) -> bool
+    ensures { result ≡ counts_from_base entry }
+{
+    match entry {
+        RangeEntry::Offsets(..) => true,
         _ => false,
     }
 }

@@ -3,9 +3,11 @@ ghost use Rattle.std.specs.Prelude.{◌≡◌, MatchResult, Some, take, vec_len}
 ghost use Rattle.blz_model.specs.Part.{Exactly, Fails};
 ghost use Rattle.blz_info.specs.Marks.{or_invalid};
 ghost use Rattle.blz_entry.specs.RangeLists.{joined, spans_at};
-ghost use Rattle.blz_entry.specs.RangeTails.{list_tail, tail_step};
+ghost use Rattle.blz_entry.specs.RangeTails.{entry_counts, list_tail, tail_step};
 
-use crate::range_list::{base_behind, is_end, list_length, put, range_entry_at, spelled};
+use crate::range_list::{
+    base_behind, counts_from_base, is_end, list_length, put, range_entry_at, spelled,
+};
 use crate::root::UnitRoot;
 use blz_error::Result;
 use blz_info::{Sections, UnitHeader, invalid};
@@ -54,6 +56,22 @@ impl RangeTail {
         let span = spelled(header.version, header.address_size, self.base, entry);
         let base = base_behind(self.base, entry);
         Ok(Some((span, RangeTail { place, base })))
+    }
+
+    /// Whether the range of the entry counts from what offsets are added to.
+    #[tactic(auto, unfolding(crate::specs::RangeTails::entry_counts))]
+    pub fn counts_from_base(
+        self,
+        sections: &Sections<'_, '_>,
+        header: &UnitHeader,
+        root: &UnitRoot,
+    ) -> bool
+        ensures { result ≡ entry_counts sections.now header.now root.now self.place }
+    {
+        match range_entry_at(sections, header, root, self.place) {
+            Some((entry, _)) => counts_from_base(entry),
+            None => false,
+        }
     }
 }
 

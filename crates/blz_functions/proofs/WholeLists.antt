@@ -5,7 +5,6 @@ use Rattle.std.specs.BTreeMap.{IsEmpty}
 use Rattle.std.specs.Ordering.{nat_cmp}
 use Rattle.std.proofs.lemmas.Bool.{ltb-false}
 use Rattle.std.proofs.lemmas.List.{drop-drop, take_rest}
-use Rattle.std.proofs.lemmas.List.Elements.{All-weaker}
 use Rattle.blz_entry.specs.RangeLists.{joined}
 use Rattle.blz_entry.specs.RangeTails.{list_tail}
 use Rattle.blz_entry.specs.declared.range_tail.RangeTail.{RangeTail}
@@ -13,11 +12,11 @@ use Rattle.blz_entry.proofs.RangeSteps.{joined_nothing}
 use Rattle.blz_ranges.specs.declared.span.Span.{Span}
 use Rattle.blz_functions.specs.Leaves.{UnitParts, spans_behind}
 use Rattle.blz_functions.specs.Pieces.{HasSpans}
-use Rattle.blz_functions.specs.ReadLists.{ArePassed, IsPassed}
+use Rattle.blz_functions.specs.ReadLists.{ArePassed, IsPassedEntry, IsUse}
 use Rattle.blz_functions.specs.WholeLists.{BeginsIn, IsEntryIn, IsWholeAt, MayIndexLast, last_spans}
 use Rattle.blz_functions.specs.declared.read_lists.PassedEntry.{PassedEntry}
 use Rattle.blz_functions.specs.declared.whole_list.WholeList.{WholeList}
-use Rattle.blz_functions.proofs.ReadLists.{if_empty}
+use Rattle.blz_functions.proofs.ReadLists.{both, if_empty}
 
 no_spans : (xs : List Span) → nat_lt 0 (length xs) ≡ false → xs ≡ []
 no_spans [] e = refl
@@ -32,12 +31,12 @@ pub whole_read : (u : UnitParts) (offset : ℕ) (l : WholeList) (old : List Span
 whole_read u offset l old some h start nothing empty =
     let none = no_spans h.known.spans (sym h.known.flag ∙ nothing) in
     let put = l.spans.items in
-    let each = λ (p : PassedEntry) (k : IsPassed u (length old) put h.rest p). passed_all u put h.known.spans h.rest p.tail p.before k.spans h.known.is none in
+    let each = λ (p : PassedEntry) (k : IsPassedEntry u (length old) put h.rest p) (b : IsUse u p). record { begins = passed_all u put h.known.spans h.rest p.tail p.before k.spans h.known.is none; base = b } in
     let front : drop (length old) put ≡ put = rw start refl in
     record {
       is = passed_all u put h.known.spans h.rest (list_tail u.root offset) (length old) h.whole.spans h.known.is none ∙ ap (λ (xs : List Span). Some xs) front;
       whole = record {
-        entries = All-weaker (IsPassed u (length old) put h.rest) (IsEntryIn u put) each l.entries.items h.each;
+        entries = both (IsPassedEntry u (length old) put h.rest) (IsUse u) (IsEntryIn u put) each l.entries.items h.each h.uses;
         tails = if_empty nat_cmp l.tails (MayIndexLast put) empty;
       };
     }

@@ -14,6 +14,7 @@ use Rattle.blz_ranges.specs.declared.span.Span.{Span}
 use Rattle.blz_functions.specs.KeptList.{KeptList}
 use Rattle.blz_functions.specs.Leaves.{UnitParts, spans_behind}
 use Rattle.blz_functions.specs.Pieces.{list_at}
+use Rattle.blz_functions.specs.ReadLists.{IsUse}
 use Rattle.blz_functions.specs.declared.read_lists.PassedEntry.{PassedEntry}
 use Rattle.blz_functions.specs.declared.whole_list.WholeList.{WholeList}
 
@@ -21,8 +22,13 @@ use Rattle.blz_functions.specs.declared.whole_list.WholeList.{WholeList}
 abbrev pub BeginsIn : UnitParts → List Span → RangeTail → ℕ → Type 0
 BeginsIn u spans tail before = spans_behind u tail ≡ Some (drop before spans)
 
-abbrev pub IsEntryIn : UnitParts → List Span → PassedEntry → Type 0
-IsEntryIn u spans p = BeginsIn u spans p.tail p.before
+pub record IsEntryIn (u : UnitParts) (spans : List Span) (p : PassedEntry) : Type 0 where
+  pub begins : BeginsIn u spans p.tail p.before
+  pub base : IsUse u p
+
+-- A list is the one that begins at an entry.
+abbrev pub IsListAt : PassedEntry → RangeTail → Type 0
+IsListAt p tail = (u : UnitParts) → IsUse u p → spans_behind u tail ≡ spans_behind u p.tail
 
 -- the last ranges of a list
 abbrev pub last_spans : List Span → ℕ → List Span

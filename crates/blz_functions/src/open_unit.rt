@@ -6,7 +6,7 @@ ghost use Rattle.blz_info.specs.Marks.{or_invalid};
 ghost use Rattle.blz_entry.specs.RangeLists.{Appends};
 ghost use Rattle.blz_entry.specs.RangeTails.{list_tail};
 ghost use Rattle.blz_info.specs.Walks.{walk_from};
-ghost use Rattle.blz_functions.specs.Leaves.{entry_behind, string_in, range_step_in, ranges_in, source_in};
+ghost use Rattle.blz_functions.specs.Leaves.{counts_at, entry_behind, string_in, range_step_in, ranges_in, source_in};
 ghost use Rattle.blz_functions.specs.Opened.{open_view, CanBeOpened};
 
 use blz_entry::{
@@ -73,5 +73,12 @@ impl<'s, 'b> OpenUnit<'s, 'b> {
         ensures { Exactly (λ n. n) result (or_invalid (entry_behind (open_view self.now) list)) }
     {
         list.next(&self.sections, &self.header, &self.root)
+    }
+
+    /// Whether the range of the entry that a list begins with counts from what offsets are added to.
+    pub(crate) fn counts_from_base(&self, list: RangeTail) -> bool
+        ensures { result ≡ counts_at (open_view self.now) list }
+    {
+        list.counts_from_base(&self.sections, &self.header, &self.root)
     }
 }

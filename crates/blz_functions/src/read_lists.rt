@@ -1,6 +1,5 @@
 //! Lists of ranges that were read: what follows one of their entries is not read again with the same base.
 ghost use Rattle.std.specs.Prelude.{◌≡◌, ◌++◌, ◌∷◌, [], List, IfSome, IfOk, OnOk, None, false, length, take, vec_len};
-ghost use Rattle.std.specs.BTreeMap.{IsEmpty};
 ghost use Rattle.std.specs.List.{All};
 ghost use Rattle.std.specs.Option.{option_to_list};
 ghost use Rattle.blz_ranges.specs.declared.span.Span.{Span};
@@ -8,7 +7,7 @@ ghost use Rattle.blz_ranges.specs.Owned.{Owned};
 ghost use Rattle.blz_entry.specs.RangeTails.{list_tail};
 ghost use Rattle.blz_functions.specs.Leaves.{UnitParts, ranges_in, spans_behind};
 ghost use Rattle.blz_functions.specs.Opened.{open_view};
-ghost use Rattle.blz_functions.specs.ReadLists.{AppendsFew, AppendsRead, AreRead, IsKept, IsRead, KeepsRead, passed_entry, PassesTo};
+ghost use Rattle.blz_functions.specs.ReadLists.{AppendsFew, AppendsRead, AreRead, IsKept, IsKnownList, IsNothing, IsRead, IsUse, IsUseAt, KeepsPassed, KeepsRead, KeepsUses, LeadsOn, PassesEntry, PassesTo, is_unused};
 
 use crate::open_unit::OpenUnit;
 use blz_entry::{RangeAttributes, RangeTail, Span};
@@ -16,19 +15,53 @@ use blz_error::Result;
 use std::alloc::{AllocError, Global};
 use std::collections::BTreeMap;
 
-/// An entry of a list of ranges that was read, and how many ranges stood before its own.
+/// How a list depends on what offsets are added to where one of its entries lies.
+#[derive(Clone, Copy, Drop)]
+pub(crate) enum BaseUse {
+    /// The range of the entry may count from it.
+    MayCount,
+    /// As the list behind the entry does.
+    AsBehind,
+    /// Not at all.
+    Unused,
+}
+
+impl BaseUse {
+    pub(crate) fn is_unused(self) -> bool
+        ensures { result ≡ is_unused self }
+    {
+        match self {
+            BaseUse::Unused => true,
+            BaseUse::MayCount | BaseUse::AsBehind => false,
+        }
+    }
+}
+
+/// An entry of a list of ranges that was read, how many ranges stood before its own, and where the next entry lies.
 #[derive(Clone, Copy, Drop)]
 pub(crate) struct PassedEntry {
     pub(crate) tail: RangeTail,
     pub(crate) before: usize,
+    pub(crate) behind: usize,
+    pub(crate) base: BaseUse,
 }
 
-/// The lists of ranges that were read, by where they begin and by what offsets are added to there, and whether each tells
-/// a range. A list that begins within another one is read with it.
+/// What is known of a list: whether it tells a range, and whether it is the same whatever offsets are added to.
+#[derive(Clone, Copy, Drop)]
+pub(crate) struct KnownList {
+    some: bool,
+    free: bool,
+}
+
+/// The lists of ranges that were read, and whether each tells a range. A list that begins within another one is read
+/// with it.
 #[derive(Drop)]
 pub struct ReadLists {
     alloc: Global,
-    tell: BTreeMap<(usize, u64), bool>,
+    /// By where they begin, and by what offsets are added to there.
+    based: BTreeMap<(usize, u64), bool>,
+    /// By where they begin: those that are the same whatever offsets are added to.
+    free: BTreeMap<usize, bool>,
 }
 
 /// A list of no more entries is read anew each time: that takes less than to keep it.
@@ -68,49 +101,111 @@ pub(crate) fn append_few(
     Ok(None)
 }
 
-/// Notes an entry of a list, and puts its range behind others.
+/// How a list depends on what offsets are added to, by its first entry, which leads to another one.
+fn base_use(unit: &OpenUnit<'_, '_>, tail: RangeTail, next: RangeTail) -> BaseUse
+    requires { LeadsOn (open_view unit.now) tail next }
+    ensures { IsUseAt (open_view unit.now) tail.place next.place result }
+{
+    if next.base != tail.base {
+        return BaseUse::Unused;
+    }
+    if unit.counts_from_base(tail) {
+        BaseUse::MayCount
+    } else {
+        BaseUse::AsBehind
+    }
+}
+
+/// Tells of each entry that was passed whether its list is the same whatever offsets are added to, where that is known
+/// of the list behind them all, which begins at a place.
+fn settle_bases(passed: &mut Vec<PassedEntry>, place: usize, free: bool)
+    ensures passed { KeepsPassed passed.old.items passed.new.items }
+    ensures uses { KeepsUses free place passed.old.items passed.new.items }
+{
+    let mut at = passed.len();
+    let mut place = place;
+    let mut free = free;
+    while at > 0 {
+        at -= 1;
+        let entry = passed[at];
+        free = match entry.base {
+            BaseUse::MayCount => false,
+            BaseUse::AsBehind => free && entry.behind == place,
+            BaseUse::Unused => true,
+        };
+        if free {
+            let base = BaseUse::Unused;
+            passed[at] = PassedEntry { base, ..entry };
+        }
+        place = entry.tail.place;
+    }
+}
+
+/// Notes an entry of a list that leads to another one.
 fn pass_entry(
+    unit: &OpenUnit<'_, '_>,
     passed: &mut Vec<PassedEntry>,
     tail: RangeTail,
-    span: Option<Span>,
-    out: &mut Vec<Span>,
+    next: RangeTail,
+    before: usize,
 ) -> std::result::Result<(), AllocError>
-    ensures passed { OnOk result (passed.new.items ≡ passed.old.items ++ passed_entry tail (length out.old.items) ∷ []) }
-    ensures put { OnOk result (out.new.items ≡ out.old.items ++ option_to_list span) }
+    requires { LeadsOn (open_view unit.now) tail next }
+    ensures { OnOk result (PassesEntry (open_view unit.now) passed.old.items passed.new.items tail before) }
 {
-    let before = out.len();
-    passed.push(PassedEntry { tail, before })?;
-    put(out, span)
+    let base = base_use(unit, tail, next);
+    passed.push(PassedEntry {
+        tail,
+        before,
+        behind: next.place,
+        base,
+    })?;
+    Ok(())
 }
 
 impl ReadLists {
     pub(crate) fn new(alloc: Global) -> ReadLists
         ensures read { (u : UnitParts) (ranges : List (Owned Span)) → AreRead u ranges result }
-        ensures empty { IsEmpty result.tell }
+        ensures nothing { IsNothing result }
     {
         ReadLists {
             alloc,
-            tell: BTreeMap::new(alloc),
+            based: BTreeMap::new(alloc),
+            free: BTreeMap::new(alloc),
         }
     }
 
-    /// Whether no list was read but such as have few entries.
-    pub(crate) fn is_empty(&self) -> bool {
-        self.tell.is_empty()
+    /// What is known of a list, if it was read.
+    fn find(&self, tail: RangeTail) -> Option<KnownList>
+        ensures read { (u : UnitParts) (ranges : List (Owned Span)) → AreRead u ranges self.now → IfSome result (IsKnownList u ranges tail) }
+        ensures none { IsNothing self.now → result ≡ None }
+    {
+        if let Some(some) = self.free.get(&tail.place) {
+            return Some(KnownList {
+                some: *some,
+                free: true,
+            });
+        }
+        match self.based.get(&(tail.place, tail.base)) {
+            Some(some) => Some(KnownList {
+                some: *some,
+                free: false,
+            }),
+            None => None,
+        }
     }
 
-    /// Whether a list tells a range, if it was read.
-    fn find(&self, tail: RangeTail) -> Option<bool>
-        ensures read { (u : UnitParts) (ranges : List (Owned Span)) → AreRead u ranges self.now → IfSome result (IsRead u ranges tail) }
-        ensures none { IsEmpty self.now.tell → result ≡ None }
+    /// Keeps of an entry whether its list tells a range.
+    fn keep(&mut self, entry: &PassedEntry, some: bool) -> std::result::Result<(), AllocError>
+        ensures { OnOk result (KeepsRead self.old self.new (λ u ranges. IsRead u ranges entry.now.tail some × IsUse u entry.now)) }
     {
-        self.tell.get(&(tail.place, tail.base)).copied()
-    }
-
-    fn keep(&mut self, tail: RangeTail, some: bool) -> std::result::Result<(), AllocError>
-        ensures { OnOk result (KeepsRead self.old self.new (λ u ranges. IsRead u ranges tail some)) }
-    {
-        self.tell.insert((tail.place, tail.base), some)?;
+        match entry.base {
+            BaseUse::Unused => {
+                self.free.insert(entry.tail.place, some)?;
+            },
+            BaseUse::MayCount | BaseUse::AsBehind => {
+                self.based.insert((entry.tail.place, entry.tail.base), some)?;
+            },
+        }
         Ok(())
     }
 
@@ -125,7 +220,7 @@ impl ReadLists {
         ensures { OnOk result (KeepsRead self.old self.new (λ u ranges. All (IsKept u ranges end some) passed.now)) }
     {
         for entry in passed {
-            self.keep(entry.tail, some || entry.before < end)?;
+            self.keep(entry, some || entry.before < end)?;
         }
         Ok(())
     }
@@ -142,19 +237,24 @@ impl ReadLists {
         requires { passed.old.items ≡ [] }
         ensures value { PassesTo (open_view unit.now) self.now (list_tail unit.now.root offset) out.old.items out.new.items passed.new.items result }
         ensures front { OnOk result (take (vec_len out.old) out.new.items ≡ out.old.items) }
-        ensures none { IsEmpty self.now.tell → IfOk result (λ some. some ≡ false) }
+        ensures none { IsNothing self.now → IfOk result (λ some. some ≡ false) }
     {
         let mut tail = unit.ranges_at(offset);
         loop {
-            if let Some(some) = self.find(tail) {
-                return Ok(some);
+            if let Some(known) = self.find(tail) {
+                settle_bases(passed, tail.place, known.free);
+                return Ok(known.some);
             }
             let (span, behind) = match unit.next_range(tail) {
                 Ok(Some(entry)) => entry,
-                Ok(None) => return Ok(false),
+                Ok(None) => {
+                    settle_bases(passed, tail.place, true);
+                    return Ok(false);
+                },
                 Err(fault) => return Err(fault),
             };
-            pass_entry(passed, tail, span, out)?;
+            pass_entry(unit, passed, tail, behind, out.len())?;
+            put(out, span)?;
             tail = behind;
         }
     }

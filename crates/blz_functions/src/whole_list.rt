@@ -3,7 +3,7 @@ ghost use Rattle.std.specs.Prelude.{◌≡◌, ◌≤◌, true, drop, length, If
 ghost use Rattle.std.specs.Arc.{arc_value};
 ghost use Rattle.blz_functions.specs.Leaves.{UnitParts};
 ghost use Rattle.blz_functions.specs.Opened.{open_view};
-ghost use Rattle.blz_functions.specs.WholeLists.{BeginsIn, IsWhole, KeepsWhole, MayGive, MayGiveTail, MayIndexLast, ReadsWhole, last_spans};
+ghost use Rattle.blz_functions.specs.WholeLists.{BeginsIn, IsListAt, IsWhole, KeepsWhole, MayGive, MayGiveTail, MayIndexLast, ReadsWhole, last_spans};
 
 use crate::kept_list::KeptList;
 use crate::open_unit::OpenUnit;
@@ -24,10 +24,12 @@ pub struct WholeList {
     tails: BTreeMap<usize, Option<Arc<KeptList>>>,
 }
 
+/// Whether a list is the one that begins at an entry.
 fn is_at(entry: &PassedEntry, tail: RangeTail) -> bool
-    ensures { result ≡ true → entry.now.tail ≡ tail }
+    ensures { result ≡ true → IsListAt entry.now tail }
 {
-    entry.tail.place == tail.place && entry.tail.base == tail.base
+    let same = entry.tail.base == tail.base || entry.base.is_unused();
+    entry.tail.place == tail.place && same
 }
 
 /// How many of its last ranges are indexed where some number of them is asked for: of the numbers 0, 1, 3, 7 and so on

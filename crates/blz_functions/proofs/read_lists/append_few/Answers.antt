@@ -30,6 +30,6 @@ loop-preserved c =
     let more : entry_behind u c.loop.tail ≡ Some (Some e) = good_some _ _ (rw c.in-Ok-Some.field-0-is at c.in-Ok-Some.ensures) in
     let le = k.whole.within in
     record {
-      whole = passed_more u _ c.loop.out.items _ c.loop.tail e.1 e.0 _ c.in_ok-put.ensures more k.whole;
+      whole = passed_more u _ c.loop.out.items _ c.loop.tail e.1 e.0 _ _ c.in_ok-put.ensures more k.whole;
       front = rw c.in_ok-put.ensures (take-append-le _ _ _ (omega arith) ∙ k.front);
     }

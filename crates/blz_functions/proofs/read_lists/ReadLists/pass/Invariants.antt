@@ -4,13 +4,14 @@ use Rattle.blz_entry.specs.RangeLists.{list_length}
 use Rattle.blz_entry.specs.RangeTails.{list_tail}
 use Rattle.blz_functions.specs.Leaves.{lying}
 use Rattle.blz_functions.specs.Opened.{open_view}
-use Rattle.blz_functions.specs.ReadLists.{IsPassed, passed_entry}
+use Rattle.blz_functions.specs.ReadLists.{IsPassed, IsPassedEntry, IsUse}
 use Rattle.blz_functions.proofs.read_lists.ReadLists.pass.Given as goal
 
 abbrev pub invariant-loop-some : goal.invariant-loop-some
 invariant-loop-some l = record {
-  whole : IsPassed (open_view l.unit) (length l.fn.out.items) l.out.items l.tail (passed_entry (list_tail l.unit.root l.offset) (length l.fn.out.items));
-  each : All (IsPassed (open_view l.unit) (length l.fn.out.items) l.out.items l.tail) l.passed.items;
+  whole : IsPassed (open_view l.unit) (length l.fn.out.items) l.out.items l.tail (list_tail l.unit.root l.offset) (length l.fn.out.items);
+  each : All (IsPassedEntry (open_view l.unit) (length l.fn.out.items) l.out.items l.tail) l.passed.items;
+  uses : All (IsUse (open_view l.unit)) l.passed.items;
   front : take (vec_len l.fn.out) l.out.items ≡ l.fn.out.items;
 }
 
