@@ -262,12 +262,21 @@ def tails_of_a_range_list_behind_bases(n):
     return functions_of_tails(b"".join(bases + lists), reversed(in_turn))
 
 
-@shape
-def tails_of_a_range_list_each_behind_its_base(n):
-    # each range ends with the bytes of a base of its own, from which on the ranges behind it are a list of their own
+def ranges_that_end_with_bases(n):
+    """Ranges, each of which ends with the bytes of a base of its own, and where these bytes begin."""
     begin = DW_RLE_BASE_ADDRESS << 56
     lists = [bytes([DW_RLE_START_END]) + struct.pack("<QQ", begin, begin + 1 + k) for k in range(n)]
-    return functions_of_tails(b"".join(lists), [at + 8 for at in begins_of(lists)])
+    return b"".join(lists), [at + 8 for at in begins_of(lists)]
+
+
+@shape
+def tails_of_a_range_list_each_behind_its_base(n):
+    return functions_of_tails(*ranges_that_end_with_bases(n))
+
+
+@shape
+def tails_of_a_range_list_of_calls_each_behind_its_base(n):
+    return calls_of_tails(*ranges_that_end_with_bases(n), 1)
 
 
 @shape
@@ -302,3 +311,32 @@ def tails_of_a_range_list_of_units(n):
     data, first = range_lists(b"".join(lists) + b"\0")
     units = [unit(entry(shapes, ROOT, first + begin)) for begin in begins_of(lists)]
     return Attack(dwarf(shapes, b"".join(units), rnglists=data), [0])
+
+
+@shape
+def tails_of_a_range_list_of_units_the_shortest_first(n):
+    shapes = {ROOT: root(RANGES, 0)}
+    lists = pairs_of_a_size(n)
+    data, first = range_lists(b"".join(lists) + b"\0")
+    units = [unit(entry(shapes, ROOT, first + begin)) for begin in reversed(begins_of(lists))]
+    return Attack(dwarf(shapes, b"".join(units), rnglists=data), [0])
+
+
+@shape
+def tails_of_a_range_list_within_one_another_of_units(n):
+    # each unit announces one range more that covers what is asked
+    shapes = {ROOT: root(RANGES, 0)}
+    lists = [offset_pair(BASE + k, BASE + 2 * n - k) for k in range(n)]
+    data, first = range_lists(b"".join(lists) + b"\0")
+    units = [unit(entry(shapes, ROOT, first + begin)) for begin in begins_of(lists)]
+    return Attack(dwarf(shapes, b"".join(units), rnglists=data), [BASE + n])
+
+
+@shape
+def one_range_list_of_a_function_of_each_unit(n):
+    # each unit is asked once
+    shapes = {ROOT: root(RANGE, 1), FUNCTION: subprogram(RANGES)}
+    data, first = range_lists(pairs(n) + b"\0")
+    begins = [BASE + 4 * k for k in range(n)]
+    units = [unit(entry(shapes, ROOT, begin, 4) + entry(shapes, FUNCTION, first) + b"\0") for begin in begins]
+    return Attack(dwarf(shapes, b"".join(units), rnglists=data), begins)

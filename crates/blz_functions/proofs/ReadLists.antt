@@ -25,7 +25,7 @@ use Rattle.blz_ranges.specs.Owned.{Owned, own_all}
 use Rattle.blz_ranges.specs.declared.span.Span.{Span}
 use Rattle.blz_functions.specs.BestOwned.{AreNeverBest}
 use Rattle.blz_functions.specs.Leaves.{UnitParts, counts_at, entry_behind, lying, ranges_in, spans_behind}
-use Rattle.blz_functions.specs.ReadLists.{AppendedTo, ArePassed, AreRead, IsAppended, IsFreeIn, KeepsPassed, LeadsOn, IsKept, IsNothing, IsPassed, IsPassedEntry, IsRead, IsReadFree, IsUse, IsUseAt, PassesEntry, is_unused, key_cmp}
+use Rattle.blz_functions.specs.ReadLists.{AppendedTo, ArePassed, AreRead, IsAppended, IsFreeIn, IsKnownList, KeepsPassed, LeadsOn, IsKept, IsNothing, IsPassed, IsPassedEntry, IsRead, IsReadFree, IsUse, IsUseAt, PassesEntry, is_unused, key_cmp}
 use Rattle.blz_functions.specs.declared.read_lists.BaseUse.{BaseUse}
 use Rattle.blz_functions.specs.declared.read_lists.BaseUse.TheVariants.{MayCount, AsBehind, Unused}
 use Rattle.blz_functions.specs.declared.read_lists.PassedEntry.{PassedEntry}
@@ -81,6 +81,12 @@ read_free u ranges tail some free h = record {
   free = free;
   read = λ base. record { spans = h.spans; is = free base tail.base ∙ h.is; never_best = h.never_best; flag = h.flag };
 }
+
+pub known_free : (u : UnitParts) (ranges : List (Owned Span)) (tail : RangeTail) (some : Bool) → IsReadFree u ranges tail.place some → IsKnownList u ranges tail (record { some = some; free = true })
+known_free u ranges tail some h = record { read = h.read tail.base; free = λ _. h.free }
+
+pub known_based : (u : UnitParts) (ranges : List (Owned Span)) (tail : RangeTail) (some : Bool) → IsRead u ranges tail some → IsKnownList u ranges tail (record { some = some; free = false })
+known_based u ranges tail some h = record { read = h; free = λ e. absurd cc }
 
 pub nothing_is_read : (u : UnitParts) (ranges : List (Owned Span)) (lists : ReadLists) → IsNothing lists → AreRead u ranges lists
 nothing_is_read u ranges lists none = record {
@@ -157,11 +163,14 @@ pub free_over : (u : UnitParts) (tail : RangeTail) → entry_behind u tail ≡ S
 free_over u tail over = free_end (lying u.sections) u.header u.root tail over
 
 -- one entry is told anew
-pub passed_set : (old : List PassedEntry) (at : ℕ) (p new : PassedEntry) → new.tail ≡ p.tail → new.before ≡ p.before → p ≡ get_or old at p → at < length old → KeepsPassed old (set old at new)
-passed_set old at p new tail before is lt u first out rest h =
+pub passed_set : (old : List PassedEntry) (at : ℕ) (p new other : PassedEntry) → new.tail ≡ p.tail → new.before ≡ p.before → p ≡ get_or old at other → at < length old → KeepsPassed old (set old at new)
+passed_set old at p new other tail before is lt u first out rest h =
     let P = IsPassedEntry u first out rest in
-    let here : P p = subst P (sym is) (h at p lt) in
+    let here : P p = subst P (sym is) (h at other lt) in
     All-set P old at new (rw (tail, before) here) h
+
+pub entry_at : (P : PassedEntry → Type 0) (old : List PassedEntry) (at : ℕ) (p other : PassedEntry) → p ≡ get_or old at other → at < length old → All P old → P p
+entry_at P old at p other is lt h = subst P (sym is) (h at other lt)
 
 -- ---- a list behind which the rest is known
 
@@ -238,7 +247,7 @@ pub each_read : (u : UnitParts) (ranges : List (Owned Span)) (lists : ReadLists)
     → All (IsKept u (ranges ++ own_all owner (drop (length old) new)) end some) given
 each_read u ranges lists tail old new passed given end owner some h same count =
     let R = ranges ++ own_all owner (drop (length old) new) in
-    let one = λ (p : PassedEntry) (k : IsPassedEntry u (length old) new h.rest p) (b : IsUse u p). record { read = passed_read u ranges (length old) owner new h.rest some p.tail p.before k h.known; base = b } in
+    let one : (p : PassedEntry) → IsPassedEntry u (length old) new h.rest p → IsUse u p → IsKept u R (length new) some p = λ p k b. record { read = passed_read u ranges (length old) owner new h.rest some p.tail p.before k h.known; base = b } in
     rw (same, count) (both (IsPassedEntry u (length old) new h.rest) (IsUse u) (IsKept u R (length new) some) one passed h.each h.uses)
 
 -- a list of which an entry is broken

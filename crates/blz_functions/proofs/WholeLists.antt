@@ -31,7 +31,7 @@ pub whole_read : (u : UnitParts) (offset : ℕ) (l : WholeList) (old : List Span
 whole_read u offset l old some h start nothing empty =
     let none = no_spans h.known.spans (sym h.known.flag ∙ nothing) in
     let put = l.spans.items in
-    let each = λ (p : PassedEntry) (k : IsPassedEntry u (length old) put h.rest p) (b : IsUse u p). record { begins = passed_all u put h.known.spans h.rest p.tail p.before k.spans h.known.is none; base = b } in
+    let each : (p : PassedEntry) → IsPassedEntry u (length old) put h.rest p → IsUse u p → IsEntryIn u put p = λ p k b. record { begins = passed_all u put h.known.spans h.rest p.tail p.before k.spans h.known.is none; base = b } in
     let front : drop (length old) put ≡ put = rw start refl in
     record {
       is = passed_all u put h.known.spans h.rest (list_tail u.root offset) (length old) h.whole.spans h.known.is none ∙ ap (λ (xs : List Span). Some xs) front;

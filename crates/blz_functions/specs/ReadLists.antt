@@ -102,14 +102,22 @@ abbrev pub KeepsPassed : List PassedEntry → List PassedEntry → Type 0
 KeepsPassed old new = (u : UnitParts) (first : ℕ) (out : List Span) (rest : RangeTail)
     → All (IsPassedEntry u first out rest) old → All (IsPassedEntry u first out rest) new
 
+-- The list from an entry on is free, where it is known of that from a place on whether it is.
+abbrev pub IsFreeIf : Bool → ℕ → PassedEntry → Bool → Type 0
+IsFreeIf free place p result = (u : UnitParts) → (free ≡ true → IsFreeIn u place) → IsUse u p → result ≡ true → IsFreeIn u p.tail.place
+
 -- What is told of their bases stays right, where it is known of a list from a place on whether it is free.
 abbrev pub KeepsUses : Bool → ℕ → List PassedEntry → List PassedEntry → Type 0
 KeepsUses free place old new = (u : UnitParts) → (free ≡ true → IsFreeIn u place) → All (IsUse u) old → All (IsUse u) new
 
--- The list from an entry on is read, with the ranges that were put since, up to a number of them, and those of a rest.
-pub record IsKept (u : UnitParts) (ranges : List (Owned Span)) (end : ℕ) (some : Bool) (p : PassedEntry) : Type 0 where
-  pub read : IsRead u ranges p.tail (some || nat_lt p.before end)
+-- The list from an entry on is read.
+pub record IsKeptList (u : UnitParts) (ranges : List (Owned Span)) (some : Bool) (p : PassedEntry) : Type 0 where
+  pub read : IsRead u ranges p.tail some
   pub base : IsUse u p
+
+-- the same, with the ranges that were put since, up to a number of them, and those of a rest
+abbrev pub IsKept : UnitParts → List (Owned Span) → ℕ → Bool → PassedEntry → Type 0
+IsKept u ranges end some p = IsKeptList u ranges (some || nat_lt p.before end) p
 
 -- A list was read up to a rest that was read before, or that has no ranges.
 pub record ArePassed (u : UnitParts) (ranges : List (Owned Span)) (list : RangeTail) (old new : List Span) (passed : List PassedEntry) (some : Bool) : Type 0 where

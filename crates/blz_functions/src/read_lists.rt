@@ -7,7 +7,7 @@ ghost use Rattle.blz_ranges.specs.Owned.{Owned};
 ghost use Rattle.blz_entry.specs.RangeTails.{list_tail};
 ghost use Rattle.blz_functions.specs.Leaves.{UnitParts, ranges_in, spans_behind};
 ghost use Rattle.blz_functions.specs.Opened.{open_view};
-ghost use Rattle.blz_functions.specs.ReadLists.{AppendsFew, AppendsRead, AreRead, IsKept, IsKnownList, IsNothing, IsRead, IsUse, IsUseAt, KeepsPassed, KeepsRead, KeepsUses, LeadsOn, PassesEntry, PassesTo, is_unused};
+ghost use Rattle.blz_functions.specs.ReadLists.{AppendsFew, AppendsRead, AreRead, IsFreeIf, IsKept, IsKnownList, IsKeptList, IsNothing, IsRead, IsReadFree, IsUseAt, KeepsPassed, KeepsRead, KeepsUses, LeadsOn, PassesEntry, PassesTo, is_unused};
 
 use crate::open_unit::OpenUnit;
 use blz_entry::{RangeAttributes, RangeTail, Span};
@@ -116,6 +116,18 @@ fn base_use(unit: &OpenUnit<'_, '_>, tail: RangeTail, next: RangeTail) -> BaseUs
     }
 }
 
+/// Whether the list from an entry on is the same whatever offsets are added to, where that is known of the list from a
+/// place on.
+fn is_free(entry: PassedEntry, place: usize, free: bool) -> bool
+    ensures { IsFreeIf free place entry result }
+{
+    match entry.base {
+        BaseUse::MayCount => false,
+        BaseUse::AsBehind => free && entry.behind == place,
+        BaseUse::Unused => true,
+    }
+}
+
 /// Tells of each entry that was passed whether its list is the same whatever offsets are added to, where that is known
 /// of the list behind them all, which begins at a place.
 fn settle_bases(passed: &mut Vec<PassedEntry>, place: usize, free: bool)
@@ -128,11 +140,7 @@ fn settle_bases(passed: &mut Vec<PassedEntry>, place: usize, free: bool)
     while at > 0 {
         at -= 1;
         let entry = passed[at];
-        free = match entry.base {
-            BaseUse::MayCount => false,
-            BaseUse::AsBehind => free && entry.behind == place,
-            BaseUse::Unused => true,
-        };
+        free = is_free(entry, place, free);
         if free {
             let base = BaseUse::Unused;
             passed[at] = PassedEntry { base, ..entry };
@@ -174,39 +182,59 @@ impl ReadLists {
         }
     }
 
+    /// Whether a list that is the same whatever offsets are added to tells a range, if it was read.
+    fn find_free(&self, place: usize) -> Option<bool>
+        ensures read { (u : UnitParts) (ranges : List (Owned Span)) → AreRead u ranges self.now → IfSome result (IsReadFree u ranges place) }
+        ensures none { IsNothing self.now → result ≡ None }
+    {
+        self.free.get(&place).copied()
+    }
+
+    /// Whether any other list tells a range, if it was read.
+    fn find_based(&self, tail: RangeTail) -> Option<bool>
+        ensures read { (u : UnitParts) (ranges : List (Owned Span)) → AreRead u ranges self.now → IfSome result (IsRead u ranges tail) }
+        ensures none { IsNothing self.now → result ≡ None }
+    {
+        self.based.get(&(tail.place, tail.base)).copied()
+    }
+
     /// What is known of a list, if it was read.
     fn find(&self, tail: RangeTail) -> Option<KnownList>
         ensures read { (u : UnitParts) (ranges : List (Owned Span)) → AreRead u ranges self.now → IfSome result (IsKnownList u ranges tail) }
         ensures none { IsNothing self.now → result ≡ None }
     {
-        if let Some(some) = self.free.get(&tail.place) {
-            return Some(KnownList {
-                some: *some,
-                free: true,
-            });
+        if let Some(some) = self.find_free(tail.place) {
+            return Some(KnownList { some, free: true });
         }
-        match self.based.get(&(tail.place, tail.base)) {
-            Some(some) => Some(KnownList {
-                some: *some,
-                free: false,
-            }),
+        match self.find_based(tail) {
+            Some(some) => Some(KnownList { some, free: false }),
             None => None,
         }
     }
 
-    /// Keeps of an entry whether its list tells a range.
-    fn keep(&mut self, entry: &PassedEntry, some: bool) -> std::result::Result<(), AllocError>
-        ensures { OnOk result (KeepsRead self.old self.new (λ u ranges. IsRead u ranges entry.now.tail some × IsUse u entry.now)) }
+    fn keep_free(&mut self, place: usize, some: bool) -> std::result::Result<(), AllocError>
+        ensures { OnOk result (KeepsRead self.old self.new (λ u ranges. IsReadFree u ranges place some)) }
     {
-        match entry.base {
-            BaseUse::Unused => {
-                self.free.insert(entry.tail.place, some)?;
-            },
-            BaseUse::MayCount | BaseUse::AsBehind => {
-                self.based.insert((entry.tail.place, entry.tail.base), some)?;
-            },
-        }
+        self.free.insert(place, some)?;
         Ok(())
+    }
+
+    fn keep_based(&mut self, tail: RangeTail, some: bool) -> std::result::Result<(), AllocError>
+        ensures { OnOk result (KeepsRead self.old self.new (λ u ranges. IsRead u ranges tail some)) }
+    {
+        self.based.insert((tail.place, tail.base), some)?;
+        Ok(())
+    }
+
+    /// Keeps of the list from an entry on whether it tells a range.
+    fn keep(&mut self, entry: &PassedEntry, some: bool) -> std::result::Result<(), AllocError>
+        ensures { OnOk result (KeepsRead self.old self.new (λ u ranges. IsKeptList u ranges some entry.now)) }
+    {
+        if entry.base.is_unused() {
+            self.keep_free(entry.tail.place, some)
+        } else {
+            self.keep_based(entry.tail, some)
+        }
     }
 
     /// Keeps of each entry that was passed whether its list tells a range: one of those that were put since, up to a

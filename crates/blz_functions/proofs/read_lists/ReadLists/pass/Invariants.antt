@@ -7,13 +7,13 @@ use Rattle.blz_functions.specs.Opened.{open_view}
 use Rattle.blz_functions.specs.ReadLists.{IsPassed, IsPassedEntry, IsUse}
 use Rattle.blz_functions.proofs.read_lists.ReadLists.pass.Given as goal
 
-abbrev pub invariant-loop-some : goal.invariant-loop-some
-invariant-loop-some l = record {
+abbrev pub invariant-loop-known : goal.invariant-loop-known
+invariant-loop-known l = record {
   whole : IsPassed (open_view l.unit) (length l.fn.out.items) l.out.items l.tail (list_tail l.unit.root l.offset) (length l.fn.out.items);
   each : All (IsPassedEntry (open_view l.unit) (length l.fn.out.items) l.out.items l.tail) l.passed.items;
   uses : All (IsUse (open_view l.unit)) l.passed.items;
   front : take (vec_len l.fn.out) l.out.items ≡ l.fn.out.items;
 }
 
-abbrev pub decreases-loop-some : goal.decreases-loop-some
-decreases-loop-some l = list_length (lying (open_view l.unit).sections) l.unit.header - l.tail.place
+abbrev pub decreases-loop-known : goal.decreases-loop-known
+decreases-loop-known l = list_length (lying (open_view l.unit).sections) l.unit.header - l.tail.place
