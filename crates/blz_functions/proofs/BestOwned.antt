@@ -54,7 +54,7 @@ still_better (Some p) (Some q) (Some r) h =
 
 -- ---- the best of a list
 
-best_appended : (front back : List (Owned Span)) (addr : ℕ) → best_owned (front ++ back) addr ≡ better_owned (best_owned front addr) (best_owned back addr)
+pub best_appended : (front back : List (Owned Span)) (addr : ℕ) → best_owned (front ++ back) addr ≡ better_owned (best_owned front addr) (best_owned back addr)
 unfolding best_owned
 best_appended [] back addr = refl
 best_appended (o ∷ front) back addr =

@@ -1,6 +1,6 @@
 -- Inlined calls while they are read, and one more of them.
-use Rattle.std.proofs.Common.{◌≡◌, ◌≢◌, ℕ, Bool, List, [], ◌∷◌, ◌++◌, length, map, Option, Some, None, refl, ap, subst, ◌∙◌}
-use Rattle.std.specs.Prelude.{Err, MatchResult, Ok, Result, is_some}
+use Rattle.std.proofs.Common.{◌≡◌, ◌≢◌, ℕ, Bool, List, [], ◌∷◌, ◌++◌, length, map, Option, Some, None, refl, sym, ap, subst, ◌∙◌, arith}
+use Rattle.std.specs.Prelude.{Err, IfOk, MatchResult, Ok, Result, is_some}
 use Rattle.std.proofs.Math.Path.{fun_ext}
 use Rattle.blz_error.specs.Fault.{Fault}
 use Rattle.blz_error.specs.declared.kind.ErrorKind.{ErrorKind}
@@ -17,9 +17,9 @@ use Rattle.blz_functions.specs.CallWalk.{call_if, call_met}
 use Rattle.blz_functions.specs.DepthRanges.{AreOfCalls, of_depth, ranges_view}
 use Rattle.blz_functions.specs.FunctionRanges.{PiecedCalls, SearchedCalls}
 use Rattle.blz_functions.specs.Pieces.{told}
-use Rattle.blz_functions.specs.ReadCalls.{AreReadCalls, IsOfCalls}
-use Rattle.blz_functions.specs.SettledRanges.{AnswerAsAll}
-use Rattle.blz_functions.specs.Chain.{call_range}
+use Rattle.blz_functions.specs.ReadCalls.{AreReadCalls, CountNoMore, IsOfCalls, IsSettledAs}
+use Rattle.blz_functions.specs.SettledRanges.{AnswerAsAll, AllCountUpTo, found_at}
+use Rattle.blz_functions.specs.Chain.{at_depth, call_range}
 use Rattle.blz_functions.specs.Describing.{Refer, described_if}
 use Rattle.blz_functions.specs.Leaves.{UnitParts, ranges_in}
 use Rattle.blz_functions.specs.Searching.{GivesAs, IsGiven, IsMet}
@@ -28,18 +28,18 @@ use Rattle.blz_functions.specs.declared.depth_ranges.DepthRanges.{DepthRanges}
 use Rattle.blz_functions.specs.declared.kept_lists.KeptLists.{KeptLists}
 use Rattle.blz_functions.specs.declared.description.Description.{Description}
 use Rattle.blz_functions.specs.declared.inlined_functions.InlinedFunction.{InlinedFunction}
-use Rattle.blz_functions.proofs.FoundCalls.{same_found}
 use Rattle.blz_functions.proofs.Searching.{met_given}
 
 -- ---- one call more
 
-pub none_read : (u : UnitParts) (some : PiecedCalls) → some.calls ≡ [] → some.ranges.list.items ≡ [] → some.ranges.pieces.items ≡ [] → IsOfCalls u some no_calls
+pub none_read : (u : UnitParts) (some : PiecedCalls) → some.calls ≡ [] → some.ranges.list.items ≡ [] → some.ranges.pieces.items ≡ [] → some.ranges.count ≡ 0 → IsOfCalls u some no_calls
 unfolding of_depth told
-none_read u some none list pieces = record {
+none_read u some none list pieces counted = record {
   calls = none;
   ranges = record {
     same = λ depth. rw (list, pieces) refl;
     named = λ depth. rw pieces tt;
+    counted = omega (arith, counted);
   };
 }
 
@@ -69,19 +69,30 @@ entry_fails refer u all depth e w wanted kind same h = marks_on kind (described_
 
 pub same_asked : (u : UnitParts) (some : SearchedCalls) (all : CallLists) → some.calls ≡ all.calls → AnswerAsAll some.ranges all.ranges → by_all_ranges all ≡ asked_calls some
 same_asked u some all same answers =
-    let at = fun_ext (λ addr. fun_ext (λ depth. same_found some.ranges all.ranges addr depth (answers depth))) in
+    let at = fun_ext (λ addr. fun_ext (λ depth. answers.calls addr depth)) in
     rw (same, at) refl
 
 pub none_asked : (l : SearchedCalls) → l.calls ≡ [] → l.ranges.list ≡ [] → l.ranges.shared ≡ [] → by_all_ranges no_calls ≡ asked_calls l
 unfolding of_depth
 none_asked l none list shared =
-    let none_at : AnswerAsAll l.ranges [] = λ depth. rw (list, shared) (λ addr. refl) in
-    let at = fun_ext (λ addr. fun_ext (λ depth. same_found l.ranges [] addr depth (none_at depth))) in
+    let none_at : (addr depth : ℕ) → at_depth [] addr depth ≡ found_at l.ranges addr depth = λ addr depth. rw (list, shared) refl in
+    let at = fun_ext (λ addr. fun_ext (λ depth. none_at addr depth)) in
     rw (none, at) refl
 
-pub settled_given : (r : Result SearchedCalls Fault) (all : CallLists) (o : Option CallLists) → o ≡ Some all → MatchResult r (λ l. by_all_ranges all ≡ asked_calls l) (λ e. e.kind ≢ OutOfMemory → ⊥) → Gives asked_calls r (or_invalid (if_asked o))
-settled_given (Ok l) all o is same = rw is (ap Good same)
+pub settled_given : (r : Result SearchedCalls Fault) (all : CallLists) (o : Option CallLists) → o ≡ Some all → MatchResult r (IsSettledAs all) (λ e. e.kind ≢ OutOfMemory → ⊥) → Gives asked_calls r (or_invalid (if_asked o))
+settled_given (Ok l) all o is same = rw is (ap Good same.calls)
 settled_given (Err e) all o is never = λ ne. absurd (never ne)
+
+pub counted_given : (refer : Refer) (u : UnitParts) (place : ℕ) (r : Result SearchedCalls Fault) (all : CallLists) (o : Option CallLists) → unit_calls refer u place ≡ o → o ≡ Some all → MatchResult r (IsSettledAs all) (λ e. e.kind ≢ OutOfMemory → ⊥)
+    → IfOk r (CountNoMore refer u place)
+counted_given refer u place (Ok l) all o read is h = λ other there.
+    let both : Some all ≡ Some other = sym is ∙ (sym read ∙ there) in
+    let same : all ≡ other = cc in
+    subst (λ (c : CallLists). AllCountUpTo (length c.ranges) l.ranges) same h.counts
+counted_given refer u place (Err e) all o read is h = tt
+
+pub none_counted : (refer : Refer) (u : UnitParts) (place : ℕ) (l : SearchedCalls) → l.ranges.shared ≡ [] → CountNoMore refer u place l
+none_counted refer u place l none = λ all there depth. rw none tt
 
 pub asked_fails : (kind : ErrorKind) (o : Option CallLists) → Fails kind (or_invalid o) → Fails kind (or_invalid (if_asked o))
 asked_fails kind o h = marks_on kind o (if_asked o) h (λ none. rw none refl)

@@ -6,13 +6,13 @@ use Rattle.blz_ranges.specs.declared.placed.Placed.{Placed}
 use Rattle.blz_ranges.specs.declared.span.Span.{Span}
 use Rattle.blz_ranges.specs.Best.{best, best_by, covers, place_of}
 use Rattle.blz_ranges.specs.Owned.{Owned, items_of, own_all}
+use Rattle.blz_ranges.specs.Ranges.{best_owner}
 use Rattle.blz_functions.specs.BestOwned.{AnswersAs, best_owned}
 use Rattle.blz_functions.specs.Chain.{at_depth}
 use Rattle.blz_functions.specs.DepthRanges.{of_depth}
-use Rattle.blz_functions.specs.SettledRanges.{AnswerAsAll, SearchedRanges, found_at, found_by, searched_at, searched_by, shared_in}
-use Rattle.blz_functions.specs.SharedDepths.{call_of, ranges_shared}
-use Rattle.blz_functions.specs.declared.shared_depth.SharedDepth.{SharedDepth}
-use Rattle.blz_functions.specs.declared.shared_depth.SharedDepth.TheVariants.{Tail, Content}
+use Rattle.blz_functions.specs.Layers.{call_by, ranges_of}
+use Rattle.blz_functions.specs.declared.layer.Layer.{Layer}
+use Rattle.blz_functions.specs.declared.layer.Layer.TheVariants.{Tail, Content}
 use Rattle.blz_functions.proofs.BestOwned.{IsFound, best_renamed, found_span, items_all, itself, owned_by, owner_of_best}
 use Rattle.blz_functions.proofs.DepthRanges.{owner_at_depth}
 
@@ -34,15 +34,17 @@ owner_by_tail call tail addr =
     let renamed : best_owned list addr ≡ option_map (owned_by call) (best_owned list addr) = ap (λ (l : List Span). best_owned (own_all call l) addr) (sym same) ∙ best_renamed call list addr in
     ap (λ (l : List Span). if is_some (best l addr) then Some call else None) (sym same) ∙ (alike ∙ ap owner_in (sym renamed))
 
-owner_by_shared : (s : SharedDepth) (addr : ℕ) → call_of s addr ≡ owner_in (best_owned (ranges_shared s) addr)
-owner_by_shared (Tail call tail) addr = owner_by_tail call tail addr
-owner_by_shared (Content content) addr = owner_of_best content addr
+owner_by_layer : (l : Layer) (addr : ℕ) → call_by l addr ≡ owner_in (best_owned (ranges_of l) addr)
+owner_by_layer (Tail call tail) addr = owner_by_tail call tail addr
+owner_by_layer (Content content) addr = owner_of_best content addr
 
-owner_found_by : (list : List (Owned Grouped)) (addr depth : ℕ) (o : Option SharedDepth) → found_by list addr depth o ≡ owner_in (best_owned (searched_by list depth o) addr)
-owner_found_by list addr depth None = owner_at_depth list addr depth
-owner_found_by list addr depth (Some s) = owner_by_shared s addr
+-- a layer that has the same best ranges gives the same calls
+pub same_by_layer : (l : Layer) (ranges : List (Owned Span)) → AnswersAs (ranges_of l) ranges → (addr : ℕ) → best_owner ranges addr ≡ call_by l addr
+same_by_layer l ranges same addr = owner_of_best ranges addr ∙ (ap owner_in (sym (same addr)) ∙ sym (owner_by_layer l addr))
 
--- what is searched has the same best ranges as all ranges at each depth
-pub same_found : (r : SearchedRanges) (all : List (Owned Grouped)) (addr depth : ℕ) → AnswersAs (searched_at r depth) (of_depth depth all) → at_depth all addr depth ≡ found_at r addr depth
-same_found r all addr depth same =
-    owner_at_depth all addr depth ∙ (ap owner_in (sym (same addr)) ∙ sym (owner_found_by r.list addr depth (shared_in r.shared depth)))
+pub call_of_depth : (list : List (Owned Grouped)) (addr depth : ℕ) → at_depth list addr depth ≡ best_owner (of_depth depth list) addr
+call_of_depth list addr depth = owner_at_depth list addr depth ∙ sym (owner_of_best (of_depth depth list) addr)
+
+-- so does a list that has the same best ranges at a depth
+pub same_at_depth : (list all : List (Owned Grouped)) (depth : ℕ) → AnswersAs (of_depth depth list) (of_depth depth all) → (addr : ℕ) → at_depth all addr depth ≡ at_depth list addr depth
+same_at_depth list all depth same addr = owner_at_depth all addr depth ∙ (ap owner_in (sym (same addr)) ∙ sym (owner_at_depth list addr depth))

@@ -1,6 +1,6 @@
 -- What is gathered of pieces, and of one piece more.
-use Rattle.std.proofs.Common.{◌≡◌, ◌≢◌, ℕ, zero, suc, ◌+◌, ◌<◌, List, [], ◌∷◌, ◌++◌, append_assoc, length, take, Bool, Option, Some, None, refl, sym, ap, subst, ◌∙◌, arith}
-use Rattle.std.specs.Prelude.{Result, Ok, Err, slice_index_or}
+use Rattle.std.proofs.Common.{◌≡◌, ◌≢◌, ℕ, zero, suc, ◌+◌, ◌<◌, List, [], ◌∷◌, ◌++◌, append_assoc, length, take, Bool, Option, refl, sym, ap, subst, ◌∙◌, arith}
+use Rattle.std.specs.Prelude.{Ok, slice_index_or}
 use Rattle.std.proofs.lemmas.List.{append-nil}
 use Rattle.blz_error.specs.declared.kind.ErrorKind.{ErrorKind}
 use Rattle.blz_error.specs.declared.kind.ErrorKind.TheVariants.{OutOfMemory}
@@ -10,7 +10,6 @@ use Rattle.blz_info.proofs.Marked.{no_part}
 use Rattle.blz_ranges.specs.declared.span.Span.{Span}
 use Rattle.blz_ranges.specs.Owned.{Owned, filled_up, owned, own_all}
 use Rattle.blz_ranges.proofs.OwnedItems.{owned_more}
-use Rattle.blz_functions.specs.BestOwned.{AnswersAs}
 use Rattle.blz_functions.specs.Leaves.{UnitParts}
 use Rattle.blz_functions.specs.Pieces.{AreNamed, HasSpans, IsNamed, TellAs, or_none, spans_named, told, told_by}
 use Rattle.blz_functions.specs.ReadLists.{AppendsRead, AreRead, IsAppended}

@@ -22,6 +22,10 @@ pub mod SearchedRanges
 pub mod Searching
 pub mod DepthRanges
 pub mod SharedTails
+pub mod BetterFound
+pub mod FoundRanges
+pub mod LayersCost
+pub mod PartedPieces
 pub mod WholeLists
 pub mod PieceOrder
 pub mod KeptContents

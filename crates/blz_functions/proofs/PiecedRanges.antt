@@ -1,17 +1,17 @@
 -- The ranges of one more call behind those that are read by their depths.
-use Rattle.std.proofs.Common.{◌≡◌, ℕ, Bool, true, false, eqb, List, [], ◌∷◌, ◌++◌, append_assoc, map, Option, Some, None, refl, sym, ap, subst, ◌∙◌, inl, inr}
-use Rattle.std.specs.Prelude.{Ok, is_some, ◌⊎◌}
+use Rattle.std.proofs.Common.{◌≡◌, ℕ, ◌+◌, ◌≤◌, Bool, true, false, eqb, List, [], ◌∷◌, ◌++◌, append_assoc, length, map, Option, Some, None, sym, ap, subst, ◌∙◌, arith, inl, inr}
+use Rattle.std.specs.Prelude.{Ok, is_some}
 use Rattle.std.specs.declared.alloc.Global.{Global}
 use Rattle.std.specs.declared.vec.Vec.{Vec}
 use Rattle.std.proofs.lemmas.Bool.{cases_Bool, cases_eq, eqb-true}
-use Rattle.std.proofs.lemmas.List.{append-nil}
+use Rattle.std.proofs.lemmas.List.{append-nil, length-append, length-map}
 use Rattle.blz_ranges.specs.declared.grouped.Grouped.{Grouped}
 use Rattle.blz_ranges.specs.declared.span.Span.{Span}
 use Rattle.blz_ranges.specs.Owned.{Owned, own_all}
 use Rattle.blz_functions.specs.Chain.{call_range}
-use Rattle.blz_functions.specs.DepthRanges.{AddsPieces, AddsToList, AreOfCalls, HasPieces, PutsRanges, of_depth, pieces_at, ranges_view}
+use Rattle.blz_functions.specs.DepthRanges.{AddsPieces, AddsToList, AreOfCalls, PutsRanges, of_depth, pieces_at, ranges_view}
 use Rattle.blz_functions.specs.Leaves.{UnitParts}
-use Rattle.blz_functions.specs.Pieces.{AreNamed, HasSpans, list_at, or_none, ranges_of_call, told}
+use Rattle.blz_functions.specs.Pieces.{AreNamed, HasAtLeast, list_at, or_none, ranges_of_call, told}
 use Rattle.blz_functions.specs.ReadLists.{AppendsFew}
 use Rattle.blz_functions.specs.declared.depth_ranges.DepthCall.{DepthCall}
 use Rattle.blz_functions.specs.declared.depth_ranges.DepthRanges.{DepthRanges}
@@ -25,9 +25,12 @@ pub apart : (x y : ℕ) → (x ≡ y → ⊥) → eqb x y ≡ false
 apart x y ne = elim (cases_Bool (eqb x y)) [ inl t ↦ absurd (ne (eqb-true x y t)) | inr f ↦ f ]
 
 module _ (u : UnitParts) (old new : DepthRanges) (all : List (Owned Grouped)) (at : DepthCall) (h : AreOfCalls u (ranges_view old) all) where
+  counts : (spans : List Span) → new.count ≤ old.count + length spans → new.count ≤ length (all ++ map (call_range at.depth at.call) spans)
+  counts spans le = omega (arith, le, h.counted, length-append all (map (call_range at.depth at.call) spans), length-map spans (call_range at.depth at.call))
+
   -- as pieces
-  pub of_pieces : (spans : List Span) (more : List Piece) → AddsPieces old new at.depth more → told u more ≡ own_all at.call spans → AreNamed u more → AreOfCalls u (ranges_view new) (all ++ map (call_range at.depth at.call) spans)
-  of_pieces spans more adds tells named =
+  pub of_pieces : (spans : List Span) (more : List Piece) → new.count ≤ old.count + length spans → AddsPieces old new at.depth more → told u more ≡ own_all at.call spans → AreNamed u more → AreOfCalls u (ranges_view new) (all ++ map (call_range at.depth at.call) spans)
+  of_pieces spans more le adds tells named =
       let old_list = (ranges_view old).list in
       let list : (ranges_view new).list ≡ old_list = λ i. (ranges_view (record old { list = adds.list i; owners = adds.owners i })).list in
       let P = pieces_at old.pieces.items in
@@ -44,12 +47,13 @@ module _ (u : UnitParts) (old new : DepthRanges) (all : List (Owned Grouped)) (a
           | inl same ↦ subst (λ (k : ℕ). AreNamed u (pieces_at new.pieces.items k)) same (subst (AreNamed u) (sym adds.pieces.here) (named_appended u (P at.depth) more (h.named at.depth) named))
           | inr ne ↦ subst (AreNamed u) (sym (adds.pieces.others d (λ e. ne (sym e)))) (h.named d)
         ];
+        counted = counts spans le;
       }
 
   -- in the list
-  in_list : (spans : List Span) → AddsToList old new at spans → AreOfCalls u (ranges_view new) (all ++ map (call_range at.depth at.call) spans)
+  in_list : (spans : List Span) → new.count ≤ old.count + length spans → AddsToList old new at spans → AreOfCalls u (ranges_view new) (all ++ map (call_range at.depth at.call) spans)
   unfolding told
-  in_list spans adds =
+  in_list spans le adds =
       let old_list = (ranges_view old).list in
       let pieces : new.pieces.items ≡ old.pieces.items = λ i. (adds.pieces i).items in
       let none : told u (pieces_at old.pieces.items at.depth) ≡ [] = ap (told u) adds.none in
@@ -62,17 +66,18 @@ module _ (u : UnitParts) (old new : DepthRanges) (all : List (Owned Grouped)) (a
           | inr ne ↦ rw (adds.list, pieces) (depth_still d at.depth at.call all spans (apart at.depth d ne) ∙ (h.same d ∙ ap (λ (l : List (Owned Span)). l ++ told u (pieces_at old.pieces.items d)) (sym (depth_still d at.depth at.call old_list spans (apart at.depth d ne)))))
         ];
         named = λ d. subst (λ (p : List (Vec Piece Global)). AreNamed u (pieces_at p d)) (sym pieces) (h.named d);
+        counted = counts spans le;
       }
 
-  pub of_one_more : (spans : List Span) → PutsRanges old new at spans → AreOfCalls u (ranges_view new) (all ++ map (call_range at.depth at.call) spans)
-  of_one_more spans (inl adds) = in_list spans adds
-  of_one_more spans (inr adds) = of_pieces spans (ranges_of_call at.call spans) adds (told_ranges u at.call spans) (ranges_named u at.call spans)
+  pub of_one_more : (spans : List Span) → new.count ≤ old.count + length spans → PutsRanges old new at spans → AreOfCalls u (ranges_view new) (all ++ map (call_range at.depth at.call) spans)
+  of_one_more spans le (inl adds) = in_list spans le adds
+  of_one_more spans le (inr adds) = of_pieces spans (ranges_of_call at.call spans) le adds (told_ranges u at.call spans) (ranges_named u at.call spans)
 
-  pub of_list : (offset : ℕ) (named : HasSpans (list_at u offset)) → AddsPieces old new at.depth (record { call = at.call; named = Listed offset } ∷ []) → AreOfCalls u (ranges_view new) (all ++ map (call_range at.depth at.call) named.spans)
+  pub of_list : (offset count : ℕ) (named : HasAtLeast (list_at u offset) count) → new.count ≤ old.count + count → AddsPieces old new at.depth (record { call = at.call; named = Listed offset } ∷ []) → AreOfCalls u (ranges_view new) (all ++ map (call_range at.depth at.call) named.spans)
   unfolding told
-  of_list offset named adds =
+  of_list offset count named le adds =
       let p : Piece = record { call = at.call; named = Listed offset } in
-      of_pieces named.spans (p ∷ []) adds (append-nil (own_all at.call (or_none (list_at u offset))) ∙ ap (λ (o : Option (List Span)). own_all at.call (or_none o)) named.is) (named, tt)
+      of_pieces named.spans (p ∷ []) (omega (arith, le, named.enough)) adds (append-nil (own_all at.call (or_none (list_at u offset))) ∙ ap (λ (o : Option (List Span)). own_all at.call (or_none o)) named.is) (record { spans = named.spans; is = named.is }, tt)
 
 -- a list of few entries
 pub record FewTold (o : Option (List Span)) (old new : List Span) : Type 0 where

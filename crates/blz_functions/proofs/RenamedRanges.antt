@@ -1,5 +1,5 @@
 -- Ranges whose owners are places in a list of calls.
-use Rattle.std.proofs.Common.{◌≡◌, ℕ, zero, suc, ◌+◌, ◌*◌, ◌<◌, ◌≤◌, ltb, List, [], ◌∷◌, ◌++◌, append_assoc, length, length-append, map, Option, Some, None, option_map, refl, sym, ap, subst, ◌∙◌, arith, inl, inr}
+use Rattle.std.proofs.Common.{◌≡◌, ℕ, zero, suc, ◌+◌, ◌*◌, ◌<◌, ◌≤◌, ltb, List, [], ◌∷◌, ◌++◌, append_assoc, length, length-append, Option, Some, None, option_map, refl, sym, ap, subst, ◌∙◌, arith, inl, inr}
 use Rattle.std.specs.Prelude.{slice_index_or}
 use Rattle.std.specs.List.{slice_get}
 use Rattle.std.proofs.lemmas.Bool.{cases_Bool}
@@ -13,8 +13,7 @@ use Rattle.blz_functions.specs.BestOwned.{AnswersAs, best_owned, better_owned}
 use Rattle.blz_functions.specs.Leaves.{UnitParts}
 use Rattle.blz_functions.specs.Pieces.{AreNamed, or_none, spans_named, told, told_by}
 use Rattle.blz_functions.specs.Renamed.{rename, renamed}
-use Rattle.blz_functions.specs.Settling.{AreNumbered, AreWithin, HasNumbered, IsPlaceOf}
-use Rattle.blz_functions.specs.SharedDepths.{call_numbered}
+use Rattle.blz_functions.specs.Settling.{AreNumbered, AreWithin, IsPlaceOf}
 use Rattle.blz_functions.specs.declared.pieces.Piece.{Piece}
 use Rattle.blz_functions.proofs.BestOwned.{items_all, owner_of_best}
 use Rattle.blz_functions.proofs.ToldPieces.{named_appended, named_back, named_front, told_appended}
@@ -39,7 +38,7 @@ renamed_better calls o (Some q) =
       | inr ge ↦ rw ge refl
     ]
 
-best_renamed : (calls : List ℕ) (list : List (Owned Span)) (addr : ℕ) → best_owned (renamed calls list) addr ≡ option_map (rename calls) (best_owned list addr)
+pub best_renamed : (calls : List ℕ) (list : List (Owned Span)) (addr : ℕ) → best_owned (renamed calls list) addr ≡ option_map (rename calls) (best_owned list addr)
 unfolding best_owned
 best_renamed calls [] addr = refl
 best_renamed calls (o ∷ rest) addr =
@@ -50,6 +49,9 @@ best_renamed calls (o ∷ rest) addr =
 
 pub answers_renamed : (calls : List ℕ) (kept all : List (Owned Span)) → AnswersAs kept all → AnswersAs (renamed calls kept) (renamed calls all)
 answers_renamed calls kept all h addr = best_renamed calls kept addr ∙ (ap (option_map (rename calls)) (h addr) ∙ sym (best_renamed calls all addr))
+
+abbrev pub call_numbered : List ℕ → Option ℕ → Option ℕ
+call_numbered calls number = option_map (λ (n : ℕ). slice_index_or calls n 0) number
 
 owner_renamed : (calls : List ℕ) (o : Option (Owned Span)) → option_map (λ (x : Owned Span). x.owner) (option_map (rename calls) o) ≡ call_numbered calls (option_map (λ (x : Owned Span). x.owner) o)
 owner_renamed calls None = refl
@@ -71,21 +73,17 @@ length_renamed calls (o ∷ rest) = ap suc (length_renamed calls rest)
 
 -- ---- what it takes to find it
 
-length_all : (n : ℕ) (spans : List Span) → length (own_all n spans) ≡ length spans
+pub length_all : (n : ℕ) (spans : List Span) → length (own_all n spans) ≡ length spans
 length_all n [] = refl
 length_all n (s ∷ rest) = ap suc (length_all n rest)
 
-pub cost_of_tail : (call : ℕ) (tail : List Span) (cost : ℕ) → (AreApart tail → cost ≤ 4 * (2 * length tail + 1)) → AreApart (items_of (own_all call tail)) → cost ≤ 4 * (2 * length (own_all call tail) + 1)
-cost_of_tail call tail cost h apart =
-    let k = h (subst AreApart (items_all call tail) apart) in
-    let l = length_all call tail in
-    omega arith
+pub cost_of_tail : (call : ℕ) (tail : List Span) (cost factor : ℕ) → (AreApart tail → cost ≤ factor * (2 * length tail + 1)) → AreApart (items_of (own_all call tail)) → cost ≤ factor * (2 * length (own_all call tail) + 1)
+cost_of_tail call tail cost factor h apart =
+    subst (λ (n : ℕ). cost ≤ factor * (2 * n + 1)) (sym (length_all call tail)) (h (subst AreApart (items_all call tail) apart))
 
-pub cost_of_renamed : (calls : List ℕ) (list : List (Owned Span)) (cost : ℕ) → (AreApart (items_of list) → cost ≤ 4 * (2 * length list + 1)) → AreApart (items_of (renamed calls list)) → cost ≤ 4 * (2 * length (renamed calls list) + 1)
-cost_of_renamed calls list cost h apart =
-    let k = h (subst AreApart (items_renamed calls list) apart) in
-    let l = length_renamed calls list in
-    omega arith
+pub cost_of_renamed : (calls : List ℕ) (list : List (Owned Span)) (cost factor : ℕ) → (AreApart (items_of list) → cost ≤ factor * (2 * length list + 1)) → AreApart (items_of (renamed calls list)) → cost ≤ factor * (2 * length (renamed calls list) + 1)
+cost_of_renamed calls list cost factor h apart =
+    subst (λ (n : ℕ). cost ≤ factor * (2 * n + 1)) (sym (length_renamed calls list)) (h (subst AreApart (items_renamed calls list) apart))
 
 -- ---- pieces with places of their calls
 
@@ -154,3 +152,10 @@ pub both_named : (u : UnitParts) (front back list some : List Piece) (calls more
 both_named u front back list some calls more f b named =
     let first = f tt in
     (b first.within).named u (first.named u tt (named_front u front back named)) (named_back u front back named)
+
+pub all_numbered : (pieces list : List Piece) (more : List ℕ) → AreNumbered pieces [] [] list more → (u : UnitParts) → renamed more (told u list) ≡ told u pieces
+unfolding told
+all_numbered pieces list more f u = (f tt).told u
+
+pub all_named : (u : UnitParts) (pieces list : List Piece) (more : List ℕ) → AreNumbered pieces [] [] list more → AreNamed u pieces → AreNamed u list
+all_named u pieces list more f named = (f tt).named u tt named

@@ -1,26 +1,29 @@
 -- Depths that are settled one after the other.
-use Rattle.std.proofs.Common.{◌≡◌, ℕ, zero, suc, ◌+◌, ◌<◌, ◌≤◌, true, ltb, List, [], ◌∷◌, ◌++◌, append_assoc, length, length-append, map, take, Option, Some, None, option_map, refl, sym, ap, subst, ◌∙◌, arith, inl, inr}
-use Rattle.std.specs.Prelude.{◌==◌, slice_index_or}
+use Rattle.std.proofs.Common.{◌≡◌, ℕ, zero, suc, ◌+◌, ◌<◌, ◌≤◌, true, ltb, List, [], ◌∷◌, ◌++◌, append_assoc, length, length-append, map, take, Option, Some, None, refl, sym, ap, subst, ◌∙◌, arith, inl, inr}
+use Rattle.std.specs.Prelude.{◌==◌, slice_index_or, IfSome}
 use Rattle.std.specs.declared.alloc.Global.{Global}
 use Rattle.std.specs.declared.vec.Vec.{Vec}
-use Rattle.std.specs.List.{slice_get}
 use Rattle.std.proofs.lemmas.Bool.{cases_Bool, cases_eq, eq-eqb, eqb-true, ltb-false, ltb-true}
 use Rattle.std.proofs.lemmas.List.{append-nil}
 use Rattle.blz_ranges.specs.declared.grouped.Grouped.{Grouped}
 use Rattle.blz_ranges.specs.declared.span.Span.{Span}
 use Rattle.blz_ranges.specs.Owned.{Owned, owned}
 use Rattle.blz_ranges.specs.Groups.{grouped}
+use Rattle.blz_ranges.specs.Ranges.{best_owner}
 use Rattle.blz_functions.specs.BestOwned.{AnswersAs, best_owned}
+use Rattle.blz_functions.specs.Chain.{at_depth}
 use Rattle.blz_functions.specs.DepthRanges.{HasPieces, of_depth, pieces_at}
 use Rattle.blz_functions.specs.Leaves.{UnitParts}
-use Rattle.blz_functions.specs.Pieces.{AreNamed, TellAs, told}
-use Rattle.blz_functions.specs.SettledRanges.{AnswerAsAll, SearchedRanges, searched_at, searched_by, shared_in}
+use Rattle.blz_functions.specs.Pieces.{AreNamed, told}
+use Rattle.blz_functions.specs.SettledRanges.{AnswerAsAll, SearchedRanges, found_at, found_by, shared_in}
 use Rattle.blz_functions.specs.Settling.{AreOwn, PutsDepth, Settles, SharesDepth, to_group}
-use Rattle.blz_functions.specs.SharedDepths.{ranges_shared}
+use Rattle.blz_functions.specs.SharedDepths.{call_of, CountsUpTo}
 use Rattle.blz_functions.specs.declared.pieces.Named.TheVariants.{Range}
 use Rattle.blz_functions.specs.declared.pieces.Piece.{Piece}
 use Rattle.blz_functions.specs.declared.shared_depth.SharedDepth.{SharedDepth}
+use Rattle.blz_functions.specs.declared.shared_depth.SharedDepth.TheVariants.{One, Two}
 use Rattle.blz_functions.proofs.DepthRanges.{depth_appended}
+use Rattle.blz_functions.proofs.FoundCalls.{call_of_depth, same_at_depth}
 use Rattle.blz_functions.proofs.GatheredPieces.{take_next}
 use Rattle.blz_functions.proofs.PiecedRanges.{apart}
 use Rattle.blz_functions.proofs.ToldPieces.{named_appended, told_appended}
@@ -134,8 +137,9 @@ module _ (list : List Grouped) (owners : List ℕ) (at count : ℕ) (g : Grouped
 
 -- ---- the first so many depths
 
-pub record AreSettledTo (u : UnitParts) (own pieces : List (Vec Piece Global)) (r : SearchedRanges) (all : List (Owned Grouped)) (k : ℕ) : Type 0 where
-  pub answers : (d : ℕ) → d < k → AnswersAs (searched_at r d) (of_depth d all)
+pub record AreSettledTo (u : UnitParts) (own pieces : List (Vec Piece Global)) (r : SearchedRanges) (all : List (Owned Grouped)) (count k : ℕ) : Type 0 where
+  pub answers : (d : ℕ) → d < k → (addr : ℕ) → at_depth all addr d ≡ found_at r addr d
+  pub counts : (d : ℕ) → IfSome (shared_in r.shared d) (CountsUpTo count)
   pub rest : (d : ℕ) → k ≤ d → of_depth d all ≡ of_depth d r.list ++ told u (pieces_at pieces d)
   pub own_told : (d : ℕ) → k ≤ d → d < length pieces → told u (pieces_at own d) ≡ of_depth d r.list
   pub unshared : (d : ℕ) → k ≤ d → shared_in r.shared d ≡ None
@@ -148,64 +152,77 @@ past_end [] d le = refl
 past_end (p ∷ rest) zero le = absurd (omega arith)
 past_end (p ∷ rest) (suc d) le = past_end rest d (omega arith)
 
-pub settled_to_end : (u : UnitParts) (own pieces : List (Vec Piece Global)) (r : SearchedRanges) (all : List (Owned Grouped)) (k : ℕ) → length pieces ≤ k → AreSettledTo u own pieces r all k → AnswerAsAll r all
-unfolding told
-settled_to_end u own pieces r all k end h d = elim (cases_Bool (ltb d k)) [
-  | inl t ↦ h.answers d (ltb-true d k t)
-  | inr f ↦
-      let le : k ≤ d = let g = ltb-false d k f in omega arith in
-      let none = past_end pieces d (omega (arith, le, end)) in
-      let same : of_depth d all ≡ of_depth d r.list = h.rest d le ∙ (ap (λ (p : List Piece). of_depth d r.list ++ told u p) none ∙ append-nil (of_depth d r.list)) in
-      rw (h.unshared d le) (same_answers (of_depth d r.list) (of_depth d all) (sym same))
-]
+counts_more : (count more : ℕ) (o : Option SharedDepth) → count ≤ more → IfSome o (CountsUpTo count) → IfSome o (CountsUpTo more)
+counts_more count more None le h = tt
+counts_more count more (Some (One layer)) le h = tt
+counts_more count more (Some (Two layers)) le h = omega arith
 
-pub settled_from_start : (u : UnitParts) (own pieces : List (Vec Piece Global)) (r : SearchedRanges) (all : List (Owned Grouped)) → AreOwn r.list (length pieces) own → r.shared ≡ [] → ((d : ℕ) → of_depth d all ≡ of_depth d r.list ++ told u (pieces_at pieces d)) → AreSettledTo u own pieces r all 0
-settled_from_start u own pieces r all owned none same = record {
+pub settled_to_end : (u : UnitParts) (own pieces : List (Vec Piece Global)) (r : SearchedRanges) (all : List (Owned Grouped)) (count k : ℕ) → length pieces ≤ k → count ≤ length all → AreSettledTo u own pieces r all count k → AnswerAsAll r all
+unfolding told
+settled_to_end u own pieces r all count k end counted h = record {
+  calls = λ addr d. elim (cases_Bool (ltb d k)) [
+    | inl t ↦ h.answers d (ltb-true d k t) addr
+    | inr f ↦
+        let le : k ≤ d = let g = ltb-false d k f in omega arith in
+        let none = past_end pieces d (omega (arith, le, end)) in
+        let same : of_depth d all ≡ of_depth d r.list = h.rest d le ∙ (ap (λ (p : List Piece). of_depth d r.list ++ told u p) none ∙ append-nil (of_depth d r.list)) in
+        rw (h.unshared d le) (same_at_depth r.list all d (same_answers (of_depth d r.list) (of_depth d all) (sym same)) addr)
+  ];
+  counts = λ d. counts_more count (length all) (shared_in r.shared d) counted (h.counts d);
+}
+
+pub settled_from_start : (u : UnitParts) (own pieces : List (Vec Piece Global)) (r : SearchedRanges) (all : List (Owned Grouped)) (count : ℕ) → AreOwn r.list (length pieces) own → r.shared ≡ [] → ((d : ℕ) → of_depth d all ≡ of_depth d r.list ++ told u (pieces_at pieces d)) → AreSettledTo u own pieces r all count 0
+settled_from_start u own pieces r all count owned none same = record {
   answers = λ d lt. absurd (omega arith);
+  counts = λ d. rw none tt;
   rest = λ d le. same d;
   own_told = λ d le lt. owned.told u d lt;
   unshared = λ d le. rw none refl;
 }
 
-module _ (u : UnitParts) (own pieces : List (Vec Piece Global)) (old new : SearchedRanges) (all : List (Owned Grouped)) (k : ℕ) (h : AreSettledTo u own pieces old all k) (lt : k < length pieces) where
-  shares : SharesDepth u old new k (pieces_at own k ++ pieces_at pieces k) → AreSettledTo u own pieces new all (k + 1)
+module _ (u : UnitParts) (own pieces : List (Vec Piece Global)) (old new : SearchedRanges) (all : List (Owned Grouped)) (count k : ℕ) (h : AreSettledTo u own pieces old all count k) (lt : k < length pieces) where
+  shares : SharesDepth u old new k (pieces_at own k ++ pieces_at pieces k) count → AreSettledTo u own pieces new all count (k + 1)
   shares s =
       let all_told : told u (pieces_at own k ++ pieces_at pieces k) ≡ of_depth k all = told_appended u (pieces_at own k) (pieces_at pieces k) ∙ (ap (λ (l : List (Owned Span)). l ++ told u (pieces_at pieces k)) (h.own_told k (omega arith) lt) ∙ sym (h.rest k (omega arith))) in
-      let here : AnswersAs (ranges_shared s.shared) (of_depth k all) = subst (AnswersAs (ranges_shared s.shared)) all_told s.as_pieces in
-      let same_list : old.list ≡ new.list = sym s.list in
+      let here : (addr : ℕ) → at_depth all addr k ≡ call_of s.shared addr = λ addr. call_of_depth all addr k ∙ (ap (λ (l : List (Owned Span)). best_owner l addr) (sym all_told) ∙ s.as_pieces.calls addr) in
       record {
         answers = λ d le. elim (cases_eq k d) [
-          | inl same ↦ subst (λ (n : ℕ). AnswersAs (searched_at new n) (of_depth n all)) same (rw s.is here)
-          | inr ne ↦ rw (s.others d ne, s.list) (h.answers d (omega (arith, le, ne)))
+          | inl same ↦ subst (λ (n : ℕ). (addr : ℕ) → at_depth all addr n ≡ found_at new addr n) same (λ addr. rw s.is (here addr))
+          | inr ne ↦ λ addr. rw (s.others d ne, s.list) (h.answers d (omega (arith, le, ne)) addr)
+        ];
+        counts = λ d. elim (cases_eq k d) [
+          | inl same ↦ subst (λ (n : ℕ). IfSome (shared_in new.shared n) (CountsUpTo count)) same (rw s.is s.as_pieces.counts)
+          | inr ne ↦ rw (s.others d ne) (h.counts d)
         ];
         rest = λ d le. rw s.list (h.rest d (omega arith));
         own_told = λ d le end. rw s.list (h.own_told d (omega arith) end);
         unshared = λ d le. s.others d (λ e. omega (arith, e, le)) ∙ h.unshared d (omega arith);
       }
 
-  searched_still : (d : ℕ) (o : Option SharedDepth) (ranges : List (Owned Span)) → (k ≡ d → ⊥) → searched_by (old.list ++ map (to_group k) ranges) d o ≡ searched_by old.list d o
-  searched_still d None ranges ne = put_still d k old.list ranges ne
-  searched_still d (Some s) ranges ne = refl
+  found_still : (d addr : ℕ) (o : Option SharedDepth) (ranges : List (Owned Span)) → (k ≡ d → ⊥) → found_by old.list addr d o ≡ found_by (old.list ++ map (to_group k) ranges) addr d o
+  found_still d addr None ranges ne = same_at_depth (old.list ++ map (to_group k) ranges) old.list d (same_answers (of_depth d (old.list ++ map (to_group k) ranges)) (of_depth d old.list) (put_still d k old.list ranges ne)) addr
+  found_still d addr (Some s) ranges ne = refl
 
-  puts : PutsDepth u old new k (pieces_at pieces k) → AreSettledTo u own pieces new all (k + 1)
+  puts : PutsDepth u old new k (pieces_at pieces k) → AreSettledTo u own pieces new all count (k + 1)
   puts p =
       let none : shared_in new.shared k ≡ None = rw p.shared (h.unshared k (omega arith)) in
       let here : AnswersAs (of_depth k new.list) (of_depth k all) = rw (p.list, put_here k old.list p.ranges, h.rest k (omega arith)) (p.tell (of_depth k old.list)) in
       record {
         answers = λ d le. elim (cases_eq k d) [
-          | inl same ↦ subst (λ (n : ℕ). AnswersAs (searched_at new n) (of_depth n all)) same (rw none here)
-          | inr ne ↦ rw (p.shared, p.list, searched_still d (shared_in old.shared d) p.ranges ne) (h.answers d (omega (arith, le, ne)))
+          | inl same ↦ subst (λ (n : ℕ). (addr : ℕ) → at_depth all addr n ≡ found_at new addr n) same (λ addr. rw none (same_at_depth new.list all k here addr))
+          | inr ne ↦ λ addr. rw (p.shared, p.list) (h.answers d (omega (arith, le, ne)) addr ∙ found_still d addr (shared_in old.shared d) p.ranges ne)
         ];
+        counts = λ d. rw p.shared (h.counts d);
         rest = λ d le. rw (p.list, put_still d k old.list p.ranges (λ e. omega (arith, e, le))) (h.rest d (omega arith));
         own_told = λ d le end. rw (p.list, put_still d k old.list p.ranges (λ e. omega (arith, e, le))) (h.own_told d (omega arith) end);
         unshared = λ d le. rw p.shared (h.unshared d (omega arith));
       }
 
-  pub settled_next : Settles u old new k (pieces_at own k) (pieces_at pieces k) → AreSettledTo u own pieces new all (k + 1)
+  pub settled_next : Settles u old new k (pieces_at own k) (pieces_at pieces k) count → AreSettledTo u own pieces new all count (k + 1)
   settled_next (inl s) = shares s
   settled_next (inr p) = puts p
 
-pub settles_nothing : (u : UnitParts) (r : SearchedRanges) (depth : ℕ) (own pieces : List Piece) → (length pieces == 0) ≡ true → Settles u r r depth own pieces
+pub settles_nothing : (u : UnitParts) (r : SearchedRanges) (depth : ℕ) (own pieces : List Piece) (count : ℕ) → (length pieces == 0) ≡ true → Settles u r r depth own pieces count
 unfolding told
-settles_nothing u r depth own [] e = inr (record { ranges = []; tell = λ front addr. refl; list = sym (append-nil r.list); shared = refl })
-settles_nothing u r depth own (p ∷ rest) e = absurd (let k = eqb-true (length (p ∷ rest)) 0 e in omega arith)
+settles_nothing u r depth own [] count e = inr (record { ranges = []; tell = λ front addr. refl; list = sym (append-nil r.list); shared = refl })
+settles_nothing u r depth own (p ∷ rest) count e = absurd (let k = eqb-true (length (p ∷ rest)) 0 e in omega arith)

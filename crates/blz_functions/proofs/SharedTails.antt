@@ -38,7 +38,7 @@ last_power count power all h below = record {
 
 -- ---- which ranges are found
 
-get_dropped : {A : Type 0} (xs : List A) (n i : ℕ) → slice_get (drop n xs) i ≡ slice_get xs (n + i)
+pub get_dropped : {A : Type 0} (xs : List A) (n i : ℕ) → slice_get (drop n xs) i ≡ slice_get xs (n + i)
 get_dropped xs zero i = let e : zero + i ≡ i = omega arith in rw e refl
 get_dropped [] (suc n) i = refl
 get_dropped (x ∷ xs) (suc n) i = let e : suc n + i ≡ suc (n + i) = omega arith in rw e (get_dropped xs n i)

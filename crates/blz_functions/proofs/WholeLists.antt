@@ -1,17 +1,17 @@
 -- Lists of ranges that were read to their ends, and their tails.
-use Rattle.std.proofs.Common.{◌≡◌, ℕ, ◌-◌, ◌≤◌, Bool, true, false, List, [], ◌∷◌, length, take, drop, Option, Some, None, refl, sym, ap, ◌∙◌, arith}
-use Rattle.std.specs.Prelude.{IfSome, is_some, nat_lt}
+use Rattle.std.proofs.Common.{◌≡◌, ℕ, ◌-◌, ◌≤◌, Bool, false, List, [], ◌∷◌, length, take, drop, Option, Some, refl, sym, ap, ◌∙◌, arith}
+use Rattle.std.specs.Prelude.{nat_lt}
 use Rattle.std.specs.BTreeMap.{IsEmpty}
 use Rattle.std.specs.Ordering.{nat_cmp}
 use Rattle.std.proofs.lemmas.Bool.{ltb-false}
-use Rattle.std.proofs.lemmas.List.{drop-drop, take_rest}
+use Rattle.std.proofs.lemmas.List.{drop-drop, length-drop, take_rest}
 use Rattle.blz_entry.specs.RangeLists.{joined}
 use Rattle.blz_entry.specs.RangeTails.{list_tail}
 use Rattle.blz_entry.specs.declared.range_tail.RangeTail.{RangeTail}
 use Rattle.blz_entry.proofs.RangeSteps.{joined_nothing}
 use Rattle.blz_ranges.specs.declared.span.Span.{Span}
 use Rattle.blz_functions.specs.Leaves.{UnitParts, spans_behind}
-use Rattle.blz_functions.specs.Pieces.{HasSpans}
+use Rattle.blz_functions.specs.Pieces.{HasAtLeast}
 use Rattle.blz_functions.specs.ReadLists.{ArePassed, IsPassedEntry, IsUse}
 use Rattle.blz_functions.specs.WholeLists.{BeginsIn, IsEntryIn, IsWholeAt, MayIndexLast, last_spans}
 use Rattle.blz_functions.specs.declared.read_lists.PassedEntry.{PassedEntry}
@@ -51,6 +51,5 @@ tail_of_last spans before count len is le enough within =
     rw is (drop-drop (before - (length spans - count)) (length spans - count) spans ∙ ap (λ (k : ℕ). drop k spans) (omega arith))
 
 -- a list that begins at an entry has a value
-pub found_spans : (u : UnitParts) (spans : List Span) (tail : RangeTail) (o : Option ℕ) → is_some o ≡ true → IfSome o (BeginsIn u spans tail) → HasSpans (spans_behind u tail)
-found_spans u spans tail None e h = absurd cc
-found_spans u spans tail (Some n) e h = record { spans = drop n spans; is = h }
+pub found_spans : (u : UnitParts) (spans : List Span) (tail : RangeTail) (before count : ℕ) → BeginsIn u spans tail before → count ≡ length spans - before → HasAtLeast (spans_behind u tail) count
+found_spans u spans tail before count is same = record { spans = drop before spans; is = is; enough = omega (arith, length-drop before spans, same) }

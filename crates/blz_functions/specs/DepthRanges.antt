@@ -1,6 +1,6 @@
 -- The ranges of inlined calls by their depths, while the calls are read: of a depth those that stand in a list, and behind
 -- them those of its pieces.
-use Rattle.std.specs.Prelude.{◌≡◌, ℕ, Bool, false, List, [], ◌∷◌, ◌++◌, length, map, Option, Some, None, Result, nat_lt, ◌==◌, ◌⊎◌, if◌then◌else◌}
+use Rattle.std.specs.Prelude.{◌≡◌, ℕ, ◌≤◌, Bool, List, [], ◌∷◌, ◌++◌, length, map, Option, Some, None, Result, nat_lt, ◌==◌, ◌⊎◌, if◌then◌else◌}
 use Rattle.std.specs.List.{slice_get}
 use Rattle.std.specs.declared.alloc.Global.{Global}
 use Rattle.std.specs.declared.vec.Vec.{Vec}
@@ -35,21 +35,23 @@ pieces_at pieces depth = or_no_pieces (slice_get pieces depth)
 abbrev pub has_pieces : List (Vec Piece Global) → ℕ → Bool
 has_pieces pieces depth = nat_lt 0 (length (pieces_at pieces depth))
 
--- ranges in groups, one for each depth, each with the number of its call, and the pieces of each depth
+-- ranges in groups, one for each depth, each with the number of its call, the pieces of each depth, and a count of all ranges
 pub record PiecedRanges : Type 0 where
   pub list : List (Owned Grouped)
   pub pieces : List (Vec Piece Global)
+  pub count : ℕ
 
 abbrev pub ranges_view : DepthRanges → PiecedRanges
-ranges_view r = record { list = owned r.list.items r.owners.items; pieces = r.pieces.items }
+ranges_view r = record { list = owned r.list.items r.owners.items; pieces = r.pieces.items; count = r.count }
 
 abbrev pub AreAllNamed : UnitParts → List (Vec Piece Global) → Type 0
 AreAllNamed u pieces = (depth : ℕ) → AreNamed u (pieces_at pieces depth)
 
--- They are those of all calls at each depth.
+-- They are those of all calls at each depth, and no more are counted.
 pub record AreOfCalls (u : UnitParts) (r : PiecedRanges) (all : List (Owned Grouped)) : Type 0 where
   pub same : (depth : ℕ) → of_depth depth all ≡ of_depth depth r.list ++ told u (pieces_at r.pieces depth)
   pub named : AreAllNamed u r.pieces
+  pub counted : r.count ≤ length all
 
 -- ---- one call more
 

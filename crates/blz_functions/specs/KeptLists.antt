@@ -1,5 +1,5 @@
 -- Lists of ranges that calls of a unit name, and what was gathered of several, for all functions of the unit.
-use Rattle.std.specs.Prelude.{◌≡◌, ◌≢◌, ℕ, Bool, true, List, Option, IfOk, IfSome, Result, MatchResult}
+use Rattle.std.specs.Prelude.{◌≢◌, ℕ, List, Option, IfOk, IfSome, Result, MatchResult}
 use Rattle.std.specs.Arc.{arc_value}
 use Rattle.std.specs.BTreeMap.{get}
 use Rattle.std.specs.Cmp.Lexicographic.{slice_cmp}
@@ -13,11 +13,11 @@ use Rattle.blz_error.specs.declared.kind.ErrorKind.TheVariants.{OutOfMemory}
 use Rattle.blz_model.specs.Part.{Fails}
 use Rattle.blz_info.specs.Marks.{or_invalid}
 use Rattle.blz_entry.specs.declared.range_tail.RangeTail.{RangeTail}
-use Rattle.blz_ranges.specs.Ranges.{OwnedRanges}
+use Rattle.blz_ranges.specs.Owned.{Owned}
 use Rattle.blz_ranges.specs.declared.span.Span.{Span}
 use Rattle.blz_functions.specs.BestOwned.{AnswersAs}
 use Rattle.blz_functions.specs.Leaves.{UnitParts, spans_behind}
-use Rattle.blz_functions.specs.Pieces.{HasSpans, told}
+use Rattle.blz_functions.specs.Pieces.{HasAtLeast, told}
 use Rattle.blz_functions.specs.WholeLists.{IsWhole}
 use Rattle.blz_functions.specs.contracts.pieces.PieceOrd.TheImpl as pieces
 use Rattle.blz_functions.specs.declared.kept_lists.KeptLists.{KeptLists}
@@ -25,18 +25,21 @@ use Rattle.blz_functions.specs.declared.kept_lists.NamedList.{NamedList}
 use Rattle.blz_functions.specs.declared.pieces.Piece.{Piece}
 use Rattle.blz_functions.specs.declared.whole_list.WholeList.{WholeList}
 
--- A call tells whether a list has a value, want of memory aside.
-abbrev pub Names : Option (List Span) → Result (Unit {0}) Fault → Type 0
-Names spans result = MatchResult result (λ _. HasSpans spans) (λ e. Fails e.kind (or_invalid spans))
+-- A call tells whether a list has a value, and a number of ranges that are not more than its own, want of memory aside.
+abbrev pub Names : Option (List Span) → Result ℕ Fault → Type 0
+Names spans result = MatchResult result (HasAtLeast spans) (λ e. Fails e.kind (or_invalid spans))
 
--- Ranges in an order that was accepted have the same best ones as those of some pieces.
-pub record IsContent (u : UnitParts) (pieces : List Piece) (c : OwnedRanges) : Type 0 where
-  pub ordered : c.ordered ≡ true
-  pub answers : AnswersAs c.ranges (told u pieces)
+-- A call gives what something holds of, or nothing, want of memory aside.
+abbrev pub MayGiveAs : {S : Type 0} → (S → Type 0) → Result (Option S) Fault → Type 0
+MayGiveAs Is result = MatchResult result (λ o. IfSome o Is) (λ e. e.kind ≢ OutOfMemory → ⊥)
+
+-- Ranges have the same best ones as those of some pieces.
+abbrev pub IsContent : UnitParts → List Piece → Arc (List (Owned Span)) Global → Type 0
+IsContent u pieces c = AnswersAs (arc_value c) (told u pieces)
 
 -- What is gathered of some pieces, or nothing, want of memory aside.
-abbrev pub GivesContent : UnitParts → List Piece → Result (Option (Arc OwnedRanges Global)) Fault → Type 0
-GivesContent u pieces result = MatchResult result (λ o. IfSome o (λ c. IsContent u pieces (arc_value c))) (λ e. e.kind ≢ OutOfMemory → ⊥)
+abbrev pub GivesContent : UnitParts → List Piece → Result (Option (Arc (List (Owned Span)) Global)) Fault → Type 0
+GivesContent u pieces result = MayGiveAs (IsContent u pieces) result
 
 -- A list that was named has what is kept of it.
 abbrev pub IsNamedList : UnitParts → NamedList → Type 0
@@ -49,8 +52,8 @@ piece_cmp = pieces.ghosts.cmp
 abbrev pub pieces_cmp : Vec Piece Global → Vec Piece Global → Ordering
 pieces_cmp x y = slice_cmp piece_cmp x.items y.items
 
-abbrev pub IsKeptContent : UnitParts → Vec Piece Global → Option (Arc OwnedRanges Global) → Type 0
-IsKeptContent u pieces kept = IfSome kept (λ c. IsContent u pieces.items (arc_value c))
+abbrev pub IsKeptContent : UnitParts → Vec Piece Global → Option (Arc (List (Owned Span)) Global) → Type 0
+IsKeptContent u pieces kept = IfSome kept (IsContent u pieces.items)
 
 -- Each list that is kept is one of the unit, and each content is that of its pieces.
 pub record AreKeptLists (u : UnitParts) (lists : KeptLists) : Type 0 where
@@ -65,6 +68,6 @@ KeepsLists old new More = (u : UnitParts) → More u → AreKeptLists u old → 
 abbrev pub MayGiveWhole : {E : Type 0} → UnitParts → Result (Option WholeList) E → Type 0
 MayGiveWhole u result = IfOk result (λ o. IfSome o (IsWhole u))
 
--- Where a call tells that a list begins within another one, the list has a value.
-abbrev pub TellsWithin : {E : Type 0} → UnitParts → RangeTail → Result Bool E → Type 0
-TellsWithin u tail result = IfOk result (λ within. within ≡ true → HasSpans (spans_behind u tail))
+-- Where a call gives a number of ranges of a list that begins within another one, the list has a value of as many.
+abbrev pub TellsWithin : {E : Type 0} → UnitParts → RangeTail → Result (Option ℕ) E → Type 0
+TellsWithin u tail result = IfOk result (λ o. IfSome o (HasAtLeast (spans_behind u tail)))

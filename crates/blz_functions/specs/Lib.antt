@@ -19,7 +19,10 @@ pub mod KeptList
 pub mod SharedTail
 pub mod WholeLists
 pub mod Renamed
+pub mod Found
+pub mod Layers
 pub mod SharedDepths
+pub mod Parts
 pub mod SettledRanges
 pub mod Settling
 pub mod KeptLists

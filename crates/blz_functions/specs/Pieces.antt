@@ -1,5 +1,5 @@
 -- What the calls of a depth name, where one of them names a list of ranges with many entries.
-use Rattle.std.specs.Prelude.{◌≡◌, ℕ, List, [], ◌∷◌, ◌++◌, map, Option, Some, None}
+use Rattle.std.specs.Prelude.{◌≡◌, ℕ, ◌≤◌, List, [], ◌∷◌, ◌++◌, length, map, Option, Some, None}
 use Rattle.blz_entry.specs.RangeTails.{list_tail}
 use Rattle.blz_ranges.specs.declared.span.Span.{Span}
 use Rattle.blz_ranges.specs.Owned.{Owned, own_all}
@@ -33,6 +33,12 @@ told u (p ∷ rest) = told_by u p ++ told u rest
 pub record HasSpans (o : Option (List Span)) : Type 0 where
   pub spans : List Span
   pub is : o ≡ Some spans
+
+-- It has a value of at least so many ranges.
+pub record HasAtLeast (o : Option (List Span)) (count : ℕ) : Type 0 where
+  pub spans : List Span
+  pub is : o ≡ Some spans
+  pub enough : count ≤ length spans
 
 abbrev pub IsNamed : UnitParts → Piece → Type 0
 IsNamed u p = HasSpans (spans_named u p.named)

@@ -8,14 +8,17 @@ use Rattle.blz_ranges.specs.declared.grouped.Grouped.{Grouped}
 use Rattle.blz_ranges.specs.declared.span.Span.{Span}
 use Rattle.blz_ranges.specs.Groups.{grouped}
 use Rattle.blz_ranges.specs.Owned.{Owned}
+use Rattle.blz_ranges.specs.Ranges.{best_owner}
 use Rattle.blz_functions.specs.BestOwned.{AnswersAs}
 use Rattle.blz_functions.specs.DepthRanges.{AreOfCalls, of_depth, pieces_at, ranges_view}
+use Rattle.blz_functions.specs.Layers.{call_in_layers, ranges_of, LayeredRanges}
 use Rattle.blz_functions.specs.Leaves.{UnitParts}
 use Rattle.blz_functions.specs.Pieces.{AreNamed, TellAs, told}
 use Rattle.blz_functions.specs.Renamed.{renamed}
 use Rattle.blz_functions.specs.SettledRanges.{AnswerAsAll, SearchedRanges, settled_view, shared_in}
-use Rattle.blz_functions.specs.SharedDepths.{ranges_shared}
+use Rattle.blz_functions.specs.SharedDepths.{call_of, CountsUpTo}
 use Rattle.blz_functions.specs.declared.depth_ranges.DepthRanges.{DepthRanges}
+use Rattle.blz_functions.specs.declared.layer.Layer.{Layer}
 use Rattle.blz_functions.specs.declared.pieces.Piece.{Piece}
 use Rattle.blz_functions.specs.declared.settled_ranges.SettledRanges.{SettledRanges}
 use Rattle.blz_functions.specs.declared.shared_depth.SharedDepth.{SharedDepth}
@@ -49,15 +52,25 @@ pub record HasNumbered (pieces old : List Piece) (calls : List ℕ) (new : List 
 abbrev pub AreNumbered : List Piece → List Piece → List ℕ → List Piece → List ℕ → Type 0
 AreNumbered pieces old calls new more = AreWithin calls old → HasNumbered pieces old calls new more
 
+-- A layer has the same best ranges as those of some pieces.
+abbrev pub IsLayerAs : UnitParts → List Piece → Layer → Type 0
+IsLayerAs u pieces l = AnswersAs (ranges_of l) (told u pieces)
+
+-- Two layers give the same calls as the ranges of some pieces do, and take as many looks as among so many ranges.
+pub record AreLayersAs (u : UnitParts) (pieces : List Piece) (count : ℕ) (l : LayeredRanges) : Type 0 where
+  pub calls : (addr : ℕ) → best_owner (told u pieces) addr ≡ call_in_layers l addr
+  pub counts : l.count ≤ count
+
 -- The ranges of a depth are kept as those of its pieces.
-abbrev pub IsSharedAs : UnitParts → List Piece → SharedDepth → Type 0
-IsSharedAs u pieces s = AnswersAs (ranges_shared s) (told u pieces)
+pub record IsSharedAs (u : UnitParts) (pieces : List Piece) (count : ℕ) (s : SharedDepth) : Type 0 where
+  pub calls : (addr : ℕ) → best_owner (told u pieces) addr ≡ call_of s addr
+  pub counts : CountsUpTo count s
 
 -- Of a depth the ranges are kept elsewhere.
-pub record SharesDepth (u : UnitParts) (old new : SearchedRanges) (depth : ℕ) (pieces : List Piece) : Type 0 where
+pub record SharesDepth (u : UnitParts) (old new : SearchedRanges) (depth : ℕ) (pieces : List Piece) (count : ℕ) : Type 0 where
   pub shared : SharedDepth
   pub is : shared_in new.shared depth ≡ Some shared
-  pub as_pieces : IsSharedAs u pieces shared
+  pub as_pieces : IsSharedAs u pieces count shared
   pub others : (d : ℕ) → (depth ≡ d → ⊥) → shared_in new.shared d ≡ shared_in old.shared d
   pub list : new.list ≡ old.list
 
@@ -68,8 +81,8 @@ pub record PutsDepth (u : UnitParts) (old new : SearchedRanges) (depth : ℕ) (p
   pub list : new.list ≡ old.list ++ map (to_group depth) ranges
   pub shared : new.shared ≡ old.shared
 
-abbrev pub Settles : UnitParts → SearchedRanges → SearchedRanges → ℕ → List Piece → List Piece → Type 0
-Settles u old new depth own pieces = SharesDepth u old new depth (own ++ pieces) ⊎ PutsDepth u old new depth pieces
+abbrev pub Settles : UnitParts → SearchedRanges → SearchedRanges → ℕ → List Piece → List Piece → ℕ → Type 0
+Settles u old new depth own pieces count = SharesDepth u old new depth (own ++ pieces) count ⊎ PutsDepth u old new depth pieces
 
 -- All depths of a function are settled, want of memory aside.
 abbrev pub SettlesAll : UnitParts → DepthRanges → Result SettledRanges Fault → Type 0

@@ -1,21 +1,27 @@
 -- Ranges of a depth that are kept once a unit.
-use Rattle.std.specs.Prelude.{ℕ, List, Option, option_map, is_some, slice_index_or, if◌then◌else◌, Some, None}
+use Rattle.std.specs.Prelude.{ℕ, ◌≤◌, List, ◌++◌, length, Option}
 use Rattle.blz_ranges.specs.declared.span.Span.{Span}
-use Rattle.blz_ranges.specs.Best.{best}
-use Rattle.blz_ranges.specs.Owned.{Owned, own_all}
-use Rattle.blz_ranges.specs.Ranges.{best_owner}
+use Rattle.blz_ranges.specs.Owned.{Owned}
+use Rattle.blz_functions.specs.Layers.{call_by, call_in_layers, ranges_of}
 use Rattle.blz_functions.specs.declared.shared_depth.SharedDepth.{SharedDepth}
-use Rattle.blz_functions.specs.declared.shared_depth.SharedDepth.TheVariants.{Tail, Content}
-
-abbrev pub call_numbered : List ℕ → Option ℕ → Option ℕ
-call_numbered calls number = option_map (λ n. slice_index_or calls n 0) number
+use Rattle.blz_functions.specs.declared.shared_depth.SharedDepth.TheVariants.{One, Two}
 
 -- its ranges, each with its call
 abbrev pub ranges_shared : SharedDepth → List (Owned Span)
-ranges_shared (Tail call tail) = own_all call tail
-ranges_shared (Content content) = content
+ranges_shared (One layer) = ranges_of layer
+ranges_shared (Two layers) = layers.listed ++ layers.rest
 
 -- the call that an address has by them
 abbrev pub call_of : SharedDepth → ℕ → Option ℕ
-call_of (Tail call tail) addr = if is_some (best tail addr) then Some call else None
-call_of (Content content) addr = best_owner content addr
+call_of (One layer) addr = call_by layer addr
+call_of (Two layers) addr = call_in_layers layers addr
+
+-- among how many ranges one search takes as many looks: its own, or the number that two layers keep
+abbrev pub count_shared : SharedDepth → ℕ
+count_shared (One layer) = length (ranges_of layer)
+count_shared (Two layers) = layers.count
+
+-- Two layers take no more looks than one search among so many ranges.
+abbrev pub CountsUpTo : ℕ → SharedDepth → Type 0
+CountsUpTo count (One layer) = Unit {0}
+CountsUpTo count (Two layers) = layers.count ≤ count

@@ -6,7 +6,7 @@ ghost use Rattle.blz_functions.specs.AskedCalls.{asked_calls, calls_asked};
 ghost use Rattle.blz_functions.specs.DepthRanges.{AreAllNamed};
 ghost use Rattle.blz_functions.specs.KeptLists.{AreKeptLists};
 ghost use Rattle.blz_functions.specs.Opened.{open_view, CanBeOpened};
-ghost use Rattle.blz_functions.specs.ReadCalls.{AreSettled};
+ghost use Rattle.blz_functions.specs.ReadCalls.{AreSettled, CountNoMore};
 ghost use Rattle.blz_ranges.specs.Keyed.{IsAccepted, group_key};
 ghost use Rattle.blz_ranges.specs.Owned.{items_of};
 
@@ -88,6 +88,7 @@ impl CallLists {
         requires opened { CanBeOpened unit.now }
         requires kept { AreKeptLists (open_view unit.now) kept.old }
         ensures value { Gives asked_calls result (or_invalid (calls_asked (F.refer (F.linkage links.old)) (open_view unit.now) place)) }
+        ensures counted { IfOk result (CountNoMore (F.refer (F.linkage links.old)) (open_view unit.now) place) }
         ensures kept { AreKeptLists (open_view unit.now) kept.new }
         ensures same { F.linkage links.new ≡ F.linkage links.old }
     {

@@ -1,5 +1,5 @@
 //! Ranges of inlined calls by their depths, while the calls are read.
-ghost use Rattle.std.specs.Prelude.{◌≡◌, ◌++◌, [], ◌∷◌, ◌<◌, length, map, OnOk, IfOk};
+ghost use Rattle.std.specs.Prelude.{◌≡◌, ◌+◌, ◌≤◌, ◌++◌, [], ◌∷◌, ◌<◌, length, map, OnOk, IfOk};
 ghost use Rattle.blz_functions.specs.Chain.{call_range};
 ghost use Rattle.blz_functions.specs.DepthRanges.{has_pieces, ranges_view, AddsRanges, AddsPieces, PutsRanges, KeepsPieces};
 ghost use Rattle.blz_functions.specs.KeptLists.{AreKeptLists};
@@ -33,6 +33,8 @@ pub struct DepthRanges {
     pub list: Vec<Grouped>,
     pub owners: Vec<usize>,
     pub pieces: Vec<Vec<Piece>>,
+    /// How many ranges the calls of all depths have, or fewer.
+    pub count: usize,
 }
 
 fn group(
@@ -83,12 +85,14 @@ impl DepthRanges {
         ensures list { result.list.items ≡ [] }
         ensures owners { result.owners.items ≡ [] }
         ensures pieces { result.pieces.items ≡ [] }
+        ensures count { result.count ≡ 0 }
     {
         DepthRanges {
             alloc,
             list: Vec::new(alloc),
             owners: Vec::new(alloc),
             pieces: Vec::new(alloc),
+            count: 0,
         }
     }
 
@@ -102,10 +106,17 @@ impl DepthRanges {
         }
     }
 
-    /// Puts a list that a call names to the pieces of its depth.
-    fn put_list(&mut self, at: DepthCall, offset: u64) -> std::result::Result<(), AllocError>
+    /// Puts a list that a call names, of at least so many ranges, to the pieces of its depth.
+    fn put_list(
+        &mut self,
+        at: DepthCall,
+        offset: u64,
+        count: usize,
+    ) -> std::result::Result<(), AllocError>
         ensures pieces { OnOk result (AddsPieces self.old self.new at.depth (record { call = at.call; named = Listed offset } ∷ [])) }
+        ensures count { OnOk result (self.new.count ≤ self.old.count + count) }
     {
+        self.count = self.count.saturating_add(count);
         reach(self.alloc, &mut self.pieces, at.depth)?;
         let call = at.call;
         let named = Named::Listed(offset);
@@ -118,7 +129,9 @@ impl DepthRanges {
         requires fits { length self.old.list.items ≡ length self.old.owners.items }
         ensures fits { OnOk result (length self.new.list.items ≡ length self.new.owners.items) }
         ensures put { OnOk result (PutsRanges self.old self.new at spans.now) }
+        ensures count { OnOk result (self.new.count ≤ self.old.count + length spans.now) }
     {
+        self.count = self.count.saturating_add(spans.len());
         if self.has_pieces(at.depth) {
             return push_ranges(&mut self.pieces[at.depth], at.call, spans);
         }
@@ -152,8 +165,8 @@ impl DepthRanges {
             self.put(at, spans.as_slice())?;
             return Ok(());
         }
-        kept.name(self.alloc, unit, offset)?;
-        self.put_list(at, offset)?;
+        let count = kept.name(self.alloc, unit, offset)?;
+        self.put_list(at, offset, count)?;
         Ok(())
     }
 }

@@ -1,5 +1,6 @@
 //! A list of ranges that is kept with an index of it.
-ghost use Rattle.std.specs.Prelude.{◌≡◌, ◌-◌, ◌≤◌, length, true, IfOk, IfSome};
+ghost use Rattle.std.specs.Prelude.{◌≡◌, ◌+◌, ◌-◌, ◌≤◌, length, true, IfOk, IfSome};
+ghost use Rattle.std.specs.List.{slice_get};
 ghost use Rattle.blz_ranges.specs.Best.{best};
 ghost use Rattle.blz_ranges.specs.Groups.{AreApart};
 ghost use Rattle.blz_functions.specs.KeptList.{AreFewLooks};
@@ -65,5 +66,13 @@ impl KeptList {
         ensures later { steps.old ≤ steps.new }
     {
         self.index.best_at(addr, steps)
+    }
+
+    /// The range at a place, for one look.
+    pub(crate) fn span<L: Ledger>(&self, place: usize, steps: &mut Steps<L>) -> Option<Span>
+        ensures span { result ≡ slice_get self.now.spans place }
+        ensures cost { steps.new ≡ steps.old + 1 }
+    {
+        self.index.span(place, steps)
     }
 }

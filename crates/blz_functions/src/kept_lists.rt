@@ -7,14 +7,13 @@ ghost use Rattle.blz_functions.specs.Opened.{open_view};
 ghost use Rattle.blz_functions.specs.Pieces.{AreNamed, list_at};
 ghost use Rattle.blz_functions.specs.WholeLists.{IsWhole, MayGiveTail};
 
+use crate::kept_ranges::KeptRanges;
 use crate::open_unit::OpenUnit;
 use crate::pieces::{Piece, gathered};
 use crate::shared_tail::SharedTail;
 use crate::whole_list::WholeList;
-use blz_bytes::ByStdSort;
 use blz_entry::RangeTail;
 use blz_error::{ErrorKind, Result};
-use blz_ranges::OwnedRanges;
 use std::alloc::{AllocError, Global};
 use std::collections::BTreeMap;
 use std::sync::Arc;
@@ -31,7 +30,7 @@ struct NamedList {
 #[derive(Drop)]
 pub struct KeptLists {
     named: BTreeMap<u64, NamedList>,
-    contents: BTreeMap<Vec<Piece>, Option<Arc<OwnedRanges>>>,
+    contents: BTreeMap<Vec<Piece>, Option<Arc<KeptRanges>>>,
 }
 
 /// Reads a list that was read before.
@@ -50,20 +49,18 @@ fn read_again(
 }
 
 /// What pieces tell, where its order is accepted.
-fn content_of(
+pub(crate) fn content_of(
     alloc: Global,
     unit: &OpenUnit<'_, '_>,
     pieces: &[Piece],
-) -> Result<Option<Arc<OwnedRanges>>>
+) -> Result<Option<Arc<KeptRanges>>>
     requires { AreNamed (open_view unit.now) pieces.now }
     ensures { GivesContent (open_view unit.now) pieces.now result }
 {
     let (spans, owners) = gathered(alloc, unit, pieces)?;
-    let ranges = OwnedRanges::build(alloc, &mut ByStdSort, spans, owners)?;
-    if ranges.is_ordered() {
-        Ok(Some(Arc::new(alloc, ranges)?))
-    } else {
-        Ok(None)
+    match KeptRanges::build(alloc, spans, owners)? {
+        Some(ranges) => Ok(Some(Arc::new(alloc, ranges)?)),
+        None => Ok(None),
     }
 }
 
@@ -145,24 +142,24 @@ impl KeptLists {
         )
     }
 
-    /// Whether a list begins within a named one, or is that one.
-    fn is_within(
+    /// How many ranges a list has that begins within a named one, or is that one.
+    fn count_within(
         &mut self,
         alloc: Global,
         unit: &OpenUnit<'_, '_>,
         start: u64,
         tail: RangeTail,
-    ) -> std::result::Result<bool, AllocError>
+    ) -> std::result::Result<Option<usize>, AllocError>
         requires { AreKeptLists (open_view unit.now) self.old }
         ensures value { TellsWithin (open_view unit.now) tail result }
         ensures kept { AreKeptLists (open_view unit.now) self.new }
     {
         let Some(list) = self.take_whole(alloc, unit, start)? else {
-            return Ok(false);
+            return Ok(None);
         };
-        let within = list.find(tail).is_some();
+        let count = list.count_from(tail);
         self.put_whole(start, list)?;
-        Ok(within)
+        Ok(count)
     }
 
     /// Forgets the next list behind an offset where it begins within the list there, so that it is found as its tail.
@@ -176,8 +173,8 @@ impl KeptLists {
         }
     }
 
-    /// Reads a list that was not named before, and notes that it was.
-    fn read(&mut self, alloc: Global, unit: &OpenUnit<'_, '_>, offset: u64) -> Result<()>
+    /// Reads a list that was not named before, and notes that it was. Gives how many ranges it has.
+    fn read(&mut self, alloc: Global, unit: &OpenUnit<'_, '_>, offset: u64) -> Result<usize>
         requires kept { AreKeptLists (open_view unit.now) self.old }
         ensures value { Names (list_at (open_view unit.now) offset) result }
         ensures kept { AreKeptLists (open_view unit.now) self.new }
@@ -186,20 +183,25 @@ impl KeptLists {
         self.forget_within(unit, offset, &list);
         let last = list.last();
         self.put(offset, NamedList { last, whole: None })?;
-        Ok(())
+        Ok(list.len())
     }
 
-    /// Notes that a list is named. It is kept from the second time on that it is, or that another one is which begins
-    /// within it.
-    pub(crate) fn name(&mut self, alloc: Global, unit: &OpenUnit<'_, '_>, offset: u64) -> Result<()>
+    /// Notes that a list is named, and gives how many ranges it has. It is kept from the second time on that it is, or that
+    /// another one is which begins within it.
+    pub(crate) fn name(
+        &mut self,
+        alloc: Global,
+        unit: &OpenUnit<'_, '_>,
+        offset: u64,
+    ) -> Result<usize>
         requires kept { AreKeptLists (open_view unit.now) self.old }
         ensures value { Names (list_at (open_view unit.now) offset) result }
         ensures kept { AreKeptLists (open_view unit.now) self.new }
     {
         if let Some((start, _)) = self.around(offset) {
             let tail = unit.ranges_at(offset);
-            if self.is_within(alloc, unit, start, tail)? {
-                return Ok(());
+            if let Some(count) = self.count_within(alloc, unit, start, tail)? {
+                return Ok(count);
             }
         }
         self.read(alloc, unit, offset)
@@ -256,7 +258,7 @@ impl KeptLists {
     fn keep_content(
         &mut self,
         pieces: Vec<Piece>,
-        content: Option<Arc<OwnedRanges>>,
+        content: Option<Arc<KeptRanges>>,
     ) -> std::result::Result<(), AllocError>
         ensures { KeepsLists self.old self.new (λ u. IsKeptContent u pieces content) }
     {
@@ -270,7 +272,7 @@ impl KeptLists {
         alloc: Global,
         unit: &OpenUnit<'_, '_>,
         pieces: Vec<Piece>,
-    ) -> Result<Option<Arc<OwnedRanges>>>
+    ) -> Result<Option<Arc<KeptRanges>>>
         requires kept { AreKeptLists (open_view unit.now) self.old }
         requires named { AreNamed (open_view unit.now) pieces.items }
         ensures value { GivesContent (open_view unit.now) pieces.items result }
@@ -290,7 +292,7 @@ impl KeptLists {
         alloc: Global,
         unit: &OpenUnit<'_, '_>,
         pieces: Vec<Piece>,
-    ) -> Result<Option<Arc<OwnedRanges>>>
+    ) -> Result<Option<Arc<KeptRanges>>>
         requires kept { AreKeptLists (open_view unit.now) self.old }
         requires named { AreNamed (open_view unit.now) pieces.items }
         ensures value { GivesContent (open_view unit.now) pieces.items result }

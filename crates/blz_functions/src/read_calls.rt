@@ -60,6 +60,7 @@ impl ReadCalls {
         ensures list { result.ranges.list.items ≡ [] }
         ensures owners { result.ranges.owners.items ≡ [] }
         ensures pieces { result.ranges.pieces.items ≡ [] }
+        ensures count { result.ranges.count ≡ 0 }
     {
         ReadCalls {
             calls: Vec::new(alloc),

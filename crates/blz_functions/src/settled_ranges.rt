@@ -1,20 +1,21 @@
 //! Ranges of inlined calls by their depths, once all calls are read.
-ghost use Rattle.std.specs.Prelude.{◌≡◌, ◌≢◌, ◌++◌, ◌∷◌, [], ℕ, length, map, IfOk, IfSome, MatchResult, OnOk};
+ghost use Rattle.std.specs.Prelude.{◌≡◌, ◌≢◌, ◌++◌, [], ℕ, length, map, IfOk, MatchResult, OnOk};
 ghost use Rattle.std.specs.BTreeMap.{IsEmpty};
 ghost use Rattle.blz_error.specs.declared.kind.ErrorKind.TheVariants.{OutOfMemory};
 ghost use Rattle.blz_functions.specs.DepthRanges.{pieces_at, AreAllNamed};
 ghost use Rattle.blz_functions.specs.KeptLists.{AreKeptLists};
 ghost use Rattle.blz_functions.specs.Opened.{open_view};
 ghost use Rattle.blz_functions.specs.Pieces.{AreNamed};
-ghost use Rattle.blz_functions.specs.Settling.{to_group, AreNumbered, AreOwn, IsPlaceOf, IsSharedAs, Settles, SettlesAll};
+ghost use Rattle.blz_functions.specs.Settling.{to_group, AreOwn, Settles, SettlesAll};
 ghost use Rattle.blz_functions.specs.SettledRanges.{settled_view};
 ghost use Rattle.blz_ranges.specs.Owned.{owned};
 
 use crate::depth_ranges::DepthRanges;
 use crate::kept_lists::KeptLists;
+use crate::layered_depth::shared_of;
 use crate::open_unit::OpenUnit;
 use crate::pieces::{Named, Piece, gathered};
-use crate::shared_depth::{SharedContent, SharedDepth};
+use crate::shared_depth::SharedDepth;
 use blz_entry::Span;
 use blz_error::Result;
 use blz_ranges::Grouped;
@@ -67,113 +68,6 @@ fn own_pieces(
     Ok(depths)
 }
 
-/// The place of a call behind those that are listed, if it is not the last of them.
-fn place_of(calls: &mut Vec<usize>, call: usize) -> std::result::Result<usize, AllocError>
-    ensures { IfOk result (IsPlaceOf call calls.old.items calls.new.items) }
-{
-    let count = calls.len();
-    if count > 0 && calls[count - 1] == call {
-        return Ok(count - 1);
-    }
-    calls.push(call)?;
-    Ok(count)
-}
-
-/// Pieces behind others, each with the place of its call in a list of calls.
-fn number(
-    pieces: &[Piece],
-    list: &mut Vec<Piece>,
-    calls: &mut Vec<usize>,
-) -> std::result::Result<(), AllocError>
-    ensures { OnOk result (AreNumbered pieces.now list.old.items calls.old.items list.new.items calls.new.items) }
-{
-    for piece in pieces {
-        let call = place_of(calls, piece.call)?;
-        let named = piece.named;
-        list.push(Piece { call, named })?;
-    }
-    Ok(())
-}
-
-/// The list that the one call of a depth names, if it is kept.
-fn tail_of(
-    alloc: Global,
-    unit: &OpenUnit<'_, '_>,
-    kept: &mut KeptLists,
-    piece: Piece,
-) -> std::result::Result<Option<SharedDepth>, AllocError>
-    requires kept { AreKeptLists (open_view unit.now) kept.old }
-    ensures shared { IfOk result (λ o. IfSome o (IsSharedAs (open_view unit.now) (piece ∷ []))) }
-    ensures kept { AreKeptLists (open_view unit.now) kept.new }
-{
-    let Named::Listed(offset) = piece.named else {
-        return Ok(None);
-    };
-    match kept.tail(alloc, unit, offset)? {
-        Some(tail) => Ok(Some(SharedDepth::Tail(piece.call, tail))),
-        None => Ok(None),
-    }
-}
-
-/// Whether the first list that pieces name is kept: else they are named for the first time.
-fn is_kept(kept: &KeptLists, pieces: &[Piece]) -> bool {
-    let Some(first) = pieces.first() else {
-        return false;
-    };
-    match first.named {
-        Named::Listed(offset) => kept.is_kept(offset),
-        Named::Range(..) => false,
-    }
-}
-
-/// The ranges of all pieces of a depth, if they are kept.
-fn content_of(
-    alloc: Global,
-    unit: &OpenUnit<'_, '_>,
-    kept: &mut KeptLists,
-    own: &[Piece],
-    pieces: &[Piece],
-) -> Result<Option<SharedDepth>>
-    requires named { AreNamed (open_view unit.now) (own.now ++ pieces.now) }
-    requires kept { AreKeptLists (open_view unit.now) kept.old }
-    ensures shared { MatchResult result (λ o. IfSome o (IsSharedAs (open_view unit.now) (own.now ++ pieces.now))) (λ e. e.kind ≢ OutOfMemory → ⊥) }
-    ensures kept { AreKeptLists (open_view unit.now) kept.new }
-{
-    if !is_kept(kept, pieces) {
-        return Ok(None);
-    }
-    let mut list = Vec::new(alloc);
-    let mut calls = Vec::new(alloc);
-    number(own, &mut list, &mut calls)?;
-    number(pieces, &mut list, &mut calls)?;
-    match kept.content(alloc, unit, list)? {
-        Some(ranges) => Ok(Some(SharedDepth::Content(SharedContent { calls, ranges }))),
-        None => Ok(None),
-    }
-}
-
-/// The ranges of a depth, if they are kept.
-fn shared_of(
-    alloc: Global,
-    unit: &OpenUnit<'_, '_>,
-    kept: &mut KeptLists,
-    own: &[Piece],
-    pieces: &[Piece],
-) -> Result<Option<SharedDepth>>
-    requires named { AreNamed (open_view unit.now) (own.now ++ pieces.now) }
-    requires kept { AreKeptLists (open_view unit.now) kept.old }
-    ensures shared { MatchResult result (λ o. IfSome o (IsSharedAs (open_view unit.now) (own.now ++ pieces.now))) (λ e. e.kind ≢ OutOfMemory → ⊥) }
-    ensures kept { AreKeptLists (open_view unit.now) kept.new }
-{
-    if own.is_empty() && pieces.len() == 1 {
-        let tail = tail_of(alloc, unit, kept, pieces[0])?;
-        if tail.is_some() {
-            return Ok(tail);
-        }
-    }
-    content_of(alloc, unit, kept, own, pieces)
-}
-
 impl SettledRanges {
     pub(crate) fn new(alloc: Global) -> SettledRanges
         ensures list { result.list.items ≡ [] }
@@ -210,7 +104,8 @@ impl SettledRanges {
         Ok(())
     }
 
-    /// Settles a depth: its ranges are kept once a unit, or those of its pieces are put behind all others.
+    /// Settles a depth of a function whose calls have at least so many ranges: its own are kept once a unit, or those of its
+    /// pieces are put behind all others.
     fn settle(
         &mut self,
         alloc: Global,
@@ -219,18 +114,21 @@ impl SettledRanges {
         depth: usize,
         own: &[Piece],
         pieces: &[Piece],
+        count: usize,
     ) -> Result<()>
         requires fits { length self.old.list.items ≡ length self.old.owners.items }
         requires named { AreNamed (open_view unit.now) (own.now ++ pieces.now) }
         requires kept { AreKeptLists (open_view unit.now) kept.old }
-        ensures settles { MatchResult result (λ _. Settles (open_view unit.now) (settled_view self.old) (settled_view self.new) depth own.now pieces.now) (λ e. e.kind ≢ OutOfMemory → ⊥) }
+        ensures settles { MatchResult result
+            (λ _. Settles (open_view unit.now) (settled_view self.old) (settled_view self.new) depth own.now pieces.now count)
+            (λ e. e.kind ≢ OutOfMemory → ⊥) }
         ensures fits { OnOk result (length self.new.list.items ≡ length self.new.owners.items) }
         ensures kept { AreKeptLists (open_view unit.now) kept.new }
     {
         if pieces.is_empty() {
             return Ok(());
         }
-        if let Some(shared) = shared_of(alloc, unit, kept, own, pieces)? {
+        if let Some(shared) = shared_of(alloc, unit, kept, own, pieces, count)? {
             self.shared.insert(depth, shared)?;
             return Ok(());
         }
@@ -258,6 +156,7 @@ impl SettledRanges {
             list,
             owners,
             pieces,
+            count,
         } = ranges;
         let own = own_pieces(alloc, list.as_slice(), owners.as_slice(), pieces.len())?;
         let mut settled = SettledRanges {
@@ -273,6 +172,7 @@ impl SettledRanges {
                 depth,
                 own[depth].as_slice(),
                 pieces[depth].as_slice(),
+                count,
             )?;
         }
         Ok(settled)

@@ -1,12 +1,16 @@
 //! The ranges of a list from one of them on, found in the index of the list.
-ghost use Rattle.std.specs.Prelude.{◌≡◌, ◌-◌, ◌<◌, ◌≤◌, drop, is_some, true, IfOk, IfSome};
+ghost use Rattle.std.specs.Prelude.{◌≡◌, ◌+◌, ◌*◌, ◌^◌, ◌-◌, ◌<◌, ◌≤◌, drop, is_some, length, option_map, true, IfOk, IfSome};
 ghost use Rattle.std.specs.Arc.{arc_value};
 ghost use Rattle.blz_ranges.specs.Best.{best};
+ghost use Rattle.blz_ranges.specs.Groups.{AreApart};
+ghost use Rattle.blz_ranges.specs.declared.span.Span.{Span};
+ghost use Rattle.blz_functions.specs.Found.{begin_in};
 ghost use Rattle.blz_functions.specs.KeptList.{AreFewLooks};
 ghost use Rattle.blz_functions.specs.SharedTail.{IsNear, IsTail};
 
 use crate::kept_list::KeptList;
 use blz_bytes::Steps;
+use blz_ranges::Span;
 use std::alloc::AllocError;
 use std::marker::Model;
 use std::ops::Deref;
@@ -78,4 +82,34 @@ impl SharedTail {
             None => false,
         }
     }
+
+    /// How many ranges there are.
+    pub(crate) fn len(&self) -> usize
+        ensures { result ≡ length self.now }
+    {
+        self.list.deref().len().saturating_sub(self.skip)
+    }
+
+    /// Where the best range that covers an address begins, for a look more.
+    pub(crate) fn begin_at<L: Ledger>(&self, addr: u64, steps: &mut Steps<L>) -> Option<u64>
+        ensures begin { result ≡ begin_in self.now addr }
+        ensures cost { AreApart self.now
+            → 2 ^ (steps.new - steps.old) ≤ 8 * (2 * length self.now + 1) }
+        ensures later { steps.old ≤ steps.new }
+    {
+        match self.list.deref().best_at(addr, steps) {
+            Some(place) => if place < self.skip {
+                None
+            } else {
+                begin_of(self.list.deref().span(place, steps))
+            },
+            None => None,
+        }
+    }
+}
+
+fn begin_of(span: Option<Span>) -> Option<u64>
+    ensures { result ≡ option_map (λ (s : Span). s.begin) span }
+{
+    Some(span?.begin)
 }

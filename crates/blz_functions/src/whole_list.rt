@@ -1,8 +1,9 @@
 //! A list of ranges that was read to its end, and indexes of its last ranges, which lists that begin within it share.
 ghost use Rattle.std.specs.Prelude.{◌≡◌, ◌≤◌, true, drop, length, IfOk, IfSome};
 ghost use Rattle.std.specs.Arc.{arc_value};
-ghost use Rattle.blz_functions.specs.Leaves.{UnitParts};
+ghost use Rattle.blz_functions.specs.Leaves.{UnitParts, spans_behind};
 ghost use Rattle.blz_functions.specs.Opened.{open_view};
+ghost use Rattle.blz_functions.specs.Pieces.{HasAtLeast};
 ghost use Rattle.blz_functions.specs.WholeLists.{BeginsIn, IsListAt, IsWhole, KeepsWhole, MayGive, MayGiveTail, MayIndexLast, ReadsWhole, last_spans};
 
 use crate::kept_list::KeptList;
@@ -97,6 +98,23 @@ impl WholeList {
             Some(entry.before)
         } else {
             None
+        }
+    }
+
+    /// How many ranges it has.
+    pub(crate) fn len(&self) -> usize
+        ensures { result ≡ length self.now.spans.items }
+    {
+        self.spans.len()
+    }
+
+    /// How many ranges a list has that begins within it.
+    pub(crate) fn count_from(&self, tail: RangeTail) -> Option<usize>
+        ensures { (u : UnitParts) → IsWhole u self.now → IfSome result (HasAtLeast (spans_behind u tail)) }
+    {
+        match self.find(tail) {
+            Some(before) => Some(self.len().saturating_sub(before)),
+            None => None,
         }
     }
 

@@ -3,7 +3,7 @@ use Rattle.std.proofs.lemmas.Result.{err_from_is_err_and}
 use Rattle.blz_model.specs.Part.{Good}
 use Rattle.blz_functions.specs.Opened.{open_view}
 use Rattle.blz_functions.proofs.CallEntry.{begins, refused, calls_outside, calls_over, calls_stuck, calls_zero, calls_unread, calls_leaf, calls_inside, not_true, not_false, skipped_pending}
-use Rattle.blz_functions.proofs.CallsRead.{asked_fails, asked_is, asked_of_calls, none_asked, settled_given, unasked}
+use Rattle.blz_functions.proofs.CallsRead.{asked_fails, asked_is, asked_of_calls, counted_given, none_asked, none_counted, settled_given, unasked}
 use Rattle.blz_functions.proofs.call_lists.CallLists.read.Goals as goal
 
 pub returns-in_err-entries-clause-value : goal.returns-in_err-entries-clause-value
@@ -66,3 +66,15 @@ returns-clause-value g c =
     let inside = calls_inside refer u c.args.place c.in_ok-entries.entries b c.next_entry.new.self c.skip_attributes.new.self c.in-Ok-Some.entry (rw c.in-Ok-Some.field-0-is at c.in-Ok-Some.ensures.value) c.in-Ok.ensures.value c.if-entry-eq0.false (not_false c.in-Ok-Some.entry.children c.if-not-entry.false) in
     let read = c.in_ok-calls.ensures.value in
     rw (asked_of_calls refer u c.args.place _ inside) (settled_given c.settle.result read.value _ read.is (c.settle.ensures.settled read.value read.fits))
+
+pub returns-then-not-entry-clause-counted : goal.returns-then-not-entry-clause-counted
+returns-then-not-entry-clause-counted g c = none_counted _ (open_view c.args.unit.now) c.args.place c.new.result c.new.ensures.shared
+
+pub returns-clause-counted : goal.returns-clause-counted
+returns-clause-counted g c =
+    let u = open_view c.args.unit.now in
+    let refer = g.F.Links.refer (g.F.Links.linkage c.args.links.now) in
+    let b = begins u c.args.place c.in_ok-entries.entries c.in_ok-entries.ensures in
+    let inside = calls_inside refer u c.args.place c.in_ok-entries.entries b c.next_entry.new.self c.skip_attributes.new.self c.in-Ok-Some.entry (rw c.in-Ok-Some.field-0-is at c.in-Ok-Some.ensures.value) c.in-Ok.ensures.value c.if-entry-eq0.false (not_false c.in-Ok-Some.entry.children c.if-not-entry.false) in
+    let read = c.in_ok-calls.ensures.value in
+    counted_given refer u c.args.place c.settle.result read.value _ inside read.is (c.settle.ensures.settled read.value read.fits)

@@ -1,4 +1,4 @@
-use Rattle.std.proofs.Common.{List, ap, subst, sym, ◌∙◌}
+use Rattle.std.proofs.Common.{ap, subst, sym, ◌∙◌}
 use Rattle.std.proofs.lemmas.Result.{err_from_is_err_and}
 use Rattle.blz_functions.specs.DepthRanges.{AreOfCalls, ranges_view}
 use Rattle.blz_functions.specs.FunctionRanges.{PiecedCalls, SearchedCalls}
@@ -18,4 +18,5 @@ returns-clause-settled c = λ all read.
     let x = c.calls.inside in
     let of_calls = subst (λ (k : PiecedCalls). AreOfCalls (open_view c.args.unit.now) (ranges_view k.ranges) all.ranges) (sym c.calls.view_is) read.ranges in
     let some : SearchedCalls = record { calls = x.calls.items; ranges = settled_view c.in_ok-ranges.ranges } in
-    same_asked (open_view c.args.unit.now) some all (ap (λ (k : PiecedCalls). k.calls) c.calls.view_is ∙ read.calls) (c.in_ok-ranges.ensures.settles all.ranges of_calls)
+    let answers = c.in_ok-ranges.ensures.settles all.ranges of_calls in
+    record { calls = same_asked (open_view c.args.unit.now) some all (ap (λ (k : PiecedCalls). k.calls) c.calls.view_is ∙ read.calls) answers; counts = answers.counts }

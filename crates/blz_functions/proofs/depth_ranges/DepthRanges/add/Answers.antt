@@ -1,4 +1,4 @@
-use Rattle.std.proofs.Common.{◌≡◌, List, [], ◌++◌, Some, sym, ap, subst, ◌∙◌}
+use Rattle.std.proofs.Common.{◌≡◌, List, ◌++◌, sym, ap, subst, ◌∙◌}
 use Rattle.std.proofs.lemmas.Result.{err_from_is_err_and}
 use Rattle.blz_info.proofs.Marked.{marks_on}
 use Rattle.blz_ranges.specs.declared.span.Span.{Span}
@@ -20,7 +20,7 @@ returns-in_default-clause-value c = λ all h.
     record {
       value = a.spans;
       is = a.is;
-      fits = of_one_more u c.args.self.now c.put.new.self all c.args.at h a.spans (subst (PutsRanges c.args.self.now c.put.new.self c.args.at) spans c.in_ok-put.ensures.put);
+      fits = of_one_more u c.args.self.now c.put.new.self all c.args.at h a.spans (rw (← spans) c.in_ok-put.ensures.count) (subst (PutsRanges c.args.self.now c.put.new.self c.args.at) spans c.in_ok-put.ensures.put);
     }
 
 pub returns-in_err-append_few-clause-value : goal.returns-in_err-append_few-clause-value
@@ -38,22 +38,22 @@ returns-then-is_some-clause-value c = λ all h.
     record {
       value = few.spans;
       is = list_in u c.args.attributes.now c.in-Some.offset c.in-Some.is ∙ few.is;
-      fits = of_one_more u c.args.self.now c.put-then-is_some.new.self all c.args.at h few.spans (subst (PutsRanges c.args.self.now c.put-then-is_some.new.self c.args.at) spans c.in_ok-put-2.ensures.put);
+      fits = of_one_more u c.args.self.now c.put-then-is_some.new.self all c.args.at h few.spans (rw (← spans) c.in_ok-put-2.ensures.count) (subst (PutsRanges c.args.self.now c.put-then-is_some.new.self c.args.at) spans c.in_ok-put-2.ensures.put);
     }
 
-pub returns-in_err-name-clause-value : goal.returns-in_err-name-clause-value
-returns-in_err-name-clause-value c = λ all h.
+pub returns-in_err-count-clause-value : goal.returns-in_err-count-clause-value
+returns-in_err-count-clause-value c = λ all h.
     let u = open_view c.args.unit.now in
-    let p = err_from_is_err_and c.from_residual-in_err-name.result c.from_residual-in_err-name.ensures.1 in
+    let p = err_from_is_err_and c.from_residual-in_err-count.result c.from_residual-in_err-count.ensures.1 in
     let same = list_in u c.args.attributes.now c.in-Some.offset c.in-Some.is in
-    rw (p.1, p.2) (marks_on _ (list_at u c.in-Some.offset) (ranges_in u c.args.attributes.now) c.in_err-name.ensures.value (λ none. same ∙ none))
+    rw (p.1, p.2) (marks_on _ (list_at u c.in-Some.offset) (ranges_in u c.args.attributes.now) c.in_err-count.ensures.value (λ none. same ∙ none))
 
 pub returns-clause-value : goal.returns-clause-value
 returns-clause-value c = λ all h.
     let u = open_view c.args.unit.now in
-    let named = c.in_ok-name.ensures.value in
+    let named = c.in_ok-count.ensures.value in
     record {
       value = named.spans;
       is = list_in u c.args.attributes.now c.in-Some.offset c.in-Some.is ∙ named.is;
-      fits = of_list u c.args.self.now c.put_list.new.self all c.args.at h c.in-Some.offset named c.in_ok-put_list.ensures.pieces;
+      fits = of_list u c.args.self.now c.put_list.new.self all c.args.at h c.in-Some.offset c.in_ok-count.count named c.in_ok-put_list.ensures.count c.in_ok-put_list.ensures.pieces;
     }

@@ -1,4 +1,4 @@
-use Rattle.std.proofs.Common.{◌≡◌, ◌≤◌, ◌++◌, length, length-append, map, refl, ap, ◌∙◌, arith, rules, vec_len, inl, inr}
+use Rattle.std.proofs.Common.{◌≡◌, ◌≤◌, ◌++◌, length, length-append, map, refl, ap, ◌∙◌, arith, rules, vec_len, inl}
 use Rattle.blz_ranges.specs.declared.grouped.Grouped.{Grouped}
 use Rattle.blz_ranges.specs.Groups.{grouped}
 use Rattle.blz_ranges.specs.Owned.{filled_up, owned}

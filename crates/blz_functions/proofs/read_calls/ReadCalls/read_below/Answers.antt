@@ -22,7 +22,7 @@ loop-entries-init g c = record {
   same = refl;
   all = no_calls;
   kept = c.requires.kept;
-  read = none_read (open_view c.args.unit.now) c.new-calls.result c.new-calls.ensures.calls c.new-calls.ensures.list c.new-calls.ensures.pieces;
+  read = none_read (open_view c.args.unit.now) c.new-calls.result c.new-calls.ensures.calls c.new-calls.ensures.list c.new-calls.ensures.pieces c.new-calls.ensures.count;
   rest = rw c.in_ok-levels.ensures (rest_start (g.F.Links.refer (g.F.Links.linkage c.args.links.now)) (open_view c.args.unit.now) c.args.entries.now.place);
 }
 

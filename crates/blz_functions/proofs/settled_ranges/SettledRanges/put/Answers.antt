@@ -1,7 +1,4 @@
-use Rattle.std.proofs.Common.{◌≡◌, ◌+◌, ◌++◌, ◌∷◌, [], length, length-append, slice_index_or, arith}
-use Rattle.blz_ranges.specs.declared.grouped.Grouped.{Grouped}
 use Rattle.blz_ranges.specs.declared.span.Span.{Span}
-use Rattle.blz_ranges.specs.Groups.{grouped}
 use Rattle.blz_ranges.specs.Owned.{owned}
 use Rattle.blz_functions.proofs.SettledDepths.{pushed_alike, put_next}
 use Rattle.blz_functions.proofs.settled_ranges.SettledRanges.put.Goals as goal

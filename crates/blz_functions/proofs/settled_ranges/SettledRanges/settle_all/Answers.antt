@@ -1,7 +1,6 @@
-use Rattle.std.proofs.Common.{◌≡◌, ◌<◌, ◌∙◌, Vec, Global, length, vec_len, rules, sym, subst, ap, arith}
+use Rattle.std.proofs.Common.{◌≡◌, ◌<◌, ◌∙◌, Vec, Global, length, vec_len, rules, ap, arith}
 use Rattle.blz_functions.specs.DepthRanges.{pieces_at}
 use Rattle.blz_functions.specs.Opened.{open_view}
-use Rattle.blz_functions.specs.Pieces.{AreNamed}
 use Rattle.blz_functions.specs.Settling.{Settles}
 use Rattle.blz_functions.specs.SettledRanges.{settled_view}
 use Rattle.blz_functions.specs.declared.pieces.Piece.{Piece}
@@ -31,15 +30,15 @@ loop-depth-preserved c =
     let lt_own : d < length c.in_ok-own.own.items = omega (arith, lt, c.in_ok-own.ensures.count, c.len.ensures, size) in
     let own : c.as_slice-in-loop-depth.result.now ≡ pieces_at c.in_ok-own.own.items d = c.as_slice-in-loop-depth.ensures.value ∙ (ap (λ (v : Vec Piece Global). v.items) c.index.ensures ∙ pieces_index c.in_ok-own.own.items d _ lt_own) in
     let told : c.as_slice-in-loop-depth-2.result.now ≡ pieces_at pieces.items d = c.as_slice-in-loop-depth-2.ensures.value ∙ (ap (λ (v : Vec Piece Global). v.items) c.index-in-loop-depth.ensures ∙ pieces_index pieces.items d _ lt) in
-    let settles : Settles u (settled_view c.loop-depth.settled) (settled_view c.settle.new.self) d (pieces_at c.in_ok-own.own.items d) (pieces_at pieces.items d) = rw (own, told) at c.in_ok-settle.ensures.settles in
+    let settles : Settles u (settled_view c.loop-depth.settled) (settled_view c.settle.new.self) d (pieces_at c.in_ok-own.own.items d) (pieces_at pieces.items d) c.args.ranges.count = rw (own, told) at c.in_ok-settle.ensures.settles in
     record {
       fits = c.in_ok-settle.ensures.fits;
       kept = c.in_ok-settle.ensures.kept;
-      settled = λ all h. settled_next u c.in_ok-own.own.items pieces.items (settled_view c.loop-depth.settled) (settled_view c.settle.new.self) all d (c.loop-depth.invariant.settled all h) lt settles;
+      settled = λ all h. settled_next u c.in_ok-own.own.items pieces.items (settled_view c.loop-depth.settled) (settled_view c.settle.new.self) all c.args.ranges.count d (c.loop-depth.invariant.settled all h) lt settles;
     }
 
 pub returns-clause-settles : goal.returns-clause-settles
 returns-clause-settles c = λ all h.
     let pieces = c.args.ranges.pieces in
     let size : vec_len pieces ≡ length pieces.items = search rules in
-    settled_to_end (open_view c.args.unit.now) c.in_ok-own.own.items pieces.items (settled_view c.loop-depth.settled) all c.loop-depth.depth (omega (arith, c.loop-depth-test.false, c.len-depth-end.ensures, size)) (c.loop-depth.invariant.settled all h)
+    settled_to_end (open_view c.args.unit.now) c.in_ok-own.own.items pieces.items (settled_view c.loop-depth.settled) all c.args.ranges.count c.loop-depth.depth (omega (arith, c.loop-depth-test.false, c.len-depth-end.ensures, size)) h.counted (c.loop-depth.invariant.settled all h)

@@ -12,5 +12,5 @@ abbrev pub invariant-loop-depth : goal.invariant-loop-depth
 invariant-loop-depth l = record {
   fits : length l.settled.list.items ≡ length l.settled.owners.items;
   kept : AreKeptLists (open_view l.unit) l.kept;
-  settled : (all : List (Owned Grouped)) → AreOfCalls (open_view l.unit) (ranges_view l.fn.ranges) all → AreSettledTo (open_view l.unit) l.own.items l.pieces.items (settled_view l.settled) all l.depth;
+  settled : (all : List (Owned Grouped)) → AreOfCalls (open_view l.unit) (ranges_view l.fn.ranges) all → AreSettledTo (open_view l.unit) l.own.items l.pieces.items (settled_view l.settled) all l.count l.depth;
 }

@@ -1,0 +1,138 @@
+//! Ranges of a depth that are kept with an index of their own.
+ghost use Rattle.std.specs.Prelude.{◌≡◌, ◌+◌, ◌*◌, ◌^◌, ◌-◌, ◌≤◌, length, slice_index_or};
+ghost use Rattle.blz_functions.specs.Found.{found_in};
+ghost use Rattle.blz_functions.specs.Layers.{call_by, ranges_of};
+ghost use Rattle.blz_ranges.specs.Groups.{AreApart};
+ghost use Rattle.blz_ranges.specs.Owned.{items_of};
+ghost use Rattle.blz_ranges.specs.Ranges.{best_owner};
+
+use crate::found::Found;
+use crate::kept_ranges::KeptRanges;
+use crate::shared_tail::SharedTail;
+use blz_bytes::Steps;
+use blz_ranges::number_at;
+use std::marker::Model;
+use std::ops::Deref;
+use std::sync::Arc;
+use std::sync::ledger::Ledger;
+
+/// What some calls of a depth name, kept for all depths whose calls name the same, with the calls of one of them.
+#[derive(Drop)]
+pub struct SharedContent {
+    pub calls: Vec<usize>,
+    pub ranges: Arc<KeptRanges>,
+}
+
+impl Model for SharedContent {
+    ghost use Rattle.std.specs.Prelude.{List};
+    ghost use Rattle.std.specs.Arc.{arc_value};
+    ghost use Rattle.blz_functions.specs.Renamed.{renamed};
+    ghost use Rattle.blz_ranges.specs.Owned.{Owned};
+    ghost use Rattle.blz_ranges.specs.declared.span.Span.{Span};
+
+    ghost Value = { List (Owned Span) };
+
+    ghost view = { λ c. renamed c.calls.items (arc_value c.ranges) };
+}
+
+/// Ranges of a depth that are kept with an index of their own.
+#[derive(Drop)]
+pub enum Layer {
+    /// Those of a list that one call names.
+    Tail(usize, SharedTail),
+    /// Those of several calls.
+    Content(SharedContent),
+}
+
+/// The call of a number.
+fn call_numbered(calls: &[usize], number: usize) -> usize
+    ensures { result ≡ slice_index_or calls.now number 0 }
+{
+    match number_at(calls, number) {
+        Some(call) => call,
+        None => 0,
+    }
+}
+
+impl SharedContent {
+    fn len(&self) -> usize
+        ensures { result ≡ length self.now }
+    {
+        self.ranges.deref().len()
+    }
+
+    /// The call whose range is the best that covers an address.
+    fn call_of<L: Ledger>(&self, addr: u64, steps: &mut Steps<L>) -> Option<usize>
+        ensures call { result ≡ best_owner self.now addr }
+        ensures cost { AreApart (items_of self.now)
+            → 2 ^ (steps.new - steps.old) ≤ 4 * (2 * length self.now + 1) }
+        ensures later { steps.old ≤ steps.new }
+    {
+        match self.ranges.deref().call_of(addr, steps) {
+            Some(number) => Some(call_numbered(self.calls.as_slice(), number)),
+            None => None,
+        }
+    }
+
+    /// What the best range that covers an address tells, for a look more.
+    fn found_at<L: Ledger>(&self, addr: u64, steps: &mut Steps<L>) -> Option<Found>
+        ensures found { result ≡ found_in self.now addr }
+        ensures cost { AreApart (items_of self.now)
+            → 2 ^ (steps.new - steps.old) ≤ 8 * (2 * length self.now + 1) }
+        ensures later { steps.old ≤ steps.new }
+    {
+        match self.ranges.deref().found_at(addr, steps) {
+            Some(found) => {
+                let begin = found.begin;
+                let call = call_numbered(self.calls.as_slice(), found.call);
+                Some(Found { begin, call })
+            }
+            None => None,
+        }
+    }
+}
+
+impl Layer {
+    /// How many ranges there are.
+    pub(crate) fn len(&self) -> usize
+        ensures { result ≡ length (ranges_of self.now) }
+    {
+        match self {
+            Layer::Tail(_, tail) => tail.len(),
+            Layer::Content(content) => content.len(),
+        }
+    }
+
+    /// The call whose range is the best that covers an address.
+    pub(crate) fn call_of<L: Ledger>(&self, addr: u64, steps: &mut Steps<L>) -> Option<usize>
+        ensures call { result ≡ call_by self.now addr }
+        ensures cost { AreApart (items_of (ranges_of self.now))
+            → 2 ^ (steps.new - steps.old) ≤ 4 * (2 * length (ranges_of self.now) + 1) }
+        ensures later { steps.old ≤ steps.new }
+    {
+        match self {
+            Layer::Tail(call, tail) => if tail.covers(addr, steps) {
+                Some(*call)
+            } else {
+                None
+            },
+            Layer::Content(content) => content.call_of(addr, steps),
+        }
+    }
+
+    /// What the best range that covers an address tells, for a look more.
+    pub(crate) fn found_at<L: Ledger>(&self, addr: u64, steps: &mut Steps<L>) -> Option<Found>
+        ensures found { result ≡ found_in (ranges_of self.now) addr }
+        ensures cost { AreApart (items_of (ranges_of self.now))
+            → 2 ^ (steps.new - steps.old) ≤ 8 * (2 * length (ranges_of self.now) + 1) }
+        ensures later { steps.old ≤ steps.new }
+    {
+        match self {
+            Layer::Tail(call, tail) => match tail.begin_at(addr, steps) {
+                Some(begin) => Some(Found { begin, call: *call }),
+                None => None,
+            },
+            Layer::Content(content) => content.found_at(addr, steps),
+        }
+    }
+}
