@@ -266,26 +266,6 @@ impl KeptLists {
         Ok(())
     }
 
-    /// Gathers what pieces tell, and keeps it.
-    fn gather(
-        &mut self,
-        alloc: Global,
-        unit: &OpenUnit<'_, '_>,
-        pieces: Vec<Piece>,
-    ) -> Result<Option<Arc<KeptRanges>>>
-        requires kept { AreKeptLists (open_view unit.now) self.old }
-        requires named { AreNamed (open_view unit.now) pieces.items }
-        ensures value { GivesContent (open_view unit.now) pieces.items result }
-        ensures kept { AreKeptLists (open_view unit.now) self.new }
-    {
-        let Some(content) = content_of(alloc, unit, &pieces)? else {
-            return Ok(None);
-        };
-        let kept = Arc::try_clone(&content)?;
-        self.keep_content(pieces, Some(kept))?;
-        Ok(Some(content))
-    }
-
     /// What pieces tell, if it was asked for before.
     pub(crate) fn content(
         &mut self,
@@ -299,12 +279,18 @@ impl KeptLists {
         ensures kept { AreKeptLists (open_view unit.now) self.new }
     {
         match self.contents.get(&pieces) {
-            Some(Some(content)) => Ok(Some(Arc::try_clone(content)?)),
-            Some(None) => self.gather(alloc, unit, pieces),
+            Some(Some(content)) => return Ok(Some(Arc::try_clone(content)?)),
+            Some(None) => (),
             None => {
                 self.keep_content(pieces, None)?;
-                Ok(None)
+                return Ok(None);
             }
         }
+        let Some(content) = content_of(alloc, unit, &pieces)? else {
+            return Ok(None);
+        };
+        let kept = Arc::try_clone(&content)?;
+        self.keep_content(pieces, Some(kept))?;
+        Ok(Some(content))
     }
 }
