@@ -4,7 +4,7 @@ ghost use Rattle.blz_functions.specs.Chain.{call_range};
 ghost use Rattle.blz_functions.specs.DepthRanges.{has_pieces, ranges_view, AddsRanges, AddsPieces, PutsRanges, KeepsPieces};
 ghost use Rattle.blz_functions.specs.KeptLists.{AreKeptLists};
 ghost use Rattle.blz_functions.specs.Leaves.{ranges_in};
-ghost use Rattle.blz_functions.specs.Opened.{open_view};
+ghost use Rattle.blz_functions.specs.Opened.{open_view, CanBeOpened};
 ghost use Rattle.blz_functions.specs.Pieces.{ranges_of_call};
 ghost use Rattle.blz_functions.specs.declared.pieces.Named.TheVariants.{Listed};
 ghost use Rattle.blz_ranges.specs.Groups.{grouped};
@@ -150,6 +150,7 @@ impl DepthRanges {
         spans: &mut Vec<Span>,
     ) -> Result<()>
         requires fits { length self.old.list.items ≡ length self.old.owners.items }
+        requires opened { CanBeOpened unit.now }
         requires kept { AreKeptLists (open_view unit.now) kept.old }
         ensures value { AddsRanges (open_view unit.now) self.old self.new at (ranges_in (open_view unit.now) attributes.now) result }
         ensures fits { OnOk result (length self.new.list.items ≡ length self.new.owners.items) }

@@ -3,10 +3,11 @@ ghost use Rattle.std.specs.Prelude.{IfSome};
 ghost use Rattle.blz_entry.specs.RangeTails.{list_tail};
 ghost use Rattle.blz_functions.specs.KeptLists.{AreKeptLists, GivesContent, IsKeptContent, IsNamedList, KeepsLists, MayGiveWhole, Names, TellsWithin};
 ghost use Rattle.blz_functions.specs.Leaves.{UnitParts};
-ghost use Rattle.blz_functions.specs.Opened.{open_view};
+ghost use Rattle.blz_functions.specs.Opened.{open_view, CanBeOpened};
 ghost use Rattle.blz_functions.specs.Pieces.{AreNamed, list_at};
 ghost use Rattle.blz_functions.specs.WholeLists.{IsWhole, MayGiveTail};
 
+use crate::foreseen_lists::Foresight;
 use crate::kept_ranges::KeptRanges;
 use crate::open_unit::OpenUnit;
 use crate::pieces::{Piece, gathered};
@@ -20,7 +21,7 @@ use std::sync::Arc;
 
 /// A list that was named: where its last entry lies, and the whole list once another one was named that begins there.
 #[derive(Drop)]
-struct NamedList {
+pub(crate) struct NamedList {
     last: usize,
     whole: Option<WholeList>,
 }
@@ -31,10 +32,11 @@ struct NamedList {
 pub struct KeptLists {
     named: BTreeMap<u64, NamedList>,
     contents: BTreeMap<Vec<Piece>, Option<Arc<KeptRanges>>>,
+    pub(crate) foresight: Foresight,
 }
 
-/// Reads a list that was read before.
-fn read_again(
+/// Reads a list. None where it has no value.
+pub(crate) fn read_again(
     alloc: Global,
     unit: &OpenUnit<'_, '_>,
     offset: u64,
@@ -72,6 +74,7 @@ impl KeptLists {
         KeptLists {
             named: BTreeMap::new(alloc),
             contents: BTreeMap::new(alloc),
+            foresight: Foresight::new(),
         }
     }
 
@@ -101,7 +104,7 @@ impl KeptLists {
     }
 
     /// Takes out a named list.
-    fn take(&mut self, start: u64) -> Option<NamedList>
+    pub(crate) fn take(&mut self, start: u64) -> Option<NamedList>
         ensures taken { (u : UnitParts) → AreKeptLists u self.old → IfSome result (IsNamedList u) }
         ensures kept { (u : UnitParts) → AreKeptLists u self.old → AreKeptLists u self.new }
     {
@@ -129,7 +132,11 @@ impl KeptLists {
     }
 
     /// Keeps a named list whole.
-    fn put_whole(&mut self, start: u64, list: WholeList) -> std::result::Result<(), AllocError>
+    pub(crate) fn put_whole(
+        &mut self,
+        start: u64,
+        list: WholeList,
+    ) -> std::result::Result<(), AllocError>
         ensures { KeepsLists self.old self.new (λ u. IsWhole u list) }
     {
         let last = list.last();
@@ -162,27 +169,34 @@ impl KeptLists {
         Ok(count)
     }
 
-    /// Forgets the next list behind an offset where it begins within the list there, so that it is found as its tail.
-    fn forget_within(&mut self, unit: &OpenUnit<'_, '_>, offset: u64, list: &WholeList)
+    /// Forgets the next list behind an offset where it begins within the list there, so that it is found as its tail; tells
+    /// whether it does.
+    fn forget_within(&mut self, unit: &OpenUnit<'_, '_>, offset: u64, list: &WholeList) -> bool
         ensures { (u : UnitParts) → AreKeptLists u self.old → AreKeptLists u self.new }
     {
         if let Some(next) = self.next_above(offset) {
             if list.find(unit.ranges_at(next)).is_some() {
                 self.take(next);
+                return true;
             }
         }
+        false
     }
 
     /// Reads a list that was not named before, and notes that it was. Gives how many ranges it has.
     fn read(&mut self, alloc: Global, unit: &OpenUnit<'_, '_>, offset: u64) -> Result<usize>
+        requires opened { CanBeOpened unit.now }
         requires kept { AreKeptLists (open_view unit.now) self.old }
         ensures value { Names (list_at (open_view unit.now) offset) result }
         ensures kept { AreKeptLists (open_view unit.now) self.new }
     {
         let list = WholeList::read(alloc, unit, offset)?;
-        self.forget_within(unit, offset, &list);
+        let within = self.forget_within(unit, offset, &list);
         let last = list.last();
         self.put(offset, NamedList { last, whole: None })?;
+        if within {
+            self.foresee_after(alloc, unit, list.entry_count())?;
+        }
         Ok(list.len())
     }
 
@@ -194,6 +208,7 @@ impl KeptLists {
         unit: &OpenUnit<'_, '_>,
         offset: u64,
     ) -> Result<usize>
+        requires opened { CanBeOpened unit.now }
         requires kept { AreKeptLists (open_view unit.now) self.old }
         ensures value { Names (list_at (open_view unit.now) offset) result }
         ensures kept { AreKeptLists (open_view unit.now) self.new }

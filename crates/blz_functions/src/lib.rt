@@ -4,6 +4,7 @@
 mod call_lists;
 mod depth_ranges;
 mod description;
+mod foreseen_lists;
 mod found;
 mod function_lists;
 mod functions;

@@ -5,7 +5,7 @@ ghost use Rattle.blz_functions.specs.CallWalk.{call_if, call_met};
 ghost use Rattle.blz_functions.specs.Describing.{specs_of};
 ghost use Rattle.blz_functions.specs.KeptLists.{AreKeptLists};
 ghost use Rattle.blz_functions.specs.Leaves.{source_in};
-ghost use Rattle.blz_functions.specs.Opened.{open_view};
+ghost use Rattle.blz_functions.specs.Opened.{open_view, CanBeOpened};
 ghost use Rattle.blz_functions.specs.ReadCalls.{AreReadCalls, IsOfCalls};
 ghost use Rattle.blz_functions.specs.Searching.{Adds, GivesAs, Meets};
 
@@ -77,6 +77,7 @@ impl ReadCalls {
         depth: usize,
         description: &Description,
     ) -> Result<ReadCalls>
+        requires opened { CanBeOpened unit.now }
         requires kept { AreKeptLists (open_view unit.now) kept.old }
         ensures added { Adds (AreReadCalls (open_view unit.now)) self kept.old kept.new result (λ all. call_added (open_view unit.now) all depth description.now) }
         ensures kept { AreKeptLists (open_view unit.now) kept.new }
@@ -106,6 +107,7 @@ impl ReadCalls {
         depth: Option<usize>,
         description: &Option<Description>,
     ) -> Result<ReadCalls>
+        requires opened { CanBeOpened unit.now }
         requires kept { AreKeptLists (open_view unit.now) kept.old }
         ensures added { Adds (AreReadCalls (open_view unit.now)) self kept.old kept.new result (λ all. call_if (open_view unit.now) all depth description.now) }
         ensures kept { AreKeptLists (open_view unit.now) kept.new }
@@ -129,6 +131,7 @@ impl ReadCalls {
         depth: Option<usize>,
     ) -> Result<ReadCalls>
         requires source { entries.old.source ≡ source_in (open_view unit.now) }
+        requires opened { CanBeOpened unit.now }
         requires kept { AreKeptLists (open_view unit.now) kept.old }
         requires met { entries.old.pending ≡ specs_of (open_view unit.now) entry.now.code }
         ensures value { Meets (AreReadCalls (open_view unit.now)) self kept.old kept.new entries.new.place result (λ all. call_met (F.refer (F.linkage links.old)) (open_view unit.now) all depth entry.now entries.old) }
@@ -154,6 +157,7 @@ impl ReadCalls {
         kept: &mut KeptLists,
     ) -> Result<ReadCalls>
         requires pending { entries.old.pending ≡ [] }
+        requires opened { CanBeOpened unit.now }
         requires kept { AreKeptLists (open_view unit.now) kept.old }
         requires source { entries.old.source ≡ source_in (open_view unit.now) }
         ensures value { GivesAs (IsOfCalls (open_view unit.now)) result (calls_from (F.refer (F.linkage links.old)) (open_view unit.now) entries.old.place) }

@@ -65,7 +65,7 @@ pub struct ReadLists {
 }
 
 /// A list of no more entries is read anew each time: that takes less than to keep it.
-const FEW_ENTRIES: usize = 8;
+pub(crate) const FEW_ENTRIES: usize = 8;
 
 fn put(out: &mut Vec<Span>, span: Option<Span>) -> std::result::Result<(), AllocError>
     ensures { OnOk result (out.new.items ≡ out.old.items ++ option_to_list span) }

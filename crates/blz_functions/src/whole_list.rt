@@ -77,6 +77,11 @@ impl WholeList {
         })
     }
 
+    /// How many entries it has.
+    pub(crate) fn entry_count(&self) -> usize {
+        self.entries.len()
+    }
+
     /// Where its last entry lies.
     pub(crate) fn last(&self) -> usize {
         match self.entries.as_slice().last() {
