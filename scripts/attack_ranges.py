@@ -111,6 +111,15 @@ def tails_of_a_range_list_of_calls_within_one_another_the_shortest_first(n):
 
 
 @shape
+def tails_of_range_lists_of_a_call_of_each_function_the_shortest_first(n):
+    # as many lists as the root of n, one after the other, each with as many tails
+    lists = pairs_of_a_size(max(1, int(n ** 0.5)))
+    ended = b"".join(lists) + b"\0"
+    begins = [len(ended) * k + begin for begin in reversed(begins_of(lists)) for k in range(len(lists))]
+    return calls_of_each_function(ended * len(lists), [[begin] for begin in begins])
+
+
+@shape
 def one_range_list_without_ranges(n):
     return functions_of_tails(offset_pair(1, 1) * n, [0] * n)
 
