@@ -313,32 +313,31 @@ def one_range_list_of_units_of_two_bases(n):
     return Attack(dwarf(shapes, units * n, rnglists=data), [0])
 
 
+def units_of_tails(lists, begins, asked=0):
+    """A unit for each of some offsets within a list."""
+    shapes = {ROOT: root(RANGES, 0)}
+    data, first = range_lists(b"".join(lists) + b"\0")
+    units = [unit(entry(shapes, ROOT, first + begin)) for begin in begins]
+    return Attack(dwarf(shapes, b"".join(units), rnglists=data), [asked])
+
+
 @shape
 def tails_of_a_range_list_of_units(n):
-    shapes = {ROOT: root(RANGES, 0)}
     lists = pairs_of_a_size(n)
-    data, first = range_lists(b"".join(lists) + b"\0")
-    units = [unit(entry(shapes, ROOT, first + begin)) for begin in begins_of(lists)]
-    return Attack(dwarf(shapes, b"".join(units), rnglists=data), [0])
+    return units_of_tails(lists, begins_of(lists))
 
 
 @shape
 def tails_of_a_range_list_of_units_the_shortest_first(n):
-    shapes = {ROOT: root(RANGES, 0)}
     lists = pairs_of_a_size(n)
-    data, first = range_lists(b"".join(lists) + b"\0")
-    units = [unit(entry(shapes, ROOT, first + begin)) for begin in reversed(begins_of(lists))]
-    return Attack(dwarf(shapes, b"".join(units), rnglists=data), [0])
+    return units_of_tails(lists, reversed(begins_of(lists)))
 
 
 @shape
 def tails_of_a_range_list_within_one_another_of_units(n):
     # each unit announces one range more that covers what is asked
-    shapes = {ROOT: root(RANGES, 0)}
     lists = [offset_pair(BASE + k, BASE + 2 * n - k) for k in range(n)]
-    data, first = range_lists(b"".join(lists) + b"\0")
-    units = [unit(entry(shapes, ROOT, first + begin)) for begin in begins_of(lists)]
-    return Attack(dwarf(shapes, b"".join(units), rnglists=data), [BASE + n])
+    return units_of_tails(lists, begins_of(lists), BASE + n)
 
 
 @shape

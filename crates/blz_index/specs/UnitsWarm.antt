@@ -18,7 +18,7 @@ use Rattle.blz_ranges.specs.declared.span.Span.{Span}
 use Rattle.blz_ranges.specs.Owned.{Owned, items_of}
 use Rattle.blz_functions.specs.FunctionRanges.{FunctionRanges, CallRanges}
 use Rattle.blz_ranges.specs.Ranges.{OwnedRanges}
-use Rattle.blz_announced.specs.Copies.{announced_all}
+use Rattle.blz_announced.specs.Units.{announced_all}
 use Rattle.blz_units.specs.TableViews.{table_view}
 use Rattle.blz_units.specs.UnitTables.{UnitTable, units_of}
 use Rattle.blz_units.specs.KeptAnswers.{is_value, has_order, function_in, ranges_in}

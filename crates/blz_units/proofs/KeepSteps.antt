@@ -13,13 +13,17 @@ use Rattle.blz_ranges.specs.Owned.{Owned, own_all}
 use Rattle.blz_ranges.specs.declared.span.Span.{Span}
 use Rattle.blz_info.specs.declared.units.UnitHeader.{UnitHeader}
 use Rattle.blz_info.proofs.Marked.{marks_on}
-use Rattle.blz_announced.specs.Copies.{KeptRanges, all_kept, IsListOf, IsOnceMore, IsWithKeeper, IsWithUnit}
-use Rattle.blz_units.specs.Keeping.{Keeping, units_told, AreRoots, IsAgain, IsRootOf}
+use Rattle.blz_announced.specs.Units.{KeptRanges, all_kept, IsListOf, IsOnceMore, IsWithKeeper, IsWithUnit}
+use Rattle.blz_units.specs.Keeping.{Keeping, units_told, AreKnown, AreRoots, IsAgain, IsRootOf}
+use Rattle.blz_units.specs.RangeChains.{AreChains, ArePieces, KeepsChains}
 use Rattle.blz_units.specs.RootKeys.{root_cmp, AreSpansOf}
 use Rattle.blz_units.specs.UnitLists.{EndBefore, IsInPlace}
 use Rattle.blz_units.specs.UnitTables.{KeptUnits, by_root, keep, root_spans}
+use Rattle.blz_units.specs.declared.known_roots.KnownRanges.{KnownRanges}
 use Rattle.blz_units.specs.declared.known_roots.KnownRoots.{KnownRoots}
+use Rattle.blz_units.specs.declared.range_chains.RangeChains.{RangeChains}
 use Rattle.blz_units.specs.declared.root_key.RootKey.{RootKey}
+use Rattle.blz_units.proofs.ChainPieces.{pieces_stay}
 use Rattle.blz_units.proofs.KeptValues.{if_empty, more_kept}
 use Rattle.blz_units.proofs.KeyOrder.{exact_root}
 use Rattle.blz_units.proofs.UnitsInPlace.{end_later, end_more}
@@ -46,7 +50,7 @@ pub record IsNext (old new : KeptRanges) (announced : Option (Option (List Span)
   pub is : announced ≡ Some (Some spans)
   pub with_unit : IsWithUnit old spans new
 
-pub next_more : (k : Keeping) (h : UnitHeader) (new : KeptRanges) (o : Option (Option (List Span))) → length k.ranges.keepers ≡ length k.kept → IsNext k.ranges new o → with_it (units_told k) h o ≡ Some (units_told (record { kept = k.kept ++ h ∷ []; ranges = new }))
+pub next_more : (k : Keeping) (h : UnitHeader) (new : KeptRanges) (o : Option (Option (List Span))) → k.ranges.count ≡ length k.kept → IsNext k.ranges new o → with_it (units_told k) h o ≡ Some (units_told (record { kept = k.kept ++ h ∷ []; ranges = new }))
 next_more k h new o same next =
     let all : all_kept new ≡ all_kept k.ranges ++ own_all (length k.kept) next.spans = next.with_unit.all ∙ ap (λ (n : ℕ). all_kept k.ranges ++ own_all n next.spans) same in
     ap (with_it (units_told k) h) next.is ∙ ap (λ (l : List (Owned Span)). Some (record { kept = k.kept ++ h ∷ []; announced = l })) (sym all)
@@ -108,3 +112,25 @@ none_known s ranges roots e = if_empty root_cmp roots.roots (λ key keeper. IsRo
 
 pub root_more : (s : FileSections) (ranges : KeptRanges) (old new : KnownRoots) (key : RootKey) (keeper : Option ℕ) → Updates root_cmp old.roots new.roots key (Some keeper) → AreRoots s ranges old → IsRootOf s ranges (record { key = key; keeper = keeper }) → AreRoots s ranges new
 root_more s ranges old new key keeper u are known = more_kept root_cmp exact_root old.roots new.roots key keeper (λ k x. IsRootOf s ranges (record { key = k; keeper = x })) u known are
+
+-- ---- all that is known
+
+-- lists were read
+pub known_read : (s : FileSections) (ranges : KeptRanges) (known : KnownRanges) (chains : RangeChains) → KeepsChains s known.chains chains → AreKnown s ranges known → AreKnown s ranges (record { roots = known.roots; chains = chains })
+known_read s ranges known chains keeps are = record { roots = are.roots; chains = keeps.are are.chains; pieces = keeps.pieces ranges are.pieces }
+
+-- there is one unit more
+pub known_stays : (s : FileSections) (old new : KeptRanges) (known : KnownRanges) (o : Option (Option (List Span))) → IsNext old new o → AreKnown s old known → AreKnown s new known
+known_stays s old new known o next are = record {
+  roots = roots_stay s old new known.roots o next are.roots;
+  chains = are.chains;
+  pieces = pieces_stay known.chains old new next.with_unit.others are.pieces;
+}
+
+-- it announces pieces of a chain
+pub known_chained : (s : FileSections) (old new : KeptRanges) (known : KnownRanges) (chains : RangeChains) (o : Option (Option (List Span))) → IsNext old new o → chains.chains ≡ known.chains.chains → chains.places ≡ known.chains.places → ArePieces new chains → AreKnown s old known → AreKnown s new (record { roots = known.roots; chains = chains })
+known_chained s old new known chains o next same places pieces are = record {
+  roots = roots_stay s old new known.roots o next are.roots;
+  chains = λ key. rw (places, same) (are.chains key);
+  pieces = pieces;
+}

@@ -2,9 +2,9 @@
 use Rattle.std.proofs.Common.{◌≡◌, ℕ, Bool, true, false, Some, None, Ordering, Less, Equal, Greater, refl, ap}
 use Rattle.std.specs.Ordering.{bool_cmp, nat_cmp, ordering_then}
 use Rattle.std.proofs.lemmas.Map.Lookups.{CmpEqualImpliesEq, exact_unsigned}
-use Rattle.blz_units.specs.RootKeys.{root_cmp}
+use Rattle.blz_units.specs.RangeChains.{piece_cmp}
+use Rattle.blz_units.specs.RootKeys.{list_cmp, root_cmp}
 use Rattle.blz_units.specs.Sharing.{program_cmp}
-use Rattle.blz_units.specs.contracts.root_key.ListKeyOrd.TheImpl as list
 use Rattle.blz_units.specs.contracts.root_key.RangesKeyOrd.TheImpl as ranges
 use Rattle.blz_units.specs.contracts.shared_lines.LinesKeyOrd.TheImpl as lines
 use Rattle.blz_units.specs.declared.root_key.RangesKey.TheVariants.{Listed, Bounded, Unbounded}
@@ -30,7 +30,7 @@ flag x y rest e = let h = both (bool_cmp x y) rest e in (exact_flag x y h.0, h.1
 
 -- ---- what tells the ranges
 
-exact_list : CmpEqualImpliesEq list.ghosts.cmp
+pub exact_list : CmpEqualImpliesEq list_cmp
 exact_list x y e =
     let version = number x.version y.version _ e in
     let size = number x.address_size y.address_size _ version.1 in
@@ -52,6 +52,15 @@ exact_ranges (Bounded begin end) Unbounded e = absurd cc
 exact_ranges Unbounded (Listed y) e = absurd cc
 exact_ranges Unbounded (Bounded begin end) e = absurd cc
 exact_ranges Unbounded Unbounded e = refl
+
+-- ---- a piece of a chain
+
+pub exact_piece : CmpEqualImpliesEq piece_cmp
+exact_piece x y e =
+    let chain = number x.chain y.chain _ e in
+    let start = number x.start y.start _ chain.1 in
+    let len = exact_unsigned x.len y.len start.1 in
+    λ i. record { chain = chain.0 i; start = start.0 i; len = len i }
 
 -- ---- a line program
 

@@ -20,3 +20,6 @@ pub mod Shared
 pub mod SharedLines
 pub mod KeyOrder
 pub mod RootKeys
+pub mod Chained
+pub mod ChainPieces
+pub mod RootTold

@@ -1,19 +1,20 @@
 -- What the root of a unit announces depends on its key alone.
-use Rattle.std.proofs.Common.{◌≡◌, ℕ, zero, suc, ◌+◌, Bool, true, false, List, [], ◌∷◌, ◌++◌, Option, Some, None, option_map, refl, sym, ap, ◌∙◌}
+use Rattle.std.proofs.Common.{◌≡◌, ℕ, zero, suc, ◌+◌, ◌<◌, List, [], ◌∷◌, ◌++◌, length, Option, Some, None, option_map, refl, sym, ap, ◌∙◌, arith}
 use Rattle.std.specs.Prelude.{◌==◌, if◌then◌else◌}
 use Rattle.std.specs.Option.{option_to_list}
-use Rattle.std.proofs.lemmas.Bool.{false≢true}
 use Rattle.blz_model.specs.Reads.{◌>>=◌}
 use Rattle.blz_entry.specs.AddressIndexes.{address_of}
-use Rattle.blz_entry.specs.RangeLists.{base_behind, base_of_index, begin_by_index, both_by_index, bounds_of, coded_entry, coded_entry_at, is_end, list_length, not_empty, range_entry_at, ranges_by, ranges_of, spans_from, spans_in, spelled, appended}
+use Rattle.blz_entry.specs.RangeLists.{base_behind, base_of_index, begin_by_index, both_by_index, bounds_of, coded_entry, coded_entry_at, is_end, list_length, not_empty, range_entry_at, ranges_by, ranges_of, spans_from, spans_in, spelled}
+use Rattle.blz_entry.specs.RangeTails.{list_tail, tail_spans}
+use Rattle.blz_entry.specs.declared.range_tail.RangeTail.{RangeTail}
 use Rattle.blz_entry.specs.declared.root.UnitRoot.{UnitRoot}
-use Rattle.blz_functions.specs.Leaves.{UnitParts, lying, ranges_in}
+use Rattle.blz_functions.specs.Leaves.{UnitParts, lying, ranges_in, spans_behind}
 use Rattle.blz_info.specs.FileSections.{FileSections}
 use Rattle.blz_info.specs.declared.section.Sections.{Sections}
 use Rattle.blz_info.specs.declared.units.UnitHeader.{UnitHeader}
 use Rattle.blz_line.specs.UnitLines.{maybe_table}
 use Rattle.blz_ranges.specs.declared.span.Span.{Span}
-use Rattle.blz_units.specs.RootKeys.{bounded_by, list_key, program_at, program_key, ranges_by_key, ranges_key, IsKeyOf}
+use Rattle.blz_units.specs.RootKeys.{bounded_by, list_key, program_at, program_key, ranges_by_key, ranges_key, tail_key, IsKeyOf}
 use Rattle.blz_units.specs.UnitTables.{lines_in, or_sequences, sequences_of}
 use Rattle.blz_units.specs.declared.root_key.ListKey.{ListKey}
 use Rattle.blz_units.specs.declared.shared_lines.ProgramKey.{ProgramKey}
@@ -31,7 +32,7 @@ module _ (s : Sections) (h g : UnitHeader) (r q : UnitRoot) where
   header = record g { version = h.version; address_size = h.address_size }
 
   root : UnitRoot
-  root = record q { low_pc = r.low_pc; addr_base = r.addr_base }
+  root = record q { addr_base = r.addr_base }
 
   spans_same : (n base : ℕ) (front : List Span) (at : ℕ) → spans_in s h r n base front at ≡ spans_in s header root n base front at
   unfolding header root spans_in range_entry_at coded_entry_at coded_entry base_of_index both_by_index begin_by_index address_of
@@ -40,11 +41,22 @@ module _ (s : Sections) (h g : UnitHeader) (r q : UnitRoot) where
       ap (λ (o : Option (List Span)). if at == list_length s h then Some front else o)
       (bind_same (range_entry_at s h r at) _ _ (λ e. ap (λ (o : Option (List Span)). if is_end e.0 then Some front else o) (spans_same n (base_behind base e.0) (front ++ option_to_list (spelled h.version h.address_size base e.0)) e.1)))
 
+  tail_same : (t : RangeTail) → h.version ≡ g.version → h.address_size ≡ g.address_size → r.addr_base ≡ q.addr_base → tail_spans s h r t ≡ tail_spans s g q t
+  unfolding header root tail_spans
+  tail_same t version size addr =
+      spans_same (list_length s h + 1) t.base [] t.place
+      ∙ (λ i. tail_spans s (record g { version = version i; address_size = size i }) (record q { addr_base = addr i }) t)
+
   list_same : (offset : ℕ) → h.version ≡ g.version → h.address_size ≡ g.address_size → r.low_pc ≡ q.low_pc → r.addr_base ≡ q.addr_base → spans_from [] s h r offset ≡ spans_from [] s g q offset
-  unfolding header root spans_from
+  unfolding spans_from tail_spans
   list_same offset version size low addr =
-      spans_same (list_length s h + 1) r.low_pc [] offset
-      ∙ (λ i. spans_from [] s (record g { version = version i; address_size = size i }) (record q { low_pc = low i; addr_base = addr i }) offset)
+      tail_same (list_tail r offset) version size addr ∙ ap (λ (base : ℕ). tail_spans s g q (record { place = offset; base = base })) low
+
+-- the list from an entry on is read by its key
+pub tails_same : (u v : UnitParts) (t : RangeTail) → v.sections ≡ u.sections → tail_key v t ≡ tail_key u t → spans_behind v t ≡ spans_behind u t
+tails_same u v t at key =
+    ap (λ (s : FileSections). tail_spans (lying s) v.header v.root t) at
+    ∙ tail_same (lying u.sections) v.header u.header v.root u.root t (ap (λ (k : ListKey). k.version) key) (ap (λ (k : ListKey). k.address_size) key) (ap (λ (k : ListKey). k.addr_base) key)
 
 -- ---- the ranges of a root
 
@@ -116,24 +128,15 @@ sequences_same u v at e = lines_by_same u v u.root.line v.root.line at e
 abbrev or_lines : UnitParts → Option (List Span) → Option (List Span)
 or_lines u o = o >>= λ spans. Some (or_sequences u spans)
 
-flag_of : Option (List Span × Bool) → Bool
-flag_of None = false
-flag_of (Some r) = r.1
-
-some_same : (u v : UnitParts) (o : Option (List Span)) (old new : List Span) → (o >>= appended old) ≡ Some (new, true) → or_lines v o ≡ or_lines u o
-unfolding flag_of
-some_same u v None old new e = refl
-some_same u v (Some []) old new e = absurd (false≢true (ap flag_of e))
-some_same u v (Some (s ∷ spans)) old new e = refl
-
 or_same : (u v : UnitParts) (o : Option (List Span)) → sequences_of (lines_in v) ≡ sequences_of (lines_in u) → or_lines v o ≡ or_lines u o
 or_same u v None e = refl
 or_same u v (Some []) e = ap (λ (l : List Span). Some l) e
 or_same u v (Some (s ∷ spans)) e = refl
 
 -- a root with a range is told by its ranges
-pub ranges_tell : (u : UnitParts) (old new : List Span) → (ranges_in u u.root.ranges >>= appended old) ≡ Some (new, true) → IsKeyOf u (ByRanges (ranges_key u))
-ranges_tell u old new e = λ v at told. ap (or_lines v) (ranges_same u v at told) ∙ some_same u v (ranges_in u u.root.ranges) old new e
+pub ranges_tell : (u : UnitParts) (spans : List Span) → ranges_in u u.root.ranges ≡ Some spans → 0 < length spans → IsKeyOf u (ByRanges (ranges_key u))
+ranges_tell u [] is some = absurd (omega arith)
+ranges_tell u (x ∷ spans) is some = λ v at told. ap (or_lines v) (ranges_same u v at told ∙ is) ∙ sym (ap (or_lines u) is)
 
 -- and each by its ranges and its lines
 pub lines_tell : (u : UnitParts) → IsKeyOf u (ByLines (ranges_key u) (program_key u))

@@ -1,5 +1,5 @@
 -- The units that are kept while they are read, with what is known of their roots.
-use Rattle.std.specs.Prelude.{◌≡◌, ℕ, List, Option, Some, None, IfSome, Result, Ok, Err}
+use Rattle.std.specs.Prelude.{◌≡◌, ℕ, ◌≤◌, List, ◌++◌, length, Option, Some, None, IfSome, MatchResult, Result, Ok, Err}
 use Rattle.std.specs.BTreeMap.{get}
 use Rattle.blz_error.specs.Fault.{Fault}
 use Rattle.blz_functions.specs.Leaves.{UnitParts}
@@ -9,12 +9,18 @@ use Rattle.blz_info.specs.Marks.{or_invalid}
 use Rattle.blz_model.specs.Part.{Fails}
 use Rattle.blz_ranges.specs.declared.span.Span.{Span}
 use Rattle.blz_units.specs.BuiltUnits.{Files}
-use Rattle.blz_announced.specs.Copies.{KeptRanges, all_kept, IsListOf}
+use Rattle.blz_announced.specs.Units.{KeptRanges, all_kept, IsListOf}
 use Rattle.blz_units.specs.KeptParts.{IsPartOf}
-use Rattle.blz_units.specs.RootKeys.{root_cmp, AreSpansOf, IsToldBy}
-use Rattle.blz_units.specs.UnitTables.{KeptUnits, by_root}
+use Rattle.blz_units.specs.RangeChains.{chain_at, list_in, AreChains, ArePieces, IsLastIn}
+use Rattle.blz_units.specs.RootKeys.{root_cmp, AreSpansOf, IsKeyOf, IsToldBy}
+use Rattle.blz_units.specs.UnitTables.{KeptUnits, by_root, root_spans}
 use Rattle.blz_units.specs.declared.announcing.Announcement.{Announcement}
-use Rattle.blz_units.specs.declared.announcing.Announcement.TheVariants.{NotKept, Again, Ranges}
+use Rattle.blz_units.specs.declared.announcing.Announcement.TheVariants.{NotKept, Again, Ranges, InChain}
+use Rattle.blz_units.specs.declared.announcing.RootRanges.{RootRanges}
+use Rattle.blz_units.specs.declared.announcing.RootRanges.TheVariants.{Spans, Chained}
+use Rattle.blz_units.specs.declared.range_chains.ChainPlace.{ChainPlace}
+use Rattle.blz_units.specs.declared.range_chains.RangeChains.{RangeChains}
+use Rattle.blz_units.specs.declared.known_roots.KnownRanges.{KnownRanges}
 use Rattle.blz_units.specs.declared.known_roots.KnownRoot.{KnownRoot}
 use Rattle.blz_units.specs.declared.known_roots.KnownRoots.{KnownRoots}
 use Rattle.blz_units.specs.declared.root_key.RootKey.{RootKey}
@@ -26,6 +32,7 @@ abbrev pub HasPartOf : Files → UnitHeader → Announcement → Type 0
 HasPartOf f h NotKept = Unit {0}
 HasPartOf f h (Again part keeper) = IsPartOf f h part
 HasPartOf f h (Ranges spans part key) = IsPartOf f h part
+HasPartOf f h (InChain front place part) = IsPartOf f h part
 
 -- a key that was met, with its keeper
 abbrev pub IsKnown : KnownRoots → KnownRoot → Type 0
@@ -40,16 +47,36 @@ pub record IsAgain (s : FileSections) (roots : KnownRoots) (keeper : Option ℕ)
   pub told : IsToldBy key unit
   pub is : announced ≡ by_root (Some unit)
 
+-- It is some ranges, and then the last ones of a chain.
+pub record IsChained (chains : RangeChains) (announced : Option (Option (List Span))) (front : List Span) (place : ChainPlace) : Type 0 where
+  pub within : place.count ≤ length (chain_at chains.chains.items place.chain)
+  pub is : announced ≡ Some (Some (front ++ list_in chains.chains.items place))
+
 -- What is told of a unit is what it announces.
-abbrev pub IsTold : FileSections → KnownRoots → Option (Option (List Span)) → Announcement → Type 0
-IsTold s roots announced NotKept = announced ≡ Some None
-IsTold s roots announced (Again part keeper) = IsAgain s roots keeper announced
-IsTold s roots announced (Ranges spans part key) = (announced ≡ Some (Some spans.items)) × IfSome key (AreSpansOf s spans.items)
+abbrev pub IsTold : FileSections → KnownRoots → RangeChains → Option (Option (List Span)) → Announcement → Type 0
+IsTold s roots chains announced NotKept = announced ≡ Some None
+IsTold s roots chains announced (Again part keeper) = IsAgain s roots keeper announced
+IsTold s roots chains announced (Ranges spans part key) = (announced ≡ Some (Some spans.items)) × IfSome key (AreSpansOf s spans.items)
+IsTold s roots chains announced (InChain front place part) = IsChained chains announced front.items place
 
 -- The call fails where what it announces has no value.
-abbrev pub IsToldOr : FileSections → KnownRoots → Option (Option (List Span)) → Result Announcement Fault → Type 0
-IsToldOr s roots announced (Ok a) = IsTold s roots announced a
-IsToldOr s roots announced (Err e) = Fails e.kind (or_invalid announced)
+abbrev pub IsToldOr : FileSections → KnownRoots → RangeChains → Option (Option (List Span)) → Result Announcement Fault → Type 0
+IsToldOr s roots chains announced (Ok a) = IsTold s roots chains announced a
+IsToldOr s roots chains announced (Err e) = Fails e.kind (or_invalid announced)
+
+-- ---- what is told of a root
+
+-- What is told of a root is what its unit announces, and a key with it tells the same of each unit.
+abbrev pub IsRootTold : UnitParts → RangeChains → RootRanges → Type 0
+IsRootTold u chains (Spans spans key) = (root_spans u ≡ Some spans.items) × IsKeyOf u key
+IsRootTold u chains (Chained front place) = IsLastIn chains (root_spans u) front.items place
+
+abbrev pub TellsRoot : UnitParts → RangeChains → Result RootRanges Fault → Type 0
+TellsRoot u chains result = MatchResult result (IsRootTold u chains) (λ e. Fails e.kind (or_invalid (root_spans u)))
+
+-- So it is told by lines, whatever the chains are.
+abbrev pub IsToldByLines : UnitParts → RootRanges → Type 0
+IsToldByLines u told = (chains : RangeChains) → IsRootTold u chains told
 
 -- ---- the units so far
 
@@ -69,3 +96,9 @@ pub record IsRootOf (s : FileSections) (ranges : KeptRanges) (known : KnownRoot)
 
 abbrev pub AreRoots : FileSections → KeptRanges → KnownRoots → Type 0
 AreRoots s ranges roots = (key : RootKey) → IfSome (get root_cmp roots.roots key) (λ keeper. IsRootOf s ranges (record { key = key; keeper = keeper }))
+
+-- What is known of the units so far: the keys that were met, and lists that run into one another.
+pub record AreKnown (s : FileSections) (ranges : KeptRanges) (known : KnownRanges) : Type 0 where
+  pub roots : AreRoots s ranges known.roots
+  pub chains : AreChains s known.chains
+  pub pieces : ArePieces ranges known.chains

@@ -3,6 +3,7 @@ pub mod SharedTables
 pub mod Sharing
 pub mod SharedPackage
 pub mod RootKeys
+pub mod RangeChains
 pub mod Keeping
 pub mod Sets
 pub mod UnitTables

@@ -2,13 +2,15 @@
 use Rattle.std.specs.Prelude.{◌≡◌, ℕ, List, Option, Some, None, option_map}
 use Rattle.std.specs.declared.cmp.Ordering.{Ordering}
 use Rattle.blz_entry.specs.RangeLists.{bounds_of, not_empty}
-use Rattle.blz_functions.specs.Leaves.{UnitParts}
+use Rattle.blz_entry.specs.declared.range_tail.RangeTail.{RangeTail}
+use Rattle.blz_functions.specs.Leaves.{UnitParts, spans_behind}
 use Rattle.blz_info.specs.FileSections.{FileSections}
 use Rattle.blz_ranges.specs.declared.span.Span.{Span}
 use Rattle.blz_units.specs.declared.root_key.ListKey.{ListKey}
 use Rattle.blz_units.specs.declared.shared_lines.ProgramKey.{ProgramKey}
 use Rattle.blz_units.specs.declared.root_key.RangesKey.{RangesKey}
 use Rattle.blz_units.specs.declared.root_key.RangesKey.TheVariants.{Listed, Bounded, Unbounded}
+use Rattle.blz_units.specs.contracts.root_key.ListKeyOrd.TheImpl as lists
 use Rattle.blz_units.specs.contracts.root_key.RootKeyOrd.TheImpl as order
 use Rattle.blz_units.specs.declared.root_key.RootKey.{RootKey}
 use Rattle.blz_units.specs.declared.root_key.RootKey.TheVariants.{ByRanges, ByLines}
@@ -24,6 +26,29 @@ list_key u offset = record {
   addr_base = u.root.addr_base;
   offset = offset;
 }
+
+-- how a unit reads a list from one of its entries on
+abbrev pub tail_key : UnitParts → RangeTail → ListKey
+tail_key u tail = record {
+  version = u.header.version;
+  address_size = u.header.address_size;
+  low_pc = tail.base;
+  addr_base = u.root.addr_base;
+  offset = tail.place;
+}
+
+-- where the list of a key begins
+abbrev pub key_tail : ListKey → RangeTail
+key_tail key = record { place = key.offset; base = key.low_pc }
+
+-- keys of lists stand in the order of their fields
+abbrev pub list_cmp : ListKey → ListKey → Ordering
+list_cmp = lists.ghosts.cmp
+
+-- Each unit of some sections that reads a list by a key finds these ranges.
+abbrev pub AreListSpans : FileSections → List Span → ListKey → Type 0
+AreListSpans s spans key = (v : UnitParts) → v.sections ≡ s → tail_key v (key_tail key) ≡ key
+    → spans_behind v (key_tail key) ≡ Some spans
 
 -- what tells the range of some bounds
 abbrev pub bounded_by : Option Span → RangesKey

@@ -2,7 +2,7 @@
 use Rattle.std.specs.Prelude.{ℕ, Bool, true}
 use Rattle.blz_units.specs.UnitTables.{UnitTable, announcing}
 use Rattle.blz_announced.specs.Announced.{Announcing}
-use Rattle.blz_announced.specs.Copies.{announced_all}
+use Rattle.blz_announced.specs.Units.{announced_all}
 use Rattle.blz_units.specs.declared.unit_table.UnitTable as table
 
 abbrev pub table_view : table.UnitTable → UnitTable

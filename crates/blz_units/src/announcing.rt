@@ -1,5 +1,5 @@
 //! What a unit announces.
-ghost use Rattle.std.specs.Prelude.{◌≡◌, ◌≢◌, ◌++◌, Option, Some, IfOk, MatchResult, OnOk, IfSome, option_map};
+ghost use Rattle.std.specs.Prelude.{◌≡◌, ◌≢◌, ◌+◌, ◌<◌, ◌++◌, [], true, false, length, Option, Some, IfOk, MatchResult, OnOk, IfSome, option_map};
 ghost use Rattle.blz_error.specs.declared.kind.ErrorKind.TheVariants.{OutOfMemory};
 ghost use Rattle.blz_model.specs.Part.{Good, Gives};
 ghost use Rattle.blz_info.specs.Marks.{or_invalid};
@@ -7,18 +7,21 @@ ghost use Rattle.blz_line.specs.Lookups.{span_of, spans_of};
 ghost use Rattle.blz_line.specs.UnitLines.{OrderedLines};
 ghost use Rattle.blz_units.specs.BuiltUnits.{built, built_view, files_view, BuiltFits, IsReadable};
 ghost use Rattle.blz_units.specs.KeptParts.{IsPartOf};
+ghost use Rattle.blz_functions.specs.Leaves.{ranges_in};
 ghost use Rattle.blz_functions.specs.Opened.{open_view};
-ghost use Rattle.blz_units.specs.Keeping.{HasPartOf, IsKnown, IsToldOr};
-ghost use Rattle.blz_units.specs.RootKeys.{IsKeyOf, IsToldBy};
+ghost use Rattle.blz_units.specs.Keeping.{HasPartOf, IsKnown, IsToldByLines, IsToldOr, TellsRoot};
+ghost use Rattle.blz_units.specs.RangeChains.{AreChains, KeepsChains};
+ghost use Rattle.blz_units.specs.RootKeys.{IsToldBy};
 ghost use Rattle.blz_units.specs.Sharing.{AreShared};
 ghost use Rattle.blz_units.specs.declared.dwarf.Origin.TheVariants.{Main};
 ghost use Rattle.blz_units.specs.UnitLists.{IsInPlace};
-ghost use Rattle.blz_units.specs.UnitTables.{announces, by_root, is_type, is_partial, lines_in, root_behind, sequences_of};
+ghost use Rattle.blz_units.specs.UnitTables.{announces, by_root, is_type, is_partial, lines_in, sequences_of};
 
 use crate::address_sets::AddressSets;
 use crate::built_unit::{BuiltUnit, may_be_split};
 use crate::dwarf::{Dwarf, Origin};
 use crate::known_roots::{KnownRoot, KnownRoots};
+use crate::range_chains::{ChainPlace, RangeChains, ToldRanges};
 use crate::root_key::{RootKey, program_key, ranges_key};
 use crate::shared_lines::{ProgramSpans, lines_key};
 use crate::shared_parts::SharedParts;
@@ -39,6 +42,17 @@ pub enum Announcement {
     Again(Cache<BuiltUnit>, Option<usize>),
     /// Some ranges, with the key of its root where that tells them.
     Ranges(Vec<Span>, Cache<BuiltUnit>, Option<RootKey>),
+    /// Some ranges, and then the last ones of a chain.
+    InChain(Vec<Span>, ChainPlace, Cache<BuiltUnit>),
+}
+
+/// What the root of a unit announces.
+#[derive(Drop)]
+enum RootRanges {
+    /// Some ranges, with the key that tells them.
+    Spans(Vec<Span>, RootKey),
+    /// Some ranges, and then the last ones of a chain.
+    Chained(Vec<Span>, ChainPlace),
 }
 
 /// Whether a unit is a type unit.
@@ -169,44 +183,79 @@ fn append_shared(
     }
 }
 
-/// Appends the ranges of the root of a unit, and where there are none what the sequences of its lines cover. Gives the key
-/// by which that is told.
-fn append_root(
+/// What the sequences of the lines of a unit cover, with the key of a root without ranges.
+fn ranges_by_lines(
     alloc: Global,
     shared: &mut SharedParts,
     unit: &OpenUnit<'_, '_>,
-    out: &mut Vec<Span>,
-) -> Result<RootKey>
-    requires { AreShared (open_view unit.now).sections shared.old }
-    ensures value { Gives (λ _. out.new.items) result (or_invalid (root_behind (open_view unit.now) out.old.items)) }
-    ensures key { IfOk result (IsKeyOf (open_view unit.now)) }
+) -> Result<RootRanges>
+    requires none { ranges_in (open_view unit.now) unit.now.root.ranges ≡ Some [] }
+    requires shared { AreShared (open_view unit.now).sections shared.old }
+    ensures value { MatchResult result (IsToldByLines (open_view unit.now)) (λ e. e.kind ≡ OutOfMemory) }
     ensures shared { AreShared (open_view unit.now).sections shared.new }
 {
-    let ranges = ranges_key(unit);
-    if unit.append_ranges(&unit.root.ranges, out)? {
-        return Ok(RootKey::ByRanges(ranges));
+    let mut spans = Vec::new(alloc);
+    append_shared(alloc, shared, unit, &mut spans)?;
+    let key = RootKey::ByLines(ranges_key(unit), program_key(unit));
+    Ok(RootRanges::Spans(spans, key))
+}
+
+/// Whether neither some ranges nor the last ones of a chain are any.
+fn has_none(front: &[Span], place: ChainPlace) -> bool
+    ensures none { result ≡ true → (length front.now ≡ 0) × (place.count ≡ 0) }
+    ensures some { result ≡ false → 0 < length front.now + place.count }
+{
+    front.is_empty() && place.count == 0
+}
+
+/// What the root of a unit announces: its ranges, and where there are none what the sequences of its lines cover.
+fn root_ranges(
+    alloc: Global,
+    shared: &mut SharedParts,
+    unit: &OpenUnit<'_, '_>,
+    chains: &mut RangeChains,
+) -> Result<RootRanges>
+    requires shared { AreShared (open_view unit.now).sections shared.old }
+    requires chains { AreChains (open_view unit.now).sections chains.old }
+    ensures value { TellsRoot (open_view unit.now) chains.new result }
+    ensures kept { IfOk result (λ _. KeepsChains (open_view unit.now).sections chains.old chains.new) }
+    ensures shared { AreShared (open_view unit.now).sections shared.new }
+{
+    match chains.ranges_of(alloc, unit)? {
+        ToldRanges::Read(spans) => {
+            if spans.is_empty() {
+                return ranges_by_lines(alloc, shared, unit);
+            }
+            let key = RootKey::ByRanges(ranges_key(unit));
+            Ok(RootRanges::Spans(spans, key))
+        },
+        ToldRanges::InChain(front, place) => {
+            if has_none(front.as_slice(), place) {
+                return ranges_by_lines(alloc, shared, unit);
+            }
+            Ok(RootRanges::Chained(front, place))
+        },
     }
-    append_shared(alloc, shared, unit, out)?;
-    Ok(RootKey::ByLines(ranges, program_key(unit)))
 }
 
 /// The same of a unit of the main file that is built.
-fn append_unit(
+fn unit_ranges(
     alloc: Global,
     dwarf: &Dwarf<'_, '_>,
     shared: &mut SharedParts,
     unit: &BuiltUnit,
-    out: &mut Vec<Span>,
-) -> Result<RootKey>
+    chains: &mut RangeChains,
+) -> Result<RootRanges>
     requires readable { IsReadable dwarf.now }
     requires fits { BuiltFits (files_view dwarf.now) unit.now }
     requires main { unit.now.origin ≡ Main }
     requires shared { AreShared (files_view dwarf.now).main shared.old }
-    ensures value { Gives (λ _. out.new.items) result (or_invalid (root_behind (built_view (files_view dwarf.now) unit.now) out.old.items)) }
-    ensures key { IfOk result (IsKeyOf (built_view (files_view dwarf.now) unit.now)) }
+    requires chains { AreChains (files_view dwarf.now).main chains.old }
+    ensures value { TellsRoot (built_view (files_view dwarf.now) unit.now) chains.new result }
+    ensures kept { IfOk result (λ _. KeepsChains (files_view dwarf.now).main chains.old chains.new) }
     ensures shared { AreShared (files_view dwarf.now).main shared.new }
 {
-    append_root(alloc, shared, &unit.open(dwarf), out)
+    root_ranges(alloc, shared, &unit.open(dwarf), chains)
 }
 
 /// What is kept of a unit that was built: nothing where its functions may stand in a package, or where there was no room
@@ -244,24 +293,29 @@ fn announced_by(
     header: &UnitHeader,
     unit: BuiltUnit,
     roots: &KnownRoots,
+    chains: &mut RangeChains,
 ) -> Result<Announcement>
     requires readable { IsReadable dwarf.now }
     requires fits { BuiltFits (files_view dwarf.now) unit }
     requires main { unit.origin ≡ Main }
     requires is { or_invalid (built (files_view dwarf.now).main header.now) ≡ Good (built_view (files_view dwarf.now) unit) }
     requires shared { AreShared (files_view dwarf.now).main shared.old }
-    ensures told { IsToldOr (files_view dwarf.now).main roots.now (by_root (built (files_view dwarf.now).main header.now)) result }
+    requires chains { AreChains (files_view dwarf.now).main chains.old }
+    ensures told { IsToldOr (files_view dwarf.now).main roots.now chains.new (by_root (built (files_view dwarf.now).main header.now)) result }
     ensures part { IfOk result (HasPartOf (files_view dwarf.now) header.now) }
+    ensures kept { IfOk result (λ _. KeepsChains (files_view dwarf.now).main chains.old chains.new) }
     ensures shared { AreShared (files_view dwarf.now).main shared.new }
 {
     if let Some(known) = known_root(dwarf, &unit, roots) {
         let part = kept_of(dwarf, shared, header, unit);
         return Ok(Announcement::Again(part, known.keeper));
     }
-    let mut spans = Vec::new(alloc);
-    let key = append_unit(alloc, dwarf, shared, &unit, &mut spans)?;
+    let told = unit_ranges(alloc, dwarf, shared, &unit, chains)?;
     let part = kept_of(dwarf, shared, header, unit);
-    Ok(Announcement::Ranges(spans, part, Some(key)))
+    match told {
+        RootRanges::Spans(spans, key) => Ok(Announcement::Ranges(spans, part, Some(key))),
+        RootRanges::Chained(front, place) => Ok(Announcement::InChain(front, place, part)),
+    }
 }
 
 /// What a unit announces that no set names. It is not kept where it cannot be built.
@@ -271,16 +325,19 @@ fn announced_by_root(
     shared: &mut SharedParts,
     header: &UnitHeader,
     roots: &KnownRoots,
+    chains: &mut RangeChains,
 ) -> Result<Announcement>
     requires readable { IsReadable dwarf.now }
     requires in_place { IsInPlace header.now }
     requires shared { AreShared (files_view dwarf.now).main shared.old }
-    ensures told { IsToldOr (files_view dwarf.now).main roots.now (by_root (built (files_view dwarf.now).main header.now)) result }
+    requires chains { AreChains (files_view dwarf.now).main chains.old }
+    ensures told { IsToldOr (files_view dwarf.now).main roots.now chains.new (by_root (built (files_view dwarf.now).main header.now)) result }
     ensures part { IfOk result (HasPartOf (files_view dwarf.now) header.now) }
+    ensures kept { IfOk result (λ _. KeepsChains (files_view dwarf.now).main chains.old chains.new) }
     ensures shared { AreShared (files_view dwarf.now).main shared.new }
 {
     match BuiltUnit::of_file(alloc, dwarf, shared, Origin::Main, header) {
-        Ok(unit) => announced_by(alloc, dwarf, shared, header, unit, roots),
+        Ok(unit) => announced_by(alloc, dwarf, shared, header, unit, roots, chains),
         Err(fault) => {
             unless_memory(fault)?;
             Ok(Announcement::NotKept)
@@ -298,12 +355,15 @@ pub fn announced(
     shared: &mut SharedParts,
     header: &UnitHeader,
     roots: &KnownRoots,
+    chains: &mut RangeChains,
 ) -> Result<Announcement>
     requires readable { IsReadable dwarf.now }
     requires in_place { IsInPlace header.now }
     requires shared { AreShared (files_view dwarf.now).main shared.old }
-    ensures told { IsToldOr (files_view dwarf.now).main roots.now (announces (files_view dwarf.now).main sets.now header.now) result }
+    requires chains { AreChains (files_view dwarf.now).main chains.old }
+    ensures told { IsToldOr (files_view dwarf.now).main roots.now chains.new (announces (files_view dwarf.now).main sets.now header.now) result }
     ensures part { IfOk result (HasPartOf (files_view dwarf.now) header.now) }
+    ensures kept { IfOk result (λ _. KeepsChains (files_view dwarf.now).main chains.old chains.new) }
     ensures shared { AreShared (files_view dwarf.now).main shared.new }
 {
     if is_type(header.kind) {
@@ -317,5 +377,5 @@ pub fn announced(
     if !spans.is_empty() {
         return Ok(Announcement::Ranges(spans, Cache::Empty, None));
     }
-    announced_by_root(alloc, dwarf, shared, header, roots)
+    announced_by_root(alloc, dwarf, shared, header, roots, chains)
 }

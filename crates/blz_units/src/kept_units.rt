@@ -3,7 +3,7 @@ ghost use Rattle.std.specs.Prelude.{◌≡◌, ◌+◌, ◌++◌, ◌∷◌, [],
 ghost use Rattle.blz_model.specs.Part.{Gives};
 ghost use Rattle.blz_info.specs.Marks.{or_invalid};
 ghost use Rattle.blz_units.specs.BuiltUnits.{files_view, IsReadable};
-ghost use Rattle.blz_units.specs.Keeping.{units_told, AreRoots};
+ghost use Rattle.blz_units.specs.Keeping.{units_told, AreKnown};
 ghost use Rattle.blz_units.specs.KeptParts.{SideFits};
 ghost use Rattle.blz_units.specs.declared.built_units.Side.TheVariants.{File};
 ghost use Rattle.blz_units.specs.UnitLists.{EndBefore, IsInPlace};
@@ -13,7 +13,7 @@ use crate::address_sets::AddressSets;
 use crate::announcing::{Announcement, announced};
 use crate::built_units::SideUnits;
 use crate::dwarf::Dwarf;
-use crate::known_roots::KnownRoots;
+use crate::known_roots::KnownRanges;
 use crate::unit_list::UnitList;
 use blz_announced::KeptRanges;
 use blz_entry::{UnitHeader, UnitHeaders};
@@ -36,7 +36,7 @@ impl Model for KeptUnits {
 
     ghost view = { λ k. record { kept = k.kept; ranges = k.ranges } };
 
-    ghost invariant = { λ k. length k.ranges.keepers ≡ length k.kept };
+    ghost invariant = { λ k. k.ranges.count ≡ length k.kept };
 }
 
 /// One unit more, with the ranges as they are kept then.
@@ -47,7 +47,7 @@ fn keep(
 ) -> std::result::Result<KeptUnits, AllocError>
     requires in_place { IsInPlace header }
     requires behind { EndBefore kept header.start }
-    requires count { length ranges.keepers ≡ length kept + 1 }
+    requires count { ranges.count ≡ length kept + 1 }
     ensures { IfOk result (λ k. k ≡ record { kept = kept ++ header ∷ []; ranges = ranges }) }
 {
     kept.push(header)?;
@@ -72,21 +72,29 @@ impl KeptUnits {
         dwarf: &Dwarf<'_, '_>,
         sets: &AddressSets,
         built: &mut SideUnits,
-        roots: &mut KnownRoots,
+        known: &mut KnownRanges,
         header: UnitHeader,
     ) -> Result<KeptUnits>
         requires readable { IsReadable dwarf.now }
         requires in_place { IsInPlace header }
         requires behind { EndBefore self.kept header.start }
-        requires known { AreRoots (files_view dwarf.now).main self.ranges roots.old }
+        requires known { AreKnown (files_view dwarf.now).main self.ranges known.old }
         requires fits { SideFits (files_view dwarf.now) File self.kept built.old }
         ensures value { Gives units_told result (or_invalid (with_unit (files_view dwarf.now).main sets.now (units_told self) header)) }
         ensures behind { IfOk result (λ k. EndBefore k.kept header.end) }
-        ensures known { IfOk result (λ k. AreRoots (files_view dwarf.now).main k.ranges roots.new) }
+        ensures known { IfOk result (λ k. AreKnown (files_view dwarf.now).main k.ranges known.new) }
         ensures fits { IfOk result (λ k. SideFits (files_view dwarf.now) File k.kept built.new) }
     {
         let KeptUnits { kept, ranges } = self;
-        let told = announced(alloc, dwarf, sets, &mut built.shared, &header, roots)?;
+        let told = announced(
+            alloc,
+            dwarf,
+            sets,
+            &mut built.shared,
+            &header,
+            &known.roots,
+            &mut known.chains,
+        )?;
         match told {
             Announcement::NotKept => Ok(KeptUnits { kept, ranges }),
             Announcement::Again(unit, keeper) => {
@@ -96,7 +104,14 @@ impl KeptUnits {
             },
             Announcement::Ranges(spans, unit, key) => {
                 let (ranges, keeper) = ranges.with_unit(spans.as_slice())?;
-                roots.note(key, keeper)?;
+                known.roots.note(key, keeper)?;
+                built.units.push(unit)?;
+                Ok(keep(kept, ranges, header)?)
+            },
+            Announcement::InChain(front, place, unit) => {
+                let ranges = known
+                    .chains
+                    .announce(alloc, ranges, front.as_slice(), place)?;
                 built.units.push(unit)?;
                 Ok(keep(kept, ranges, header)?)
             },
@@ -104,7 +119,7 @@ impl KeptUnits {
     }
 
     /// Reads the headers of all units, each with what it announces. Those that had to be built for that are given too.
-    #[tactic(auto, using(crate::proofs::BuiltSteps::none_built, crate::proofs::KeepSteps::none_known))]
+    #[tactic(auto, using(crate::proofs::BuiltSteps::none_built))]
     pub fn read(
         alloc: Global,
         dwarf: &Dwarf<'_, '_>,
@@ -117,9 +132,9 @@ impl KeptUnits {
         let mut headers = UnitHeaders::new(dwarf.main.info);
         let mut units = KeptUnits::new(alloc);
         let mut built = SideUnits::new(alloc);
-        let mut roots = KnownRoots::new(alloc);
+        let mut known = KnownRanges::new(alloc);
         while let Some(header) = headers.next_header()? {
-            units = units.with_unit(alloc, dwarf, sets, &mut built, &mut roots, header)?;
+            units = units.with_unit(alloc, dwarf, sets, &mut built, &mut known, header)?;
         }
         Ok((units, built))
     }

@@ -3,10 +3,11 @@ ghost use Rattle.std.specs.Prelude.{◌≡◌, IfSome, IfOk};
 ghost use Rattle.std.specs.BTreeMap.{IsEmpty};
 ghost use Rattle.blz_functions.specs.Opened.{open_view};
 ghost use Rattle.blz_info.specs.FileSections.{FileSections};
-ghost use Rattle.blz_announced.specs.Copies.{KeptRanges};
-ghost use Rattle.blz_units.specs.Keeping.{AreRoots, IsKnown, IsRootOf};
+ghost use Rattle.blz_announced.specs.Units.{KeptRanges};
+ghost use Rattle.blz_units.specs.Keeping.{AreKnown, AreRoots, IsKnown, IsRootOf};
 ghost use Rattle.blz_units.specs.RootKeys.{IsToldBy};
 
+use crate::range_chains::RangeChains;
 use crate::root_key::{RootKey, program_key, ranges_key};
 use blz_functions::OpenUnit;
 use std::alloc::{AllocError, Global};
@@ -70,6 +71,25 @@ impl KnownRoots {
                 Ok(())
             },
             None => Ok(()),
+        }
+    }
+}
+
+/// What is known of units while they are read: by the keys of their roots, and by their lists that run into one another.
+#[derive(Drop)]
+pub struct KnownRanges {
+    pub roots: KnownRoots,
+    pub chains: RangeChains,
+}
+
+impl KnownRanges {
+    /// Nothing; takes no memory.
+    pub fn new(alloc: Global) -> KnownRanges
+        ensures { (s : FileSections) (ranges : KeptRanges) → AreKnown s ranges result }
+    {
+        KnownRanges {
+            roots: KnownRoots::new(alloc),
+            chains: RangeChains::new(alloc),
         }
     }
 }

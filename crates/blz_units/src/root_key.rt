@@ -2,10 +2,10 @@
 ghost use Rattle.std.specs.Prelude.{◌≡◌};
 ghost use Rattle.blz_entry.specs.RangeLists.{bounds_of, not_empty};
 ghost use Rattle.blz_functions.specs.Opened.{open_view};
-ghost use Rattle.blz_units.specs.RootKeys.{bounded_by, list_key, program_key, ranges_key};
+ghost use Rattle.blz_units.specs.RootKeys.{bounded_by, list_key, program_key, ranges_key, tail_key};
 
 use crate::shared_lines::{ProgramKey, lines_key};
-use blz_entry::RangeAttributes;
+use blz_entry::{RangeAttributes, RangeTail};
 use blz_functions::OpenUnit;
 
 /// What a list of ranges is read by, and its offset.
@@ -47,6 +47,19 @@ fn list_key(unit: &OpenUnit<'_, '_>, offset: u64) -> ListKey
         low_pc: unit.root.low_pc,
         addr_base: unit.root.addr_base,
         offset,
+    }
+}
+
+/// What the list of a unit from one of its entries on is read by.
+pub fn tail_key(unit: &OpenUnit<'_, '_>, tail: RangeTail) -> ListKey
+    ensures { result ≡ tail_key (open_view unit.now) tail }
+{
+    ListKey {
+        version: unit.header.version,
+        address_size: unit.header.address_size,
+        low_pc: tail.base,
+        addr_base: unit.root.addr_base,
+        offset: tail.place as u64,
     }
 }
 

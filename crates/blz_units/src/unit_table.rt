@@ -1,14 +1,12 @@
 //! The units of a file, and the addresses that they announce.
-ghost use Rattle.std.specs.Prelude.{◌≡◌, map, IfOk, Option, Some, option_map};
+ghost use Rattle.std.specs.Prelude.{◌≡◌, IfOk, option_map};
 ghost use Rattle.blz_model.specs.Part.{Gives, Exactly};
 ghost use Rattle.blz_info.specs.Contents.{section_view};
 ghost use Rattle.blz_info.specs.Marks.{or_invalid};
-ghost use Rattle.blz_announced.specs.Copies.{all_kept, announced_all};
+ghost use Rattle.blz_announced.specs.Units.{IsOrderedBy};
 ghost use Rattle.blz_units.specs.BuiltUnits.{files_view, IsReadable};
 ghost use Rattle.blz_units.specs.KeptParts.{SideFits};
 ghost use Rattle.blz_units.specs.declared.built_units.Side.TheVariants.{File};
-ghost use Rattle.blz_ranges.specs.Keyed.{IsAccepted, begin_key};
-ghost use Rattle.blz_ranges.specs.Owned.{items_of};
 ghost use Rattle.blz_functions.specs.References.{unit_at};
 ghost use Rattle.blz_units.specs.TableViews.{announced_at, table_view};
 ghost use Rattle.blz_units.specs.UnitTables.{sup_units, sups_checked, units_in, units_of};
@@ -19,11 +17,11 @@ use crate::built_units::SideUnits;
 use crate::dwarf::Dwarf;
 use crate::kept_units::KeptUnits;
 use crate::unit_list::UnitList;
-use blz_announced::{Announced, KeptRanges, UnitsAt};
+use blz_announced::{Announced, UnitsAt};
 use blz_bytes::Orders;
 use blz_entry::{Section, Sections, UnitHeaders, invalid};
 use blz_error::Result;
-use std::alloc::{AllocError, Global};
+use std::alloc::Global;
 
 /// The units that are kept, the ranges that they announce, each with the number of its unit, and the units of the
 /// supplementary file.
@@ -65,19 +63,6 @@ pub fn check_sup_units(alloc: Global, sup: &Option<Sections<'_, '_>>) -> Result<
     Ok(())
 }
 
-/// What units announce, with an order of what is kept of it.
-fn with_order<O: Orders>(
-    alloc: Global,
-    orders: &mut O,
-    ranges: KeptRanges,
-) -> std::result::Result<Announced, AllocError>
-    ensures all { IfOk result (λ a. (announced_all a).ranges ≡ all_kept ranges) }
-    ensures accepted { IfOk result (λ a. IsAccepted O.pair_places (map begin_key (items_of a.kept.ranges)) a.kept.ordered) }
-{
-    let (spans, owners, keepers) = ranges.into_parts();
-    Announced::build(alloc, orders, spans, owners, keepers)
-}
-
 impl UnitTable {
     /// Reads the sets of address ranges and the headers of all units, and asks for an order of the announced ranges by
     /// their begins. InvalidDwarf exactly where a set or a header is not whole or not as it has to be, or the list of
@@ -91,13 +76,13 @@ impl UnitTable {
         requires { IsReadable dwarf.now }
         ensures table { Gives (λ r. table_view r.0) result (or_invalid (units_of (files_view dwarf.now))) }
         ensures fits { IfOk result (λ r. SideFits (files_view dwarf.now) File (table_view r.0).kept r.1) }
-        ensures accepted { IfOk result (λ r. IsAccepted O.pair_places (map begin_key (items_of r.0.announced.kept.ranges)) r.0.announced.kept.ordered) }
+        ensures accepted { IfOk result (λ r. IsOrderedBy O.pair_places r.0.announced) }
     {
         let sups = sup_units(alloc, &dwarf.sup)?;
         let sets = AddressSets::read(alloc, dwarf.main.aranges)?;
         let (units, built) = KeptUnits::read(alloc, dwarf, &sets)?;
         let (kept, ranges) = units.into_parts();
-        let announced = with_order(alloc, orders, ranges)?;
+        let announced = Announced::build(alloc, orders, ranges)?;
         let table = UnitTable {
             kept,
             announced,

@@ -6,5 +6,5 @@ invariant_of-result c =
     let a = ap length c.in_ok-push.ensures in
     let b = length-append c.args.kept (c.args.header ∷ []) in
     let d = c.requires.count in
-    let same : length c.args.ranges.keepers ≡ length c.push.new.self = omega arith in
+    let same : c.args.ranges.count ≡ length c.push.new.self = omega arith in
     same

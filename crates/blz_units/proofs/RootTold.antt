@@ -1,0 +1,75 @@
+-- What the root of a unit announces, by its ranges.
+use Rattle.std.proofs.Common.{◌≡◌, ℕ, ◌+◌, ◌<◌, List, [], ◌∷◌, ◌++◌, length, take, Option, Some, None, refl, sym, ap, ◌∙◌, arith}
+use Rattle.std.specs.Prelude.{reverse, MatchResult, Result, Ok, Err}
+use Rattle.std.proofs.lemmas.List.{length-append, length-reverse, length-take-le}
+use Rattle.blz_error.specs.Fault.{Fault}
+use Rattle.blz_error.specs.declared.kind.ErrorKind.{ErrorKind}
+use Rattle.blz_error.specs.declared.kind.ErrorKind.TheVariants.{OutOfMemory}
+use Rattle.blz_functions.specs.Leaves.{UnitParts, ranges_in}
+use Rattle.blz_info.specs.FileSections.{FileSections}
+use Rattle.blz_info.specs.Marks.{or_invalid}
+use Rattle.blz_info.proofs.Marked.{marks_on}
+use Rattle.blz_model.specs.Part.{Fails}
+use Rattle.blz_model.specs.Reads.{◌>>=◌}
+use Rattle.blz_ranges.specs.declared.span.Span.{Span}
+use Rattle.blz_units.specs.Keeping.{IsChained, IsToldByLines, TellsRoot}
+use Rattle.blz_units.specs.RangeChains.{chain_at, IsLastIn}
+use Rattle.blz_units.specs.RootKeys.{AreSpansOf, IsKeyOf}
+use Rattle.blz_units.specs.UnitTables.{by_root, lines_in, or_sequences, root_spans, sequences_of}
+use Rattle.blz_units.specs.declared.announcing.RootRanges.{RootRanges}
+use Rattle.blz_units.specs.declared.range_chains.ChainPlace.{ChainPlace}
+use Rattle.blz_units.specs.declared.range_chains.RangeChains.{RangeChains}
+use Rattle.blz_units.specs.declared.root_key.RootKey.{RootKey}
+use Rattle.blz_units.proofs.Chained.{empty_list}
+
+abbrev or_lines : UnitParts → Option (List Span) → Option (List Span)
+or_lines u o = o >>= λ spans. Some (or_sequences u spans)
+
+-- a root without ranges
+pub root_by_lines : (u : UnitParts) (old new : List Span) → ranges_in u u.root.ranges ≡ Some [] → old ≡ [] → new ≡ old ++ sequences_of (lines_in u) → root_spans u ≡ Some new
+root_by_lines u old new none empty put = ap (or_lines u) none ∙ ap (λ (l : List Span). Some l) (sym (put ∙ ap (λ (l : List Span). l ++ sequences_of (lines_in u)) empty))
+
+-- a root with some
+pub root_by_ranges : (u : UnitParts) (spans : List Span) → ranges_in u u.root.ranges ≡ Some spans → 0 < length spans → root_spans u ≡ Some spans
+root_by_ranges u [] is some = absurd (omega arith)
+root_by_ranges u (x ∷ spans) is some = ap (or_lines u) is
+
+pub root_in_chain : (u : UnitParts) (c : RangeChains) (front : List Span) (place : ChainPlace) → IsLastIn c (ranges_in u u.root.ranges) front place → 0 < length front + place.count → IsLastIn c (root_spans u) front place
+root_in_chain u c front place h some =
+    let chain = chain_at c.chains.items place.chain in
+    let a = length-take-le place.count chain h.within in
+    let b = length-reverse (take place.count chain) in
+    let d = length-append front (reverse (take place.count chain)) in
+    record { within = h.within; is = root_by_ranges u (front ++ reverse (take place.count chain)) h.is (omega arith) }
+
+no_root : (u : UnitParts) (o : Option (List Span)) → o ≡ None → or_lines u o ≡ None
+no_root u None e = refl
+no_root u (Some spans) e = absurd cc
+
+pub root_fails : (u : UnitParts) (kind : ErrorKind) → Fails kind (or_invalid (ranges_in u u.root.ranges)) → Fails kind (or_invalid (root_spans u))
+root_fails u kind fails = marks_on kind (ranges_in u u.root.ranges) (root_spans u) fails (λ none. no_root u (ranges_in u u.root.ranges) none)
+
+pub none_read : (u : UnitParts) (spans : List Span) → ranges_in u u.root.ranges ≡ Some spans → length spans ≡ 0 → ranges_in u u.root.ranges ≡ Some []
+none_read u spans is none = is ∙ ap (λ (l : List Span). Some l) (empty_list spans none)
+
+pub none_in_chain : (u : UnitParts) (c : RangeChains) (front : List Span) (place : ChainPlace) → IsLastIn c (ranges_in u u.root.ranges) front place → length front ≡ 0 → place.count ≡ 0 → ranges_in u u.root.ranges ≡ Some []
+none_in_chain u c front place h empty none =
+    h.is ∙ (λ i. Some (empty_list front empty i ++ reverse (take (none i) (chain_at c.chains.items place.chain))))
+
+pub told_by_lines : (u : UnitParts) (c : RangeChains) (r : Result RootRanges Fault) → MatchResult r (IsToldByLines u) (λ e. e.kind ≡ OutOfMemory) → TellsRoot u c r
+told_by_lines u c (Ok told) h = h c
+told_by_lines u c (Err e) h = λ ne. absurd (ne h)
+
+-- ---- a unit that is built
+
+abbrev as_told : Option (List Span) → Option (Option (List Span))
+as_told o = o >>= λ spans. Some (Some spans)
+
+pub told_spans : (s : FileSections) (u : UnitParts) (o : Option UnitParts) (spans : List Span) (key : RootKey) → o ≡ Some u → u.sections ≡ s → (root_spans u ≡ Some spans) × IsKeyOf u key → (by_root o ≡ Some (Some spans)) × AreSpansOf s spans key
+told_spans s u o spans key is at told = (ap by_root is ∙ ap as_told told.0, λ v here by. told.1 v (here ∙ sym at) by ∙ told.0)
+
+pub told_chained : (u : UnitParts) (o : Option UnitParts) (c : RangeChains) (front : List Span) (place : ChainPlace) → o ≡ Some u → IsLastIn c (root_spans u) front place → IsChained c (by_root o) front place
+told_chained u o c front place is h = record { within = h.within; is = ap by_root is ∙ ap as_told h.is }
+
+pub told_fails : (u : UnitParts) (o : Option UnitParts) (kind : ErrorKind) → o ≡ Some u → Fails kind (or_invalid (root_spans u)) → Fails kind (or_invalid (by_root o))
+told_fails u o kind is fails = marks_on kind (root_spans u) (by_root o) fails (λ none. ap by_root is ∙ ap as_told none)

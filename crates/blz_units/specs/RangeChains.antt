@@ -1,0 +1,134 @@
+-- Lists of ranges that run into one another: from some entry on they are one list, and so they end alike.
+use Rattle.std.specs.Prelude.{◌≡◌, ℕ, ◌+◌, ◌-◌, ◌<◌, ◌≤◌, Bool, true, List, [], ◌++◌, length, take, drop, reverse, Option, Some, None, IfSome, Result, MatchResult}
+use Rattle.std.specs.BTreeMap.{get}
+use Rattle.std.specs.List.{slice_get, All}
+use Rattle.std.specs.declared.alloc.Global.{Global}
+use Rattle.std.specs.declared.cmp.Ordering.{Ordering}
+use Rattle.std.specs.declared.vec.Vec.{Vec}
+use Rattle.blz_error.specs.Fault.{Fault}
+use Rattle.blz_model.specs.Part.{Fails}
+use Rattle.blz_info.specs.FileSections.{FileSections}
+use Rattle.blz_info.specs.Marks.{or_invalid}
+use Rattle.blz_entry.specs.RangeLists.{joined}
+use Rattle.blz_entry.specs.declared.range_tail.RangeTail.{RangeTail}
+use Rattle.blz_ranges.specs.declared.span.Span.{Span}
+use Rattle.blz_functions.specs.Leaves.{UnitParts, entry_behind, spans_behind}
+use Rattle.blz_announced.specs.Units.{KeptRanges, IsListOf}
+use Rattle.blz_units.specs.RootKeys.{list_cmp, tail_key, AreListSpans}
+use Rattle.blz_units.specs.contracts.range_chains.ChainPieceOrd.TheImpl as pieces
+use Rattle.blz_units.specs.declared.passed_list.PassedEntry.{PassedEntry}
+use Rattle.blz_units.specs.declared.passed_list.PassedList.{PassedList}
+use Rattle.blz_units.specs.declared.range_chains.ChainPiece.{ChainPiece}
+use Rattle.blz_units.specs.declared.range_chains.ChainPlace.{ChainPlace}
+use Rattle.blz_units.specs.declared.range_chains.RangeChains.{RangeChains}
+use Rattle.blz_units.specs.declared.range_chains.ToldRanges.{ToldRanges}
+use Rattle.blz_units.specs.declared.range_chains.ToldRanges.TheVariants.{Read, InChain}
+use Rattle.blz_units.specs.declared.root_key.ListKey.{ListKey}
+
+-- ---- a list as far as it was read
+
+-- The list from an entry on has the ranges that were read since, and then those of a rest.
+pub record IsPassedEntry (u : UnitParts) (out : List Span) (rest : RangeTail) (e : PassedEntry) : Type 0 where
+  pub within : e.before ≤ length out
+  pub spans : spans_behind u e.tail ≡ joined (drop e.before out) (spans_behind u rest)
+
+-- So has the whole list.
+pub record IsPassed (u : UnitParts) (list : PassedList) : Type 0 where
+  pub whole : spans_behind u list.start ≡ joined list.spans.items (spans_behind u list.rest)
+  pub each : All (IsPassedEntry u list.spans.items list.rest) list.entries.items
+
+-- It stays so with one entry more.
+abbrev pub PassesOne : PassedList → PassedList → Option Span → RangeTail → Type 0
+PassesOne old new span next = (u : UnitParts) → entry_behind u old.rest ≡ Some (Some (span, next)) → IsPassed u old → IsPassed u new
+
+-- where it is over, no ranges are left
+pub record IsReadTo (u : UnitParts) (list : PassedList) (over : Bool) : Type 0 where
+  pub passed : IsPassed u list
+  pub none_left : over ≡ true → spans_behind u list.rest ≡ Some []
+
+-- A call reads on, want of memory aside; it fails where the list has no value.
+abbrev pub ReadsOn : UnitParts → PassedList → PassedList → Result Bool Fault → Type 0
+ReadsOn u old new result = MatchResult result (IsReadTo u new) (λ e. Fails e.kind (or_invalid (spans_behind u old.start)))
+
+-- ---- chains
+
+abbrev pub items_or_none : Option (Vec Span Global) → List Span
+items_or_none None = []
+items_or_none (Some spans) = spans.items
+
+-- the ranges of a chain, from the last to the first
+abbrev pub chain_at : List (Vec Span Global) → ℕ → List Span
+chain_at chains n = items_or_none (slice_get chains n)
+
+-- the last ranges of the lists of a chain, in their order
+abbrev pub list_in : List (Vec Span Global) → ChainPlace → List Span
+list_in chains place = reverse (take place.count (chain_at chains place.chain))
+
+-- A list has the last ranges of a chain.
+pub record IsInChain (s : FileSections) (chains : List (Vec Span Global)) (key : ListKey) (place : ChainPlace) : Type 0 where
+  pub within : place.count ≤ length (chain_at chains place.chain)
+  pub are : AreListSpans s (list_in chains place) key
+
+abbrev pub AreChains : FileSections → RangeChains → Type 0
+AreChains s c = (key : ListKey) → IfSome (get list_cmp c.places key) (IsInChain s c.chains.items key)
+
+-- ---- pieces of chains that units announce
+
+abbrev pub piece_cmp : ChainPiece → ChainPiece → Ordering
+piece_cmp = pieces.ghosts.cmp
+
+-- the ranges of a piece, in the order of the lists
+abbrev pub piece_in : List (Vec Span Global) → ChainPiece → List Span
+piece_in chains p = reverse (take p.len (drop p.start (chain_at chains p.chain)))
+
+-- A piece has a keeper.
+pub record IsKeptPiece (ranges : KeptRanges) (chains : List (Vec Span Global)) (p : ChainPiece) (keeper : ℕ) : Type 0 where
+  pub within : p.start + p.len ≤ length (chain_at chains p.chain)
+  pub list : IsListOf ranges (piece_in chains p) (Some keeper)
+
+abbrev pub ArePieces : KeptRanges → RangeChains → Type 0
+ArePieces ranges c = (p : ChainPiece) → IfSome (get piece_cmp c.pieces p) (IsKeptPiece ranges c.chains.items p)
+
+-- ---- what calls leave of them
+
+abbrev pub KeepsPieces : RangeChains → RangeChains → Type 0
+KeepsPieces old new = (ranges : KeptRanges) → ArePieces ranges old → ArePieces ranges new
+
+pub record KeepsChains (s : FileSections) (old new : RangeChains) : Type 0 where
+  pub are : AreChains s old → AreChains s new
+  pub pieces : KeepsPieces old new
+
+-- An entry of a list that is put behind a chain has its ranges and those that the chain had before.
+abbrev pub IsPlaced : FileSections → UnitParts → List (Vec Span Global) → ℕ → ℕ → PassedEntry → Type 0
+IsPlaced s u chains chain len e = IsInChain s chains (tail_key u e.tail) (record { chain = chain; count = len - e.before })
+
+-- Behind what was read of a list come these ranges.
+abbrev pub HasRest : UnitParts → PassedList → List Span → Type 0
+HasRest u list spans = spans_behind u list.rest ≡ Some spans
+
+-- A list has some ranges, and then the last ones of a chain.
+pub record IsLastIn (c : RangeChains) (spans : Option (List Span)) (front : List Span) (place : ChainPlace) : Type 0 where
+  pub within : place.count ≤ length (chain_at c.chains.items place.chain)
+  pub is : spans ≡ Some (front ++ list_in c.chains.items place)
+
+abbrev pub AreTold : RangeChains → Option (List Span) → ToldRanges → Type 0
+AreTold c o (Read spans) = o ≡ Some spans.items
+AreTold c o (InChain front place) = IsLastIn c o front.items place
+
+-- A call tells some ranges, want of memory aside; it fails where they have no value.
+abbrev pub TellsRanges : RangeChains → Option (List Span) → Result ToldRanges Fault → Type 0
+TellsRanges c o result = MatchResult result (AreTold c o) (λ e. Fails e.kind (or_invalid o))
+
+-- the same, or nothing
+abbrev pub MayTell : RangeChains → Option (List Span) → Result (Option ToldRanges) Fault → Type 0
+MayTell c o result = MatchResult result (λ told. IfSome told (AreTold c o)) (λ e. Fails e.kind (or_invalid o))
+
+-- A place has all ranges of its chain.
+pub record IsWholeChain (chains : List (Vec Span Global)) (place : ChainPlace) : Type 0 where
+  pub there : place.chain < length chains
+  pub whole : place.count ≡ length (chain_at chains place.chain)
+
+-- A chain has the ranges of a list, and no more.
+pub record IsChainOf (c : RangeChains) (spans : Option (List Span)) (chain : ℕ) : Type 0 where
+  pub there : chain < length c.chains.items
+  pub is : spans ≡ Some (reverse (chain_at c.chains.items chain))

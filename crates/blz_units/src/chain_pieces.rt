@@ -1,0 +1,166 @@
+//! The pieces of chains of ranges that units announce, each kept once.
+ghost use Rattle.std.specs.Prelude.{◌≡◌, ◌+◌, ◌++◌, ◌<◌, ◌≤◌, IfOk, IfSome, length, reverse};
+ghost use Rattle.blz_announced.specs.Units.{KeptRanges, IsWithPart, IsWithUnit};
+ghost use Rattle.blz_units.specs.RangeChains.{chain_at, list_in, piece_in, ArePieces, IsKeptPiece};
+
+use crate::range_chains::{ChainPiece, ChainPlace, RangeChains, put_back};
+use blz_announced::KeptRanges;
+use blz_entry::Span;
+use std::alloc::{AllocError, Global};
+
+/// How many ranges the piece has that some last ranges of a chain begin with: the greatest power of two that divides their
+/// number. So the pieces of all lists of a chain are few, and so are those of each list.
+fn piece_len(count: usize) -> usize
+    requires { 0 < count }
+    ensures some { 0 < result }
+    ensures within { result ≤ count }
+{
+    let mut len = 1;
+    while len <= count / 2 && count % (2 * len) == 0 {
+        len = 2 * len;
+    }
+    len
+}
+
+/// Ranges from the last to the first.
+fn turned(alloc: Global, spans: &[Span]) -> Result<Vec<Span>, AllocError>
+    ensures { IfOk result (λ turned. turned.items ≡ reverse spans.now) }
+{
+    let mut turned = Vec::new(alloc);
+    put_back(&mut turned, spans)?;
+    Ok(turned)
+}
+
+/// One part more of the unit that is read, which announces some ranges, and none where these are none.
+fn with_front(ranges: KeptRanges, front: &[Span]) -> Result<KeptRanges, AllocError>
+    ensures { IfOk result (IsWithPart ranges front.now) }
+{
+    if front.is_empty() {
+        return Ok(ranges);
+    }
+    let (ranges, _) = ranges.with_part(front)?;
+    Ok(ranges)
+}
+
+impl RangeChains {
+    /// The ranges of a piece.
+    fn piece_spans(&self, alloc: Global, piece: ChainPiece) -> Result<Vec<Span>, AllocError>
+        requires { piece.start + piece.len ≤ length (chain_at self.now.chains.items piece.chain) }
+        ensures { IfOk result (λ spans. spans.items ≡ piece_in self.now.chains.items piece) }
+    {
+        match self.chains.get(piece.chain) {
+            Some(chain) => {
+                let spans = &chain.as_slice()[piece.start..];
+                turned(alloc, &spans[..piece.len])
+            },
+            None => Ok(Vec::new(alloc)),
+        }
+    }
+
+    /// Notes the keeper of a piece.
+    fn note_piece(&mut self, piece: ChainPiece, keeper: Option<usize>) -> Result<(), AllocError>
+        ensures pieces { IfOk result (λ _. (ranges : KeptRanges) → IfSome keeper (IsKeptPiece ranges self.old.chains.items piece) → ArePieces ranges self.old → ArePieces ranges self.new) }
+        ensures chains { self.new.chains ≡ self.old.chains }
+        ensures places { self.new.places ≡ self.old.places }
+    {
+        if let Some(keeper) = keeper {
+            self.pieces.insert(piece, keeper)?;
+        }
+        Ok(())
+    }
+
+    /// One part more of the unit that is read, which announces a piece of which no unit did.
+    fn keep_piece(
+        &mut self,
+        alloc: Global,
+        ranges: KeptRanges,
+        piece: ChainPiece,
+    ) -> Result<KeptRanges, AllocError>
+        requires within { piece.start + piece.len ≤ length (chain_at self.old.chains.items piece.chain) }
+        requires pieces { ArePieces ranges self.old }
+        ensures part { IfOk result (IsWithPart ranges (piece_in self.old.chains.items piece)) }
+        ensures pieces { IfOk result (λ k. ArePieces k self.new) }
+        ensures chains { self.new.chains ≡ self.old.chains }
+        ensures places { self.new.places ≡ self.old.places }
+    {
+        let spans = self.piece_spans(alloc, piece)?;
+        let (ranges, keeper) = ranges.with_part(spans.as_slice())?;
+        self.note_piece(piece, keeper)?;
+        Ok(ranges)
+    }
+
+    /// The keeper of a piece, where a unit announced it.
+    fn keeper_of(&self, piece: ChainPiece) -> Option<usize>
+        ensures { (ranges : KeptRanges) → ArePieces ranges self.now → IfSome result (IsKeptPiece ranges self.now.chains.items piece) }
+    {
+        self.pieces.get(&piece).copied()
+    }
+
+    /// One part more of the unit that is read, which announces a piece.
+    fn put_piece(
+        &mut self,
+        alloc: Global,
+        ranges: KeptRanges,
+        piece: ChainPiece,
+    ) -> Result<KeptRanges, AllocError>
+        requires within { piece.start + piece.len ≤ length (chain_at self.old.chains.items piece.chain) }
+        requires pieces { ArePieces ranges self.old }
+        ensures part { IfOk result (IsWithPart ranges (piece_in self.old.chains.items piece)) }
+        ensures pieces { IfOk result (λ k. ArePieces k self.new) }
+        ensures chains { self.new.chains ≡ self.old.chains }
+        ensures places { self.new.places ≡ self.old.places }
+    {
+        match self.keeper_of(piece) {
+            Some(keeper) => ranges.again_part(keeper),
+            None => self.keep_piece(alloc, ranges, piece),
+        }
+    }
+
+    /// The parts of the unit that is read, which announces the last ranges of a chain.
+    fn put_pieces(
+        &mut self,
+        alloc: Global,
+        mut ranges: KeptRanges,
+        place: ChainPlace,
+    ) -> Result<KeptRanges, AllocError>
+        requires within { place.count ≤ length (chain_at self.old.chains.items place.chain) }
+        requires pieces { ArePieces ranges self.old }
+        ensures parts { IfOk result (IsWithPart ranges (list_in self.old.chains.items place)) }
+        ensures pieces { IfOk result (λ k. ArePieces k self.new) }
+        ensures chains { self.new.chains ≡ self.old.chains }
+        ensures places { self.new.places ≡ self.old.places }
+    {
+        let mut left = place.count;
+        while left > 0 {
+            let len = piece_len(left);
+            left -= len;
+            let piece = ChainPiece {
+                chain: place.chain,
+                start: left,
+                len,
+            };
+            ranges = self.put_piece(alloc, ranges, piece)?;
+        }
+        Ok(ranges)
+    }
+
+    /// One unit more, which announces some ranges, and then the last ones of a chain piece by piece.
+    pub fn announce(
+        &mut self,
+        alloc: Global,
+        ranges: KeptRanges,
+        front: &[Span],
+        place: ChainPlace,
+    ) -> Result<KeptRanges, AllocError>
+        requires within { place.count ≤ length (chain_at self.old.chains.items place.chain) }
+        requires pieces { ArePieces ranges self.old }
+        ensures unit { IfOk result (IsWithUnit ranges (front.now ++ list_in self.old.chains.items place)) }
+        ensures pieces { IfOk result (λ k. ArePieces k self.new) }
+        ensures chains { self.new.chains ≡ self.old.chains }
+        ensures places { self.new.places ≡ self.old.places }
+    {
+        let ranges = with_front(ranges, front)?;
+        let ranges = self.put_pieces(alloc, ranges, place)?;
+        ranges.end_unit()
+    }
+}
