@@ -289,6 +289,13 @@ def tails_of_a_range_list_of_calls_each_behind_its_base(n):
 
 
 @shape
+def one_list_of_offsets_of_functions_each_behind_its_base(n):
+    # the offsets are added to another base for each function, so all their ranges differ
+    bases, begins = ranges_that_end_with_bases(n)
+    return functions_of_tails(bases + pairs(4 * n), begins)
+
+
+@shape
 def tails_of_a_range_list_of_calls_within_one_another(n):
     lists = pairs_of_a_size(n)
     return calls_of_tails(b"".join(lists), begins_of(lists), 1)
