@@ -121,6 +121,10 @@ joined_nil : (o : Option (List Span)) → o ≡ joined [] o
 joined_nil None = refl
 joined_nil (Some xs) = refl
 
+-- an entry that tells no range stands before the list behind it
+pub nothing_told : (u : UnitParts) (tail next : RangeTail) → entry_behind u tail ≡ Some (Some (None, next)) → spans_behind u next ≡ spans_behind u tail
+nothing_told u tail next e = joined_nil (spans_behind u next) ∙ sym (tail_more (lying u.sections) u.header u.root tail next None e)
+
 -- the list from an entry on, of which nothing is passed yet
 pub passed_here : (u : UnitParts) (first : ℕ) (out : List Span) (tail : RangeTail) → first ≤ length out → IsPassed u first out tail tail (length out)
 passed_here u first out tail le = record { above = le; within = omega arith; spans = rw (drop-length out) (joined_nil (spans_behind u tail)) }

@@ -11,6 +11,7 @@ use crate::foreseen_lists::Foresight;
 use crate::kept_ranges::KeptRanges;
 use crate::open_unit::OpenUnit;
 use crate::pieces::{Piece, gathered};
+use crate::read_lists::first_telling;
 use crate::shared_tail::SharedTail;
 use crate::whole_list::WholeList;
 use blz_entry::RangeTail;
@@ -214,7 +215,7 @@ impl KeptLists {
         ensures kept { AreKeptLists (open_view unit.now) self.new }
     {
         if let Some((start, _)) = self.around(offset) {
-            let tail = unit.ranges_at(offset);
+            let tail = first_telling(unit, unit.ranges_at(offset));
             if let Some(count) = self.count_within(alloc, unit, start, tail)? {
                 return Ok(count);
             }
@@ -236,7 +237,8 @@ impl KeptLists {
     {
         match self.around(offset) {
             Some((start, whole)) if whole || start < offset => {
-                self.tail_of(alloc, unit, start, unit.ranges_at(offset))
+                let tail = first_telling(unit, unit.ranges_at(offset));
+                self.tail_of(alloc, unit, start, tail)
             }
             _ => Ok(None),
         }

@@ -101,6 +101,21 @@ pub(crate) fn append_few(
     Ok(None)
 }
 
+/// A list from its first entry on that tells a range, as far as that stands near: the entries before it only tell a base,
+/// or a range without addresses.
+pub(crate) fn first_telling(unit: &OpenUnit<'_, '_>, list: RangeTail) -> RangeTail
+    ensures { spans_behind (open_view unit.now) result ≡ spans_behind (open_view unit.now) list }
+{
+    let mut tail = list;
+    for _ in 0..FEW_ENTRIES {
+        match unit.next_range(tail) {
+            Ok(Some((None, behind))) => tail = behind,
+            _ => return tail,
+        }
+    }
+    tail
+}
+
 /// How a list depends on what offsets are added to, by its first entry, which leads to another one.
 fn base_use(unit: &OpenUnit<'_, '_>, tail: RangeTail, next: RangeTail) -> BaseUse
     requires { LeadsOn (open_view unit.now) tail next }
