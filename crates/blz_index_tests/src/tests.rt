@@ -10,3 +10,4 @@ mod packages;
 mod questions;
 mod ranges;
 mod small;
+mod units_of_lists;

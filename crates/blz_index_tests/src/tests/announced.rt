@@ -25,6 +25,7 @@ const UNITS: Parts<'static> = Parts {
     info: INFO,
     abbrev: ABBREV,
     aranges: ARANGES,
+    rnglists: &[],
 };
 
 #[test]

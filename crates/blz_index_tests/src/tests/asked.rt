@@ -51,6 +51,7 @@ fn has_a_name(alloc: Global, info: &[u8]) -> Result<Option<bool>> {
         info,
         abbrev: ABBREV,
         aranges: ARANGES,
+        rnglists: &[],
     };
     let dwarf = file_of(parts, &none);
     let orders = &mut AsTheyStand;
@@ -78,6 +79,7 @@ const TWO: Parts<'static> = Parts {
     info: BROKEN,
     abbrev: ABBREV,
     aranges: BOTH,
+    rnglists: &[],
 };
 
 // the functions at 0x12 and at 0x22, and whether the units are prepared after

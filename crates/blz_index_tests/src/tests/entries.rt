@@ -33,6 +33,7 @@ pub const CLOSED: Parts<'static> = Parts {
     info: INFO,
     abbrev: ABBREV,
     aranges: ARANGES,
+    rnglists: &[],
 };
 
 // the one that ends in f
@@ -40,6 +41,7 @@ const OPEN: Parts<'static> = Parts {
     info: CUT,
     abbrev: ABBREV,
     aranges: ARANGES,
+    rnglists: &[],
 };
 
 // a name of one byte

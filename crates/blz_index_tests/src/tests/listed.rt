@@ -30,6 +30,7 @@ fn named(alloc: Global, name: &str) -> Result<Vec<(usize, usize)>> {
         info: THREE,
         abbrev: ABBREV,
         aranges: &[],
+        rnglists: &[],
     };
     let dwarf = file_of(parts, &none);
     let mut units = Units::parse(alloc, &mut AsTheyStand, &dwarf)?;
@@ -82,6 +83,7 @@ fn counted(
         info,
         abbrev: ABBREV,
         aranges: &[],
+        rnglists: &[],
     };
     let dwarf = file_of(parts, &none);
     let orders = &mut AsTheyStand;

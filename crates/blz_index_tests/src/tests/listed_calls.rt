@@ -1,15 +1,11 @@
 //! Calls of several functions of a unit, all of which name one list of ranges.
-ghost use Rattle.std.specs.Prelude.{◌≡◌};
-ghost use Rattle.std.specs.FinMap as map;
-ghost use Rattle.blz_units.specs.BuiltUnits.{IsReadable};
 
 use super::small::{Parts, file_of, only_unit};
 use blz_bytes::ByStdSort;
 use blz_checks::Checks;
-use blz_entry::{Section, Sections};
 use blz_images::codes::*;
 use blz_images::{Attribute, ByteOrder, DebugInfo};
-use blz_index::{Dwarf, InlinedSites};
+use blz_index::InlinedSites;
 use blz_moves::RelocationMap;
 use std::alloc::{AllocError, Global};
 use std::test::Fail;
@@ -58,24 +54,6 @@ fn functions_of_one_list(alloc: Global) -> Result<DebugInfo, AllocError> {
     Ok(entries)
 }
 
-// the same file with the list
-fn with_list<'s, 'b>(dwarf: Dwarf<'s, 'b>, none: &'s RelocationMap) -> Dwarf<'s, 'b>
-    requires none { none.now ≡ map.empty }
-    requires readable { IsReadable dwarf }
-    ensures { IsReadable result }
-{
-    let rnglists = Section {
-        bytes: LIST,
-        moves: none,
-        order: ByteOrder::Little,
-    };
-    let main = Sections {
-        rnglists,
-        ..dwarf.main
-    };
-    Dwarf { main, ..dwarf }
-}
-
 // the name of the outermost call, and none where there is no call
 fn outermost<'b>(sites: &InlinedSites<'b>) -> &'b str {
     match sites.get(0) {
@@ -93,8 +71,9 @@ fn calls_of_both(alloc: Global, addr: u64) -> blz_error::Result<[(usize, bool); 
         info: entries.info(),
         abbrev: &abbreviations,
         aranges: &[],
+        rnglists: LIST,
     };
-    let dwarf = with_list(file_of(parts, &none), &none);
+    let dwarf = file_of(parts, &none);
     let orders = &mut ByStdSort;
     let mut units = only_unit(alloc, orders, &dwarf)?;
     let own = units.find_inlined_functions(alloc, orders, &dwarf, addr, 0, 0)?;

@@ -50,6 +50,7 @@ fn asked<O: Orders>(
         info: entries.info(),
         abbrev: &abbreviations,
         aranges: &[],
+        rnglists: &[],
     };
     accepted(alloc, orders, parts)
 }
@@ -127,6 +128,7 @@ fn nested_at(alloc: Global, addr: u64) -> Result<Vec<usize>> {
         info: entries.info(),
         abbrev: &abbreviations,
         aranges: &[],
+        rnglists: &[],
     };
     chain_at(alloc, parts, addr)
 }

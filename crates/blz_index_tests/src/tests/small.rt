@@ -20,12 +20,13 @@ fn section<'s, 'b>(bytes: &'b [u8], none: &'s RelocationMap) -> Section<'s, 'b> 
     }
 }
 
-/// The sections of a file of units: the units, their abbreviations and their sets of address ranges.
+/// The sections of a file of units: the units, their abbreviations, their sets of address ranges and their lists of ranges.
 #[derive(Clone, Copy)]
 pub struct Parts<'b> {
     pub info: &'b [u8],
     pub abbrev: &'b [u8],
     pub aranges: &'b [u8],
+    pub rnglists: &'b [u8],
 }
 
 /// A file of these sections.
@@ -41,7 +42,7 @@ pub fn file_of<'s, 'b>(parts: Parts<'b>, none: &'s RelocationMap) -> Dwarf<'s, '
         line: section(&[], none),
         line_str: section(&[], none),
         ranges: section(&[], none),
-        rnglists: section(&[], none),
+        rnglists: section(parts.rnglists, none),
         strings: section(&[], none),
         str_offsets: section(&[], none),
         sup_strings: None,
