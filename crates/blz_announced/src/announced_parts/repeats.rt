@@ -92,6 +92,9 @@ fn sooner(found: Option<Place>, place: usize, part: Option<usize>) -> Option<Pla
     }
 }
 
+/// So few ranges that begin alike are gone through at once.
+const FEW_ALIKE: usize = 16;
+
 impl AnnouncedParts {
     /// The keeper of a range, if that is seen, covers the address and begins at a number.
     fn alike_of<L: Ledger>(
@@ -168,8 +171,23 @@ impl AnnouncedParts {
         }
     }
 
-    /// Asks the next of these parts one after the other, as many as the root of the number of all. So where n of them stand
-    /// behind a part, all ranges that begin there are gone through no more often than the root of n.
+    /// How many of these parts are asked one after the other before all ranges that begin at a number are gone through: as
+    /// many as begin there, where these are few, and else the root of the number of all parts.
+    fn count_near<L: Ledger>(&self, asked: Asked, begin: u64, steps: &mut Steps<L>) -> usize
+        ensures later { steps.old ≤ steps.new }
+    {
+        let mut place = 0;
+        for count in 0..FEW_ALIKE {
+            let Some(next) = self.next_begun(asked.addr, begin, place, steps) else {
+                return count + 1;
+            };
+            place = next;
+        }
+        self.keepers.repeats.as_slice().len().isqrt()
+    }
+
+    /// Asks some of the next of these parts one after the other. So where n of them stand behind a part, all ranges that
+    /// begin there are gone through no more often than the root of n, or are few.
     pub(crate) fn near_repeat<L: Ledger>(
         &self,
         asked: Asked,
@@ -185,7 +203,8 @@ impl AnnouncedParts {
         if from == repeats.len() {
             return Near::NoneLeft;
         }
-        let end = from + (repeats.len() - from).min(repeats.len().isqrt());
+        let most = self.count_near(asked, begin, steps);
+        let end = from + (repeats.len() - from).min(most);
         for at in from..end {
             let repeat = repeats[at];
             if let Some(place) = self.first_of_part(asked, repeat, begin, steps) {
