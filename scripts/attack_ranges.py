@@ -271,27 +271,40 @@ def tails_of_a_range_list_behind_bases(n):
     return functions_of_tails(b"".join(bases + lists), reversed(in_turn))
 
 
-def ranges_that_end_with_bases(n):
-    """Ranges, each of which ends with the bytes of a base of its own, and where these bytes begin."""
-    begin = DW_RLE_BASE_ADDRESS << 56
-    lists = [bytes([DW_RLE_START_END]) + struct.pack("<QQ", begin, begin + 1 + k) for k in range(n)]
+def ranges_that_end_with_bases(spans):
+    """A list of ranges, each of which ends with the bytes of a base of its own, and where these bytes begin."""
+    high = DW_RLE_BASE_ADDRESS << 56
+    lists = [bytes([DW_RLE_START_END]) + struct.pack("<QQ", high + begin, high + end) for begin, end in spans]
     return b"".join(lists), [at + 8 for at in begins_of(lists)]
+
+
+def alike(n):
+    return [(0, k + 1) for k in range(n)]
+
+
+def apart(n):
+    return [(16 * k, 16 * k + 1) for k in range(n)]
 
 
 @shape
 def tails_of_a_range_list_each_behind_its_base(n):
-    return functions_of_tails(*ranges_that_end_with_bases(n))
+    return functions_of_tails(*ranges_that_end_with_bases(alike(n)))
 
 
 @shape
 def tails_of_a_range_list_of_calls_each_behind_its_base(n):
-    return calls_of_tails(*ranges_that_end_with_bases(n), 1)
+    return calls_of_tails(*ranges_that_end_with_bases(apart(n)), 1)
+
+
+@shape
+def tails_of_a_range_list_of_calls_that_share_addresses(n):
+    return calls_of_tails(*ranges_that_end_with_bases(alike(n)), 1)
 
 
 @shape
 def one_list_of_offsets_of_functions_each_behind_its_base(n):
     # the offsets are added to another base for each function, so all their ranges differ
-    bases, begins = ranges_that_end_with_bases(n)
+    bases, begins = ranges_that_end_with_bases(alike(n))
     return functions_of_tails(bases + pairs(4 * n), begins)
 
 
