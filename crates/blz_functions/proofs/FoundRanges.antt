@@ -1,16 +1,15 @@
 -- What is found of the best of some ranges, by its place in an index of them.
-use Rattle.std.proofs.Common.{◌≡◌, ℕ, zero, suc, ◌+◌, ◌*◌, ◌^◌, ◌-◌, ◌≤◌, Bool, false, List, [], ◌∷◌, length, drop, Option, Some, None, is_some, option_map, refl, sym, ap, subst, ◌∙◌, arith}
+use Rattle.std.proofs.Common.{◌≡◌, ℕ, zero, suc, ◌+◌, ◌*◌, ◌^◌, ◌-◌, ◌≤◌, List, [], ◌∷◌, length, Option, Some, None, option_map, refl, sym, ap, subst, ◌∙◌, arith}
 use Rattle.std.specs.List.{slice_get}
 use Rattle.std.specs.Prelude.{slice_index_or}
 use Rattle.std.proofs.Math.Nat.{pow-suc}
 use Rattle.std.proofs.lemmas.Option.{slice_get-map}
 use Rattle.blz_ranges.specs.declared.placed.Placed.{Placed}
 use Rattle.blz_ranges.specs.declared.span.Span.{Span}
-use Rattle.blz_ranges.specs.Best.{best, best_by, covers, place_of, IsBest, IsBestAt}
+use Rattle.blz_ranges.specs.Best.{best, best_by, covers, place_of}
 use Rattle.blz_ranges.specs.Groups.{AreApart}
 use Rattle.blz_ranges.specs.Owned.{Owned, items_of, owned, own_all}
 use Rattle.blz_ranges.specs.Ranges.{best_owner, owner_of}
-use Rattle.blz_ranges.proofs.BestOf.{best_is_best}
 use Rattle.blz_ranges.proofs.OwnedItems.{items_owned, length_owned, owner_owned}
 use Rattle.blz_functions.specs.BestOwned.{best_owned}
 use Rattle.blz_functions.specs.Found.{begin_in, found_both, found_in, found_of, span_at}
@@ -18,7 +17,6 @@ use Rattle.blz_functions.specs.Renamed.{rename, renamed}
 use Rattle.blz_functions.specs.declared.found.Found.{Found}
 use Rattle.blz_functions.proofs.BestOwned.{IsFound, found_span, items_all, itself}
 use Rattle.blz_functions.proofs.RenamedRanges.{best_renamed}
-use Rattle.blz_functions.proofs.SharedTails.{get_dropped}
 
 -- ---- the best at its place
 
@@ -105,34 +103,6 @@ found_all call spans addr =
     let list = own_all call spans in
     let place : best (items_of list) addr ≡ best spans addr = ap (λ (l : List Span). best l addr) (items_all call spans) in
     ap (option_map found_of) (best_at list addr ∙ (ap (item_at list) place ∙ item_of_all call spans (best spans addr))) ∙ own_found call (span_at spans (best spans addr))
-
--- ---- of a list from one of its ranges on
-
-none_begins : (spans : List Span) (o : Option ℕ) → is_some o ≡ false → option_map (λ (s : Span). s.begin) (span_at spans o) ≡ None
-none_begins spans None e = refl
-none_begins spans (Some place) e = absurd cc
-
--- where none covers an address
-pub no_begin : (spans : List Span) (addr : ℕ) (found : Bool) → found ≡ is_some (best spans addr) → found ≡ false → begin_in spans addr ≡ None
-no_begin spans addr found is none = none_begins spans (best spans addr) (sym is ∙ none)
-
-tail_begins : (spans : List Span) (skip addr place : ℕ) → skip ≤ place → IsBestAt (λ at s. covers s addr) spans place → (r : Option ℕ) → IsBest (λ at s. covers s addr) (drop skip spans) r
-    → option_map (λ (s : Span). s.begin) (span_at (drop skip spans) r) ≡ option_map (λ (s : Span). s.begin) (slice_get spans place)
-tail_begins spans skip addr place le h None k =
-    let e : skip + (place - skip) ≡ place = omega arith in
-    absurd (k (place - skip) h.span (get_dropped spans skip (place - skip) ∙ (rw e h.at)) h.passes)
-tail_begins spans skip addr place le h (Some q) k =
-    let e : skip + (place - skip) ≡ place = omega arith in
-    let there : slice_get (drop skip spans) (place - skip) ≡ Some h.span = get_dropped spans skip (place - skip) ∙ (rw e h.at) in
-    let above = (h.first (skip + q) k.span (sym (get_dropped spans skip q) ∙ k.at) k.passes).below in
-    let below = (k.first (place - skip) h.span there h.passes).below in
-    let same : k.span.begin ≡ h.span.begin = omega (arith, above, below) in
-    rw (k.at, h.at) (ap (λ (n : ℕ). Some n) same)
-
-pub tail_begin : (spans : List Span) (skip addr place : ℕ) → Some place ≡ best spans addr → skip ≤ place → begin_in (drop skip spans) addr ≡ option_map (λ (s : Span). s.begin) (slice_get spans place)
-tail_begin spans skip addr place is le =
-    let h = subst (IsBest (λ at s. covers s addr) spans) (sym is) (best_is_best (λ at s. covers s addr) spans) in
-    tail_begins spans skip addr place le h (best (drop skip spans) addr) (best_is_best (λ at s. covers s addr) (drop skip spans))
 
 -- ---- what it takes
 

@@ -1,13 +1,16 @@
 -- The ranges of a list from one of them on, found among all of the list.
-use Rattle.std.proofs.Common.{◌≡◌, ℕ, zero, suc, ◌+◌, ◌*◌, ◌/◌, ◌^◌, ◌-◌, ◌<◌, ◌≤◌, Bool, true, false, leb, ltb, List, [], ◌∷◌, drop, length, Option, Some, None, is_some, refl, sym, ap, ◌∙◌, arith, inl, inr}
+use Rattle.std.proofs.Common.{◌≡◌, ℕ, zero, suc, ◌+◌, ◌*◌, ◌/◌, ◌^◌, ◌-◌, ◌<◌, ◌≤◌, Bool, true, false, leb, ltb, List, [], ◌∷◌, drop, length, Option, Some, None, is_some, refl, sym, ap, subst, ◌∙◌, arith, inl, inr}
 use Rattle.std.specs.List.{slice_get}
+use Rattle.std.specs.Option.{SomeIff}
 use Rattle.std.proofs.Math.Nat.{pow-suc, pow-le-pow_right}
 use Rattle.std.proofs.lemmas.Nat.{pow_pos}
-use Rattle.std.proofs.lemmas.Bool.{cases_Bool, and_parts, ltb-true, leb-true, leb-false}
+use Rattle.std.proofs.lemmas.List.{length-drop}
+use Rattle.std.proofs.lemmas.Option.{slice_get_past}
+use Rattle.std.proofs.lemmas.Bool.{cases_Bool, cases_lt, and_parts, lt-leb, ltb-true, leb-true, leb-false}
 use Rattle.blz_ranges.specs.declared.span.Span.{Span}
-use Rattle.blz_ranges.specs.Best.{best, covers, IsBest}
+use Rattle.blz_ranges.specs.Best.{best, covers, IsBest, IsBestAt}
 use Rattle.blz_ranges.specs.Groups.{AreApart}
-use Rattle.blz_ranges.proofs.BestOf.{best_is_best}
+use Rattle.blz_ranges.proofs.BestOf.{best_is, best_is_best}
 use Rattle.blz_ranges.proofs.OneCovers.{looks_few}
 use Rattle.blz_functions.specs.KeptList.{AreFewLooks}
 use Rattle.blz_functions.specs.SharedTail.{IsNear, IsTail}
@@ -58,7 +61,7 @@ one_covers spans a p q s t apart is_s is_t in_s in_t differ =
     ]
 
 -- where a range of all was found, whether it is one of the tail
-abbrev pub is_behind : ℕ → Option ℕ → Bool
+abbrev is_behind : ℕ → Option ℕ → Bool
 is_behind skip None = false
 is_behind skip (Some place) = leb skip place
 
@@ -84,10 +87,48 @@ found_behind spans skip a apart (Some p) (Some q) h k =
           one_covers spans a p (skip + q) h.span k.span (apart (omega arith)) h.at (sym (get_dropped spans skip q) ∙ k.at) h.passes k.passes differ)
     ]
 
-pub tail_covers : (spans : List Span) (skip a : ℕ) (found : Option ℕ) → (0 < skip → IsTail spans skip) → found ≡ best spans a → is_behind skip found ≡ is_some (best (drop skip spans) a)
+tail_covers : (spans : List Span) (skip a : ℕ) (found : Option ℕ) → (0 < skip → IsTail spans skip) → found ≡ best spans a → is_behind skip found ≡ is_some (best (drop skip spans) a)
 tail_covers spans skip a found tail e = ap (is_behind skip) e ∙
     found_behind spans skip a (λ some. (tail some).apart) (best spans a) (best (drop skip spans) a)
     (best_is_best (λ at s. covers s a) spans) (best_is_best (λ at s. covers s a) (drop skip spans))
+
+-- where the best of all is one of the tail
+best_dropped : (spans : List Span) (skip a place : ℕ) → skip ≤ place → IsBestAt (λ at s. covers s a) spans place → IsBestAt (λ at s. covers s a) (drop skip spans) (place - skip)
+best_dropped spans skip a place le h =
+    let e : skip + (place - skip) ≡ place = omega arith in
+    record {
+      span = h.span;
+      at = get_dropped spans skip (place - skip) ∙ (rw e h.at);
+      passes = h.passes;
+      first = λ q t is p. let f = h.first (skip + q) t (sym (get_dropped spans skip q) ∙ is) p in record { below = f.below; tie = λ b. let le = f.tie b in omega arith };
+    }
+
+tail_best : (spans : List Span) (skip a place : ℕ) → Some place ≡ best spans a → skip ≤ place → Some (place - skip) ≡ best (drop skip spans) a
+tail_best spans skip a place is le =
+    let h = subst (IsBest (λ at s. covers s a) spans) (sym is) (best_is_best (λ at s. covers s a) spans) in
+    best_is (λ at s. covers s a) (drop skip spans) (Some (place - skip)) (best_dropped spans skip a place le h)
+
+no_some : (o : Option ℕ) → is_some o ≡ false → None ≡ o
+no_some None e = refl
+no_some (Some p) e = absurd cc
+
+pub tail_none : (spans : List Span) (skip a : ℕ) (found : Option ℕ) → (0 < skip → IsTail spans skip) → found ≡ best spans a → is_behind skip found ≡ false → None ≡ best (drop skip spans) a
+tail_none spans skip a found tail e none = no_some (best (drop skip spans) a) (sym (tail_covers spans skip a found tail e) ∙ none)
+
+-- what is left of the place where some ranges are taken off
+pub tail_left : (spans : List Span) (skip a place : ℕ) → (0 < skip → IsTail spans skip) → Some place ≡ best spans a → (left : Option ℕ) → SomeIff left (skip ≤ place) (place - skip) → left ≡ best (drop skip spans) a
+tail_left spans skip a place tail is None before = elim (cases_lt place skip) [
+  | inl lt ↦ tail_none spans skip a (Some place) tail is (lt-leb skip place lt)
+  | inr le ↦ absurd (before le)
+]
+tail_left spans skip a place tail is (Some left) h = ap (λ (n : ℕ). Some n) h.1 ∙ tail_best spans skip a place is h.0
+
+-- the place of a range of the tail among all
+pub place_dropped : (spans : List Span) (skip place at : ℕ) → (place < length spans - skip → at ≡ skip + place) → (length spans - skip ≤ place → at ≡ length spans) → slice_get spans at ≡ slice_get (drop skip spans) place
+place_dropped spans skip place at within past = elim (cases_lt place (length spans - skip)) [
+  | inl lt ↦ rw (within lt) (sym (get_dropped spans skip place))
+  | inr ge ↦ rw (past ge) (slice_get_past spans (length spans) (omega arith) ∙ sym (slice_get_past (drop skip spans) place (omega (arith, length-drop skip spans))))
+]
 
 -- ---- what it takes
 

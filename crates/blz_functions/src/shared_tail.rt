@@ -1,6 +1,7 @@
 //! The ranges of a list from one of them on, found in the index of the list.
 ghost use Rattle.std.specs.Prelude.{◌≡◌, ◌+◌, ◌*◌, ◌^◌, ◌-◌, ◌<◌, ◌≤◌, drop, is_some, length, option_map, true, IfOk, IfSome};
 ghost use Rattle.std.specs.Arc.{arc_value};
+ghost use Rattle.std.specs.List.{slice_get};
 ghost use Rattle.blz_ranges.specs.Best.{best};
 ghost use Rattle.blz_ranges.specs.Groups.{AreApart};
 ghost use Rattle.blz_ranges.specs.declared.span.Span.{Span};
@@ -58,6 +59,18 @@ fn is_tail(list: &KeptList, skip: usize) -> bool
     skip < len && list.is_apart() && is_near(len - skip, len)
 }
 
+/// The place in a list of a range behind its first ones, counted from there. One past all where there is none.
+fn place_behind(list: &KeptList, skip: usize, place: usize) -> usize
+    ensures { slice_get list.now.spans result ≡ slice_get (drop skip list.now.spans) place }
+{
+    let len = list.len();
+    if place < len.saturating_sub(skip) {
+        skip + place
+    } else {
+        len
+    }
+}
+
 impl SharedTail {
     /// The ranges of a list without the first ones. None where the index of the whole list could give one of the first in
     /// place of another, or would take more looks than one of those that are left.
@@ -71,16 +84,34 @@ impl SharedTail {
         Ok(Some(SharedTail { list, skip }))
     }
 
+    /// The place of the best range that covers an address.
+    pub(crate) fn best_at<L: Ledger>(&self, addr: u64, steps: &mut Steps<L>) -> Option<usize>
+        ensures best { result ≡ best self.now addr }
+        ensures cost { AreFewLooks self.now (steps.new - steps.old) }
+        ensures later { steps.old ≤ steps.new }
+    {
+        match self.list.deref().best_at(addr, steps) {
+            Some(place) => place.checked_sub(self.skip),
+            None => None,
+        }
+    }
+
+    /// The range at a place, for one look.
+    pub(crate) fn span<L: Ledger>(&self, place: usize, steps: &mut Steps<L>) -> Option<Span>
+        ensures span { result ≡ slice_get self.now place }
+        ensures cost { steps.new ≡ steps.old + 1 }
+    {
+        let list = self.list.deref();
+        list.span(place_behind(list, self.skip, place), steps)
+    }
+
     /// Whether a range covers an address.
     pub(crate) fn covers<L: Ledger>(&self, addr: u64, steps: &mut Steps<L>) -> bool
         ensures is { result ≡ is_some (best self.now addr) }
         ensures cost { AreFewLooks self.now (steps.new - steps.old) }
         ensures later { steps.old ≤ steps.new }
     {
-        match self.list.deref().best_at(addr, steps) {
-            Some(place) => place >= self.skip,
-            None => false,
-        }
+        self.best_at(addr, steps).is_some()
     }
 
     /// How many ranges there are.
@@ -97,12 +128,8 @@ impl SharedTail {
             → 2 ^ (steps.new - steps.old) ≤ 8 * (2 * length self.now + 1) }
         ensures later { steps.old ≤ steps.new }
     {
-        match self.list.deref().best_at(addr, steps) {
-            Some(place) => if place < self.skip {
-                None
-            } else {
-                begin_of(self.list.deref().span(place, steps))
-            },
+        match self.best_at(addr, steps) {
+            Some(place) => begin_of(self.span(place, steps)),
             None => None,
         }
     }
