@@ -21,11 +21,14 @@ pub mod ReadLists
 pub mod SearchedRanges
 pub mod Searching
 pub mod DepthRanges
-pub mod SharedTails
+pub mod IndexedTails
+pub mod Sharings
+pub mod PiecedTails
 pub mod BetterFound
 pub mod FoundRanges
 pub mod LayersCost
 pub mod PartedPieces
+pub mod SharedLists
 pub mod WholeLists
 pub mod PieceOrder
 pub mod KeptContents

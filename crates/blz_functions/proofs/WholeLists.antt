@@ -1,10 +1,8 @@
 -- Lists of ranges that were read to their ends, and their tails.
-use Rattle.std.proofs.Common.{◌≡◌, ℕ, ◌-◌, ◌≤◌, Bool, false, List, [], ◌∷◌, length, take, drop, Option, Some, refl, sym, ap, ◌∙◌, arith}
+use Rattle.std.proofs.Common.{◌≡◌, ℕ, ◌-◌, Bool, false, List, [], ◌∷◌, length, drop, Option, Some, refl, sym, ap, ◌∙◌, arith}
 use Rattle.std.specs.Prelude.{nat_lt}
-use Rattle.std.specs.BTreeMap.{IsEmpty}
-use Rattle.std.specs.Ordering.{nat_cmp}
 use Rattle.std.proofs.lemmas.Bool.{ltb-false}
-use Rattle.std.proofs.lemmas.List.{drop-drop, length-drop, take_rest}
+use Rattle.std.proofs.lemmas.List.{length-drop}
 use Rattle.blz_entry.specs.RangeLists.{joined}
 use Rattle.blz_entry.specs.RangeTails.{list_tail}
 use Rattle.blz_entry.specs.declared.range_tail.RangeTail.{RangeTail}
@@ -13,10 +11,10 @@ use Rattle.blz_ranges.specs.declared.span.Span.{Span}
 use Rattle.blz_functions.specs.Leaves.{UnitParts, spans_behind}
 use Rattle.blz_functions.specs.Pieces.{HasAtLeast}
 use Rattle.blz_functions.specs.ReadLists.{ArePassed, IsPassedEntry, IsUse}
-use Rattle.blz_functions.specs.WholeLists.{BeginsIn, IsEntryIn, IsWholeAt, MayIndexLast, last_spans}
+use Rattle.blz_functions.specs.WholeLists.{BeginsIn, IsEntryIn, IsWholeAt}
 use Rattle.blz_functions.specs.declared.read_lists.PassedEntry.{PassedEntry}
 use Rattle.blz_functions.specs.declared.whole_list.WholeList.{WholeList}
-use Rattle.blz_functions.proofs.ReadLists.{both, if_empty}
+use Rattle.blz_functions.proofs.ReadLists.{both}
 
 no_spans : (xs : List Span) → nat_lt 0 (length xs) ≡ false → xs ≡ []
 no_spans [] e = refl
@@ -27,28 +25,15 @@ passed_all : (u : UnitParts) (out known : List Span) (rest list : RangeTail) (be
 passed_all u out known rest list before e is none = e ∙ (ap (λ (o : Option (List Span)). joined (drop before out) o) (is ∙ ap (λ (l : List Span). Some l) none) ∙ joined_nothing (drop before out))
 
 -- a list that was passed where nothing was read before
-pub whole_read : (u : UnitParts) (offset : ℕ) (l : WholeList) (old : List Span) (some : Bool) → ArePassed u [] (list_tail u.root offset) old l.spans.items l.entries.items some → old ≡ [] → some ≡ false → IsEmpty l.tails → IsWholeAt u offset l
-whole_read u offset l old some h start nothing empty =
+pub whole_read : (u : UnitParts) (offset : ℕ) (l : WholeList) (old put : List Span) (some : Bool) → ArePassed u [] (list_tail u.root offset) old put l.entries.items some → old ≡ [] → some ≡ false → l.ranges ≡ put → IsWholeAt u offset l
+whole_read u offset l old put some h start nothing same =
     let none = no_spans h.known.spans (sym h.known.flag ∙ nothing) in
-    let put = l.spans.items in
     let each : (p : PassedEntry) → IsPassedEntry u (length old) put h.rest p → IsUse u p → IsEntryIn u put p = λ p k b. record { begins = passed_all u put h.known.spans h.rest p.tail p.before k.spans h.known.is none; base = b } in
     let front : drop (length old) put ≡ put = rw start refl in
     record {
-      is = passed_all u put h.known.spans h.rest (list_tail u.root offset) (length old) h.whole.spans h.known.is none ∙ ap (λ (xs : List Span). Some xs) front;
-      whole = record {
-        entries = both (IsPassedEntry u (length old) put h.rest) (IsUse u) (IsEntryIn u put) each l.entries.items h.each h.uses;
-        tails = if_empty nat_cmp l.tails (MayIndexLast put) empty;
-      };
+      is = passed_all u put h.known.spans h.rest (list_tail u.root offset) (length old) h.whole.spans h.known.is none ∙ ap (λ (xs : List Span). Some xs) (front ∙ sym same);
+      whole = rw same (both (IsPassedEntry u (length old) put h.rest) (IsUse u) (IsEntryIn u put) each l.entries.items h.each h.uses);
     }
-
--- the last ranges of a list, as they are cut off
-pub last_taken : (s spans : List Span) (len count : ℕ) → s ≡ spans → len ≡ length spans → take (length s - (len - count)) (drop (len - count) s) ≡ last_spans spans count
-last_taken s spans len count same is = rw (same, is) (take_rest spans (length spans - count))
-
--- what is left behind some ranges of an index
-pub tail_of_last : (spans : List Span) (before count len : ℕ) → len ≡ length spans → before ≤ len → len - before ≤ count → count ≤ len → drop (before - (len - count)) (last_spans spans count) ≡ drop before spans
-tail_of_last spans before count len is le enough within =
-    rw is (drop-drop (before - (length spans - count)) (length spans - count) spans ∙ ap (λ (k : ℕ). drop k spans) (omega arith))
 
 -- a list that begins at an entry has a value
 pub found_spans : (u : UnitParts) (spans : List Span) (tail : RangeTail) (before count : ℕ) → BeginsIn u spans tail before → count ≡ length spans - before → HasAtLeast (spans_behind u tail) count

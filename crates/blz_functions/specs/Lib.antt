@@ -16,7 +16,11 @@ pub mod SearchedFunctions
 pub mod AskedCalls
 pub mod DepthRanges
 pub mod KeptList
+pub mod IndexedTail
+pub mod Sharing
+pub mod PiecedTail
 pub mod SharedTail
+pub mod SharedList
 pub mod WholeLists
 pub mod Renamed
 pub mod Found

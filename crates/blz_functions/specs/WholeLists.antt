@@ -1,17 +1,11 @@
 -- Lists of ranges that were read to their ends.
-use Rattle.std.specs.Prelude.{◌≡◌, ℕ, ◌-◌, List, length, drop, Option, Some, IfOk, IfSome, Result, MatchResult}
-use Rattle.std.specs.Arc.{arc_value}
-use Rattle.std.specs.BTreeMap.{get}
+use Rattle.std.specs.Prelude.{◌≡◌, ℕ, List, drop, Option, Some, IfOk, IfSome, Result, MatchResult}
 use Rattle.std.specs.List.{All}
-use Rattle.std.specs.Ordering.{nat_cmp}
-use Rattle.std.specs.declared.alloc.Global.{Global}
-use Rattle.std.specs.declared.sync.Arc.{Arc}
 use Rattle.blz_error.specs.Fault.{Fault}
 use Rattle.blz_model.specs.Part.{Fails}
 use Rattle.blz_info.specs.Marks.{or_invalid}
 use Rattle.blz_entry.specs.declared.range_tail.RangeTail.{RangeTail}
 use Rattle.blz_ranges.specs.declared.span.Span.{Span}
-use Rattle.blz_functions.specs.KeptList.{KeptList}
 use Rattle.blz_functions.specs.Leaves.{UnitParts, spans_behind}
 use Rattle.blz_functions.specs.Pieces.{list_at}
 use Rattle.blz_functions.specs.ReadLists.{IsUse}
@@ -30,25 +24,13 @@ pub record IsEntryIn (u : UnitParts) (spans : List Span) (p : PassedEntry) : Typ
 abbrev pub IsListAt : PassedEntry → RangeTail → Type 0
 IsListAt p tail = (u : UnitParts) → IsUse u p → spans_behind u tail ≡ spans_behind u p.tail
 
--- the last ranges of a list
-abbrev pub last_spans : List Span → ℕ → List Span
-last_spans spans count = drop (length spans - count) spans
-
-abbrev pub IsIndexOfLast : List Span → ℕ → KeptList → Type 0
-IsIndexOfLast spans count list = list.spans ≡ last_spans spans count
-
--- an index of the last ranges of a list, if there is one
-abbrev pub MayIndexLast : List Span → ℕ → Option (Arc KeptList Global) → Type 0
-MayIndexLast spans count list = IfSome list (λ l. IsIndexOfLast spans count (arc_value l))
-
--- Each entry of a list begins one too, and each index that is kept is of its last ranges.
-pub record IsWhole (u : UnitParts) (list : WholeList) : Type 0 where
-  pub entries : All (IsEntryIn u list.spans.items) list.entries.items
-  pub tails : (count : ℕ) → IfSome (get nat_cmp list.tails count) (MayIndexLast list.spans.items count)
+-- Each entry of a list begins one too.
+abbrev pub IsWhole : UnitParts → WholeList → Type 0
+IsWhole u list = All (IsEntryIn u list.ranges) list.entries.items
 
 -- It is the list at an offset.
 pub record IsWholeAt (u : UnitParts) (offset : ℕ) (list : WholeList) : Type 0 where
-  pub is : list_at u offset ≡ Some list.spans.items
+  pub is : list_at u offset ≡ Some list.ranges
   pub whole : IsWhole u list
 
 -- A call reads the list at an offset, want of memory aside.
@@ -58,10 +40,6 @@ ReadsWhole u offset result = MatchResult result (IsWholeAt u offset) (λ e. Fail
 -- What is kept of a list stays right.
 abbrev pub KeepsWhole : WholeList → WholeList → Type 0
 KeepsWhole old new = (u : UnitParts) → IsWhole u old → IsWhole u new
-
--- A call gives some ranges, or none.
-abbrev pub MayGive : {E : Type 0} → List Span → Result (Option (List Span)) E → Type 0
-MayGive spans result = IfOk result (λ o. IfSome o (λ t. t ≡ spans))
 
 -- A call gives the list from one of its entries on, or none.
 abbrev pub MayGiveTail : {E : Type 0} → UnitParts → RangeTail → Result (Option (List Span)) E → Type 0

@@ -9,7 +9,7 @@ returns c =
     let u = open_view c.args.unit.now in
     let passed = c.in_ok-pass.ensures.value [] (c.new-nothing.ensures.read u []) in
     let none = c.in_ok-pass.ensures.none c.new-nothing.ensures.nothing in
-    whole_read u c.args.offset _ c.new-spans.result.items c.in_ok-pass.field-0 passed c.new-spans.ensures.items none c.new.ensures.empty
+    whole_read u c.args.offset _ c.new-spans.result.items _ c.in_ok-pass.field-0 passed c.new-spans.ensures.items none c.new-ranges.ensures
 
 pub returns-in_err-pass : goal.returns-in_err-pass
 returns-in_err-pass c =

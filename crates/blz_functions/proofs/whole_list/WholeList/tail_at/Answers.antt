@@ -7,5 +7,5 @@ use Rattle.blz_functions.proofs.whole_list.WholeList.tail_at.Goals as goal
 
 pub returns-in-Some-clause-value : goal.returns-in-Some-clause-value
 returns-in-Some-clause-value c = λ u told.
-    let begins : BeginsIn u c.args.self.now.spans.items c.args.tail c.in-Some.before = c.in-Some.ensures u told in
-    IfOk-weaker c.tail.result _ _ (λ o h. if_mapped o _ (λ t. spans_behind u c.args.tail ≡ Some t) (λ t e. begins ∙ ap (λ l. Some l) (sym e)) h) (c.tail.ensures.value u told)
+    let begins : BeginsIn u c.args.self.now.ranges c.args.tail c.in-Some.before = c.in-Some.ensures u told in
+    IfOk-weaker c.tail.result _ _ (λ o h. if_mapped o _ (λ t. spans_behind u c.args.tail ≡ Some t) (λ t e. begins ∙ ap (λ l. Some l) (sym e)) h) c.tail.ensures.value

@@ -13,7 +13,7 @@ use Rattle.blz_ranges.specs.Groups.{AreApart}
 use Rattle.blz_ranges.proofs.BestOf.{best_is, best_is_best}
 use Rattle.blz_ranges.proofs.OneCovers.{looks_few}
 use Rattle.blz_functions.specs.KeptList.{AreFewLooks}
-use Rattle.blz_functions.specs.SharedTail.{IsNear, IsTail}
+use Rattle.blz_functions.specs.IndexedTail.{IsNear, IsTail}
 
 -- ---- powers of two
 

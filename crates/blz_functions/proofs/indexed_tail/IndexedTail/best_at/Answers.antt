@@ -1,8 +1,8 @@
 use Rattle.std.proofs.Common.{◌-◌, refl}
 use Rattle.std.specs.Prelude.{None}
 use Rattle.std.specs.Arc.{arc_value}
-use Rattle.blz_functions.proofs.SharedTails.{tail_cost, tail_left, tail_none}
-use Rattle.blz_functions.proofs.shared_tail.SharedTail.best_at.Goals as goal
+use Rattle.blz_functions.proofs.IndexedTails.{tail_cost, tail_left, tail_none}
+use Rattle.blz_functions.proofs.indexed_tail.IndexedTail.best_at.Goals as goal
 
 pub returns-in-Some-clause-best : goal.returns-in-Some-clause-best
 returns-in-Some-clause-best g c =

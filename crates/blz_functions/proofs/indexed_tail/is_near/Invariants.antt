@@ -1,6 +1,6 @@
 use Rattle.std.proofs.Common.{◌-◌}
-use Rattle.blz_functions.proofs.SharedTails.{IsPowerUpTo}
-use Rattle.blz_functions.proofs.shared_tail.is_near.Given as goal
+use Rattle.blz_functions.proofs.IndexedTails.{IsPowerUpTo}
+use Rattle.blz_functions.proofs.indexed_tail.is_near.Given as goal
 
 abbrev pub invariant-loop-power : goal.invariant-loop-power
 invariant-loop-power l = IsPowerUpTo l.count l.power
