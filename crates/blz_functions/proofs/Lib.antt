@@ -29,6 +29,9 @@ pub mod FoundRanges
 pub mod LayersCost
 pub mod PartedPieces
 pub mod SharedLists
+pub mod MergedLists
+pub mod MergedOrder
+pub mod MergedTails
 pub mod WholeLists
 pub mod PieceOrder
 pub mod KeptContents

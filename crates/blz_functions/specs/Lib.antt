@@ -25,6 +25,7 @@ pub mod WholeLists
 pub mod Renamed
 pub mod Found
 pub mod Layers
+pub mod MergedLists
 pub mod SharedDepths
 pub mod Parts
 pub mod SettledRanges

@@ -1,5 +1,5 @@
 -- How the depths of a function are settled once its calls are read.
-use Rattle.std.specs.Prelude.{◌≡◌, ◌≢◌, ℕ, ◌<◌, ◌≤◌, List, [], ◌∷◌, ◌++◌, length, map, Some, Result, MatchResult, slice_index_or, ◌⊎◌}
+use Rattle.std.specs.Prelude.{◌≡◌, ◌≢◌, ℕ, ◌<◌, ◌≤◌, List, [], ◌∷◌, ◌++◌, length, map, Option, Some, IfOk, IfSome, Result, MatchResult, slice_index_or, ◌⊎◌}
 use Rattle.std.specs.declared.alloc.Global.{Global}
 use Rattle.std.specs.declared.vec.Vec.{Vec}
 use Rattle.blz_error.specs.Fault.{Fault}
@@ -13,10 +13,12 @@ use Rattle.blz_functions.specs.BestOwned.{AnswersAs}
 use Rattle.blz_functions.specs.DepthRanges.{AreOfCalls, of_depth, pieces_at, ranges_view}
 use Rattle.blz_functions.specs.Layers.{call_in_layers, ranges_of, LayeredRanges}
 use Rattle.blz_functions.specs.Leaves.{UnitParts}
+use Rattle.blz_functions.specs.MergedLists.{ranges_in}
 use Rattle.blz_functions.specs.Pieces.{AreNamed, TellAs, told}
 use Rattle.blz_functions.specs.Renamed.{renamed}
 use Rattle.blz_functions.specs.SettledRanges.{AnswerAsAll, SearchedRanges, settled_view, shared_in}
 use Rattle.blz_functions.specs.SharedDepths.{call_of, CountsUpTo}
+use Rattle.blz_functions.specs.declared.called_tails.CalledTail.{CalledTail}
 use Rattle.blz_functions.specs.declared.depth_ranges.DepthRanges.{DepthRanges}
 use Rattle.blz_functions.specs.declared.layer.Layer.{Layer}
 use Rattle.blz_functions.specs.declared.pieces.Piece.{Piece}
@@ -60,6 +62,19 @@ IsLayerAs u pieces l = AnswersAs (ranges_of l) (told u pieces)
 pub record AreLayersAs (u : UnitParts) (pieces : List Piece) (count : ℕ) (l : LayeredRanges) : Type 0 where
   pub calls : (addr : ℕ) → best_owner (told u pieces) addr ≡ call_in_layers l addr
   pub counts : l.count ≤ count
+
+-- Ranges in one order are those of some pieces, and no more than so many.
+pub record AreMergedAs (u : UnitParts) (pieces : List Piece) (count : ℕ) (ranges : List (Owned Span)) : Type 0 where
+  pub told : told u pieces ≡ ranges
+  pub counts : length ranges ≤ count
+
+-- A call gives the lists that some pieces name, or none.
+abbrev pub MayGiveTails : {E : Type 0} → UnitParts → List Piece → Result (Option (Vec CalledTail Global)) E → Type 0
+MayGiveTails u pieces result = IfOk result (λ o. IfSome o (λ v. told u pieces ≡ ranges_in v.items))
+
+-- It gives their ranges in one order, or none.
+abbrev pub MayGiveMerged : {E : Type 0} → UnitParts → List Piece → ℕ → Result (Option (List (Owned Span))) E → Type 0
+MayGiveMerged u pieces count result = IfOk result (λ o. IfSome o (AreMergedAs u pieces count))
 
 -- The ranges of a depth are kept as those of its pieces.
 pub record IsSharedAs (u : UnitParts) (pieces : List Piece) (count : ℕ) (s : SharedDepth) : Type 0 where

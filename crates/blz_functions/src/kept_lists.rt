@@ -264,12 +264,17 @@ impl KeptLists {
         Ok(found)
     }
 
+    /// Where the list begins that an offset may lie in, if it is kept whole.
+    pub(crate) fn kept_around(&self, offset: u64) -> Option<u64> {
+        match self.around(offset) {
+            Some((start, true)) => Some(start),
+            _ => None,
+        }
+    }
+
     /// Whether the list around an offset is kept whole.
     pub(crate) fn is_kept(&self, offset: u64) -> bool {
-        match self.around(offset) {
-            Some((_, whole)) => whole,
-            None => false,
-        }
+        self.kept_around(offset).is_some()
     }
 
     fn keep_content(

@@ -8,6 +8,7 @@ ghost use Rattle.blz_functions.specs.Settling.{AreLayersAs, IsSharedAs};
 use crate::kept_layers::{kept_layer, own_layer};
 use crate::kept_lists::KeptLists;
 use crate::layers::{Layers, are_few};
+use crate::merged_depth::merged_of;
 use crate::open_unit::OpenUnit;
 use crate::parts::Parts;
 use crate::pieces::Piece;
@@ -69,8 +70,14 @@ pub(crate) fn shared_of(
     if let Some(layer) = kept_layer(alloc, unit, kept, own, pieces)? {
         return Ok(Some(SharedDepth::One(layer)));
     }
-    match layers_of(alloc, unit, kept, own, pieces, count)? {
-        Some(layers) => Ok(Some(SharedDepth::Two(layers))),
+    if let Some(layers) = layers_of(alloc, unit, kept, own, pieces, count)? {
+        return Ok(Some(SharedDepth::Two(layers)));
+    }
+    if !own.is_empty() {
+        return Ok(None);
+    }
+    match merged_of(alloc, unit, kept, pieces, count)? {
+        Some(lists) => Ok(Some(SharedDepth::Merged(lists))),
         None => Ok(None),
     }
 }

@@ -2,6 +2,7 @@
 #![tactic(auto)]
 
 mod call_lists;
+mod called_tails;
 mod depth_ranges;
 mod description;
 mod foreseen_lists;
@@ -20,6 +21,9 @@ mod layered_depth;
 mod layers;
 mod levels;
 mod links;
+mod merged_depth;
+mod merged_lists;
+mod merged_order;
 mod open_unit;
 mod parts;
 mod pieced_tail;

@@ -6,6 +6,7 @@ ghost use Rattle.blz_ranges.specs.Owned.{items_of};
 
 use crate::layer::Layer;
 use crate::layers::Layers;
+use crate::merged_lists::MergedLists;
 use blz_bytes::Steps;
 use std::sync::ledger::Ledger;
 
@@ -16,6 +17,8 @@ pub enum SharedDepth {
     One(Layer),
     /// Those of lists, beside others that are the depth's own.
     Two(Layers),
+    /// All of them, in several lists.
+    Merged(MergedLists),
 }
 
 impl SharedDepth {
@@ -29,6 +32,7 @@ impl SharedDepth {
         match self {
             SharedDepth::One(layer) => layer.call_of(addr, steps),
             SharedDepth::Two(layers) => layers.call_of(addr, steps),
+            SharedDepth::Merged(lists) => lists.call_of(addr, steps),
         }
     }
 }
