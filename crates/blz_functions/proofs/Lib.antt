@@ -18,7 +18,7 @@ pub mod UnplacedEntries
 pub mod PassedEntries
 pub mod BestOwned
 pub mod ReadLists
-pub mod SearchedRanges
+pub mod FunctionsRead
 pub mod Searching
 pub mod DepthRanges
 pub mod IndexedTails
@@ -42,3 +42,4 @@ pub mod FoundCalls
 pub mod SettledDepths
 pub mod RenamedRanges
 pub mod CallsRead
+pub mod SettledFunctions

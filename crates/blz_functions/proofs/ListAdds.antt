@@ -5,13 +5,11 @@ use Rattle.blz_model.specs.Reads.{◌>>=◌}
 use Rattle.blz_entry.specs.RangeLists.{appended}
 use Rattle.blz_ranges.specs.declared.span.Span.{Span}
 use Rattle.blz_functions.specs.declared.description.Description.{Description}
-use Rattle.blz_functions.specs.declared.functions.Function.{Function}
 use Rattle.blz_ranges.specs.declared.grouped.Grouped.{Grouped}
 use Rattle.blz_functions.specs.CallTree.{CallLists, call_added}
 use Rattle.blz_functions.specs.Chain.{call_range}
 use Rattle.blz_ranges.specs.Groups.{grouped}
 use Rattle.blz_functions.specs.FunctionList.{Lists, lists_added}
-use Rattle.blz_functions.specs.SearchedFunctions.{with_front}
 use Rattle.blz_functions.specs.Leaves.{UnitParts, ranges_in}
 use Rattle.blz_ranges.specs.Owned.{Owned, owned, own_all, filled_up}
 use Rattle.blz_ranges.proofs.OwnedItems.{owned_more}
@@ -37,14 +35,6 @@ flag_told z (Some r) = r.1
 pub appended_by : (o : Option (List Span)) (old new : List Span) (some : Bool) → (o >>= appended old) ≡ told new some → Appended o old new some
 appended_by None old new some h = absurd cc
 appended_by (Some spans) old new some h = record { spans = spans; is = refl; new_is = sym (ap (spans_told new) h); flag = sym (ap (flag_told some) h) }
-
-abbrev lists_by : List Function → List (Owned Span) → Lists
-lists_by functions ranges = record { functions = functions; ranges = ranges }
-
--- the ranges of one function more behind the others
-pub front_more : (functions : List Function) (old new read : List Span) (owners : List ℕ) (f : Function) → new ≡ old ++ read → length old ≡ length owners
-    → record { functions = functions ++ f ∷ []; ranges = owned new (filled_up owners (length functions) (length new)) } ≡ with_front (record { functions = functions; ranges = owned old owners }) f read
-front_more functions old new read owners f is len = rw is (ap (λ (r : List (Owned Span)). lists_by (functions ++ f ∷ []) r) (owned_more old read owners (length functions) (length (old ++ read)) len refl))
 
 pub added_fails : (u : UnitParts) (l : Lists) (place : ℕ) (d : Description) → ranges_in u d.ranges ≡ None → lists_added u l place d ≡ None
 unfolding lists_added

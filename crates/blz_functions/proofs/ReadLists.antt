@@ -1,6 +1,6 @@
 -- Lists of ranges that were read, and one more of them.
 use lib.ListN.{get_or, set}
-use Rattle.std.proofs.Common.{◌≡◌, ℕ, ◌-◌, ◌<◌, ◌≤◌, Bool, true, false, List, [], ◌∷◌, ◌++◌, length, take, drop, Option, Some, None, refl, sym, ap, subst, ◌∙◌, arith, inl, inr}
+use Rattle.std.proofs.Common.{◌≡◌, ℕ, ◌-◌, ◌<◌, ◌≤◌, Bool, true, false, List, [], ◌++◌, length, take, drop, Option, Some, None, refl, sym, ap, subst, ◌∙◌, arith, inl, inr}
 use Rattle.std.specs.Prelude.{IfSome, Result, Ok, Err, nat_lt, ◌||◌}
 use Rattle.std.specs.BTreeMap.{BTreeMap, get, IsEmpty, Updates}
 use Rattle.std.specs.List.{All}
@@ -74,6 +74,10 @@ one_free u ranges old new place some keeps same is told = record {
   based = rw same told.based;
   free = more_kept nat_cmp exact_unsigned old.free new.free place some (IsReadFree u ranges) keeps is told.free;
 }
+
+-- beside where they begin that have many entries
+pub same_lists : (u : UnitParts) (ranges : List (Owned Span)) (old new : ReadLists) → new.based ≡ old.based → new.free ≡ old.free → AreRead u ranges old → AreRead u ranges new
+same_lists u ranges old new based free told = record { based = rw based told.based; free = rw free told.free }
 
 -- what is read with one base is read with each, where that is not used
 pub read_free : (u : UnitParts) (ranges : List (Owned Span)) (tail : RangeTail) (some : Bool) → IsFreeIn u tail.place → IsRead u ranges tail some → IsReadFree u ranges tail.place some

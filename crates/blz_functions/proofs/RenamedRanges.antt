@@ -7,7 +7,7 @@ use Rattle.std.proofs.lemmas.List.{append-nil}
 use Rattle.blz_ranges.specs.declared.span.Span.{Span}
 use Rattle.blz_ranges.specs.Best.{covers}
 use Rattle.blz_ranges.specs.Groups.{AreApart}
-use Rattle.blz_ranges.specs.Owned.{Owned, items_of, own_all}
+use Rattle.blz_ranges.specs.Owned.{Owned, items_of, own_all, owner_at}
 use Rattle.blz_ranges.specs.Ranges.{best_owner}
 use Rattle.blz_functions.specs.BestOwned.{AnswersAs, best_owned, better_owned}
 use Rattle.blz_functions.specs.Leaves.{UnitParts}
@@ -70,6 +70,22 @@ items_renamed calls (o ∷ rest) = ap (λ (l : List Span). o.item ∷ l) (items_
 pub length_renamed : (calls : List ℕ) (list : List (Owned Span)) → length (renamed calls list) ≡ length list
 length_renamed calls [] = refl
 length_renamed calls (o ∷ rest) = ap suc (length_renamed calls rest)
+
+pub owner_renamed_at : (calls : List ℕ) (list : List (Owned Span)) (place : ℕ) → owner_at (renamed calls list) place ≡ call_numbered calls (owner_at list place)
+owner_renamed_at calls [] place = refl
+owner_renamed_at calls (o ∷ rest) zero = refl
+owner_renamed_at calls (o ∷ rest) (suc place) = owner_renamed_at calls rest place
+
+-- of ranges of one call
+pub owner_of_all : (call : ℕ) (spans : List Span) (place : ℕ) → place < length spans → owner_at (own_all call spans) place ≡ Some call
+owner_of_all call [] place lt = absurd (omega arith)
+owner_of_all call (s ∷ rest) zero lt = refl
+owner_of_all call (s ∷ rest) (suc place) lt = owner_of_all call rest place (omega arith)
+
+pub no_owner : (call : ℕ) (spans : List Span) (place : ℕ) → length spans ≤ place → owner_at (own_all call spans) place ≡ None
+no_owner call [] place le = refl
+no_owner call (s ∷ rest) zero le = absurd (omega arith)
+no_owner call (s ∷ rest) (suc place) le = no_owner call rest place (omega arith)
 
 -- ---- what it takes to find it
 

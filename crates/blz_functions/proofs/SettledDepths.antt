@@ -64,7 +64,7 @@ taken_alike (suc k) (x ∷ xs) [] e = absurd (omega arith)
 taken_alike (suc k) (x ∷ xs) (y ∷ ys) e = ap suc (taken_alike k xs ys (omega arith))
 
 -- the items up to the next index, each with its owner
-owned_next : {A : Type 0} (xs : List A) (ns : List ℕ) (at : ℕ) (x : A) (n : ℕ) → length xs ≡ length ns → at < length xs → owned (take (at + 1) xs) (take (at + 1) ns) ≡ owned (take at xs) (take at ns) ++ record { item = slice_index_or xs at x; owner = slice_index_or ns at n } ∷ []
+pub owned_next : {A : Type 0} (xs : List A) (ns : List ℕ) (at : ℕ) (x : A) (n : ℕ) → length xs ≡ length ns → at < length xs → owned (take (at + 1) xs) (take (at + 1) ns) ≡ owned (take at xs) (take at ns) ++ record { item = slice_index_or xs at x; owner = slice_index_or ns at n } ∷ []
 owned_next xs ns at x n e lt = rw (take_next xs at x lt, take_next ns at n (omega (arith, lt, e))) (owned_pushed (take at xs) (take at ns) (slice_index_or xs at x) (slice_index_or ns at n) (taken_alike at xs ns e))
 
 put_pushed : (depth : ℕ) (xs : List (Owned Span)) (o : Owned Span) → map (to_group depth) (xs ++ o ∷ []) ≡ map (to_group depth) xs ++ to_group depth o ∷ []

@@ -10,7 +10,7 @@ use Rattle.blz_ranges.specs.declared.span.Span.{Span}
 use Rattle.blz_ranges.specs.Owned.{Owned, own_all}
 use Rattle.blz_functions.specs.DepthRanges.{HasPieces, has_pieces, pieces_at}
 use Rattle.blz_functions.specs.Leaves.{UnitParts}
-use Rattle.blz_functions.specs.Pieces.{AreNamed, list_at, or_none, ranges_of_call, spans_named, told, told_by}
+use Rattle.blz_functions.specs.Pieces.{AreNamed, AreOwned, list_at, or_none, range_piece, ranges_of_call, spans_named, told, told_by}
 use Rattle.blz_functions.specs.declared.pieces.Named.{Named}
 use Rattle.blz_functions.specs.declared.pieces.Named.TheVariants.{Listed}
 use Rattle.blz_functions.specs.declared.pieces.Piece.{Piece}
@@ -53,6 +53,17 @@ named_front u (p ∷ front) back h = (h.0, named_front u front back h.1)
 pub named_back : (u : UnitParts) (front back : List Piece) → AreNamed u (front ++ back) → AreNamed u back
 named_back u [] back h = h
 named_back u (p ∷ front) back h = named_back u front back h.1
+
+-- ranges as pieces, each with its owner
+pub none_owned : (u : UnitParts) → AreOwned u [] []
+unfolding told
+none_owned u = record { told = refl; named = tt }
+
+pub one_owned : (u : UnitParts) (ranges : List (Owned Span)) (pieces : List Piece) (s : Span) (n : ℕ) → AreOwned u ranges pieces → AreOwned u (ranges ++ record { item = s; owner = n } ∷ []) (pieces ++ range_piece n s ∷ [])
+one_owned u ranges pieces s n h = record {
+  told = told_appended u pieces (range_piece n s ∷ []) ∙ (λ i. h.told i ++ told_ranges u n (s ∷ []) i);
+  named = named_appended u pieces (range_piece n s ∷ []) h.named (ranges_named u n (s ∷ []));
+}
 
 -- ---- the pieces of depths
 

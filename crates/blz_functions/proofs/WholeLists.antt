@@ -9,7 +9,7 @@ use Rattle.blz_entry.specs.declared.range_tail.RangeTail.{RangeTail}
 use Rattle.blz_entry.proofs.RangeSteps.{joined_nothing}
 use Rattle.blz_ranges.specs.declared.span.Span.{Span}
 use Rattle.blz_functions.specs.Leaves.{UnitParts, spans_behind}
-use Rattle.blz_functions.specs.Pieces.{HasAtLeast}
+use Rattle.blz_functions.specs.Pieces.{HasCount}
 use Rattle.blz_functions.specs.ReadLists.{ArePassed, IsPassedEntry, IsUse}
 use Rattle.blz_functions.specs.WholeLists.{BeginsIn, IsEntryIn, IsWholeAt}
 use Rattle.blz_functions.specs.declared.read_lists.PassedEntry.{PassedEntry}
@@ -36,5 +36,5 @@ whole_read u offset l old put some h start nothing same =
     }
 
 -- a list that begins at an entry has a value
-pub found_spans : (u : UnitParts) (spans : List Span) (tail : RangeTail) (before count : ℕ) → BeginsIn u spans tail before → count ≡ length spans - before → HasAtLeast (spans_behind u tail) count
-found_spans u spans tail before count is same = record { spans = drop before spans; is = is; enough = omega (arith, length-drop before spans, same) }
+pub found_spans : (u : UnitParts) (spans : List Span) (tail : RangeTail) (before count : ℕ) → BeginsIn u spans tail before → count ≡ length spans - before → HasCount (spans_behind u tail) count
+found_spans u spans tail before count is same = record { spans = drop before spans; is = is; counted = omega (arith, length-drop before spans, same) }

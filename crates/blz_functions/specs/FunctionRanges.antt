@@ -6,11 +6,19 @@ use Rattle.blz_functions.specs.SettledRanges.{SearchedRanges}
 use Rattle.blz_functions.specs.declared.depth_ranges.DepthRanges.{DepthRanges}
 use Rattle.blz_functions.specs.declared.functions.Function.{Function}
 use Rattle.blz_functions.specs.declared.inlined_functions.InlinedFunction.{InlinedFunction}
+use Rattle.blz_functions.specs.declared.read_ranges.ReadRanges.{ReadRanges}
 
--- the functions of a unit, and their ranges, each with the number of its function
+-- the functions of a unit while they are read
+pub record FunctionsRead : Type 0 where
+  pub functions : List Function
+  pub ranges : ReadRanges
+
+-- the functions of a unit, their ranges, each with the number of its function, those of them that are kept for this unit
+-- alone, all or none, and whether the order of these was accepted
 pub record FunctionRanges : Type 0 where
   pub functions : List Function
   pub ranges : List (Owned Span)
+  pub own : List (Owned Span)
   pub ordered : Bool
 
 -- the inlined calls of a function while they are read

@@ -17,7 +17,7 @@ use Rattle.blz_ranges.specs.Owned.{Owned}
 use Rattle.blz_ranges.specs.declared.span.Span.{Span}
 use Rattle.blz_functions.specs.BestOwned.{AnswersAs}
 use Rattle.blz_functions.specs.Leaves.{UnitParts, spans_behind}
-use Rattle.blz_functions.specs.Pieces.{HasAtLeast, told}
+use Rattle.blz_functions.specs.Pieces.{HasCount, told}
 use Rattle.blz_functions.specs.WholeLists.{IsWhole}
 use Rattle.blz_functions.specs.contracts.pieces.PieceOrd.TheImpl as pieces
 use Rattle.blz_functions.specs.declared.kept_lists.KeptLists.{KeptLists}
@@ -25,9 +25,9 @@ use Rattle.blz_functions.specs.declared.kept_lists.NamedList.{NamedList}
 use Rattle.blz_functions.specs.declared.pieces.Piece.{Piece}
 use Rattle.blz_functions.specs.declared.whole_list.WholeList.{WholeList}
 
--- A call tells whether a list has a value, and a number of ranges that are not more than its own, want of memory aside.
+-- A call tells whether a list has a value, and how many ranges it has, want of memory aside.
 abbrev pub Names : Option (List Span) → Result ℕ Fault → Type 0
-Names spans result = MatchResult result (HasAtLeast spans) (λ e. Fails e.kind (or_invalid spans))
+Names spans result = MatchResult result (HasCount spans) (λ e. Fails e.kind (or_invalid spans))
 
 -- A call gives what something holds of, or nothing, want of memory aside.
 abbrev pub MayGiveAs : {S : Type 0} → (S → Type 0) → Result (Option S) Fault → Type 0
@@ -68,6 +68,6 @@ KeepsLists old new More = (u : UnitParts) → More u → AreKeptLists u old → 
 abbrev pub MayGiveWhole : {E : Type 0} → UnitParts → Result (Option WholeList) E → Type 0
 MayGiveWhole u result = IfOk result (λ o. IfSome o (IsWhole u))
 
--- Where a call gives a number of ranges of a list that begins within another one, the list has a value of as many.
+-- Where a call gives a number of ranges for a list that begins within another one, the list has a value of as many.
 abbrev pub TellsWithin : {E : Type 0} → UnitParts → RangeTail → Result (Option ℕ) E → Type 0
-TellsWithin u tail result = IfOk result (λ o. IfSome o (HasAtLeast (spans_behind u tail)))
+TellsWithin u tail result = IfOk result (λ o. IfSome o (HasCount (spans_behind u tail)))

@@ -32,3 +32,4 @@ pub mod SettledRanges
 pub mod Settling
 pub mod KeptLists
 pub mod ReadCalls
+pub mod ReadFunctions

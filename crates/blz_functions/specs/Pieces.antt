@@ -1,5 +1,5 @@
 -- What the calls of a depth name, where one of them names a list of ranges with many entries.
-use Rattle.std.specs.Prelude.{◌≡◌, ℕ, ◌≤◌, List, [], ◌∷◌, ◌++◌, length, map, Option, Some, None}
+use Rattle.std.specs.Prelude.{◌≡◌, ℕ, List, [], ◌∷◌, ◌++◌, length, map, Option, Some, None}
 use Rattle.blz_entry.specs.RangeTails.{list_tail}
 use Rattle.blz_ranges.specs.declared.span.Span.{Span}
 use Rattle.blz_ranges.specs.Owned.{Owned, own_all}
@@ -34,11 +34,11 @@ pub record HasSpans (o : Option (List Span)) : Type 0 where
   pub spans : List Span
   pub is : o ≡ Some spans
 
--- It has a value of at least so many ranges.
-pub record HasAtLeast (o : Option (List Span)) (count : ℕ) : Type 0 where
+-- It has a value of so many ranges.
+pub record HasCount (o : Option (List Span)) (count : ℕ) : Type 0 where
   pub spans : List Span
   pub is : o ≡ Some spans
-  pub enough : count ≤ length spans
+  pub counted : count ≡ length spans
 
 abbrev pub IsNamed : UnitParts → Piece → Type 0
 IsNamed u p = HasSpans (spans_named u p.named)
@@ -57,3 +57,8 @@ range_piece call s = record { call = call; named = Range s.begin s.end }
 
 abbrev pub ranges_of_call : ℕ → List Span → List Piece
 ranges_of_call call spans = map (range_piece call) spans
+
+-- Pieces tell some ranges, each with its owner.
+pub record AreOwned (u : UnitParts) (ranges : List (Owned Span)) (pieces : List Piece) : Type 0 where
+  pub told : told u pieces ≡ ranges
+  pub named : AreNamed u pieces

@@ -66,7 +66,7 @@ fn reach(
 }
 
 /// The ranges of a call as pieces.
-fn push_ranges(
+pub(crate) fn push_ranges(
     pieces: &mut Vec<Piece>,
     call: usize,
     spans: &[Span],

@@ -1,5 +1,5 @@
-//! A look ahead at the lists of ranges that the inlined calls of a unit name, where one after the other is read that begins
-//! before those that were named.
+//! A look ahead at the lists of ranges that the functions and the inlined calls of a unit name, where one after the other is
+//! read that begins before those that were named.
 ghost use Rattle.std.specs.Prelude.{◌≡◌, [], ◌≤◌, length, IfOk};
 ghost use Rattle.blz_functions.specs.KeptLists.{AreKeptLists};
 ghost use Rattle.blz_functions.specs.Leaves.{UnitParts};
@@ -23,8 +23,8 @@ pub struct Foresight {
     due: usize,
 }
 
-/// To pass so many bytes of a unit's entries takes about as long as to read an entry of a list.
-const BYTES_OF_UNIT: usize = 4;
+/// To pass so many bytes of a unit's entries twice takes about as long as to read an entry of a list.
+const BYTES_OF_UNIT: usize = 2;
 
 impl Foresight {
     pub(crate) fn new() -> Foresight {
@@ -59,7 +59,13 @@ fn count_entries(unit: &OpenUnit<'_, '_>, offset: u64, most: usize) -> (usize, b
     (most, false)
 }
 
-/// Where the list of ranges begins that the attributes of a call name which were not read. None where they name none.
+/// Whether a list has many entries.
+pub(crate) fn has_many_entries(unit: &OpenUnit<'_, '_>, offset: u64) -> bool {
+    let (count, _) = count_entries(unit, offset, FEW_ENTRIES + 1);
+    count > FEW_ENTRIES
+}
+
+/// Where the list of ranges begins that attributes name which were not read. None where they name none.
 fn list_named(unit: &OpenUnit<'_, '_>, entries: &mut Entries<'_, '_>) -> Result<Option<u64>>
     ensures pending { IfOk result (λ _. entries.new.pending ≡ []) }
     ensures source { entries.new.source ≡ entries.old.source }
@@ -75,67 +81,77 @@ fn list_named(unit: &OpenUnit<'_, '_>, entries: &mut Entries<'_, '_>) -> Result<
         if name != dwarf::DW_AT_ranges {
             continue;
         }
-        // a fault is told once the call is asked for
+        // a fault is told once the entry is asked for
         if let Ok(more) = unit.with_attribute(ranges, name, value) {
             ranges = more;
         }
     }
 }
 
-/// Passes the entry that was met last. Where it is a call, tells where the list begins that it names, if it has many entries.
+/// Passes the entry that was met last. Where it has the tag that is sought, tells where the list begins that it names, if
+/// that has many entries.
 #[tactic(auto, unfolding(blz_info::specs::Walks::skipped_of))]
 fn list_of_entry(
     unit: &OpenUnit<'_, '_>,
     entries: &mut Entries<'_, '_>,
-    tag: u64,
+    is_sought: bool,
 ) -> Result<Option<u64>>
     ensures pending { IfOk result (λ _. entries.new.pending ≡ []) }
     ensures source { entries.new.source ≡ entries.old.source }
     ensures ahead { entries.old.place ≤ entries.new.place }
 {
-    if tag != dwarf::DW_TAG_inlined_subroutine {
+    if !is_sought {
         return match entries.skip_attributes() {
             Ok(()) => Ok(None),
             Err(fault) => Err(fault),
         };
     }
     match list_named(unit, entries) {
-        Ok(Some(offset)) => {
-            let (count, _) = count_entries(unit, offset, FEW_ENTRIES + 1);
-            Ok(if count > FEW_ENTRIES {
-                Some(offset)
-            } else {
-                None
-            })
-        }
+        Ok(Some(offset)) => Ok(if has_many_entries(unit, offset) {
+            Some(offset)
+        } else {
+            None
+        }),
         Ok(None) => Ok(None),
         Err(fault) => Err(fault),
     }
 }
 
-/// Where the lists with many entries begin that calls of a unit name, by rising offsets. Behind an entry that has no value
+/// Appends where the lists with many entries begin that entries of a unit with a tag name. Behind an entry that has no value
 /// none are sought.
-fn lists_of_calls(
+fn append_lists(
+    unit: &OpenUnit<'_, '_>,
+    tag: u64,
+    offsets: &mut Vec<u64>,
+) -> std::result::Result<(), AllocError>
+    requires { CanBeOpened unit.now }
+{
+    let Ok(mut entries) = unit.entries(unit.header.entries) else {
+        return Ok(());
+    };
+    loop {
+        entries.pass_over(Passing::Others, tag);
+        let Ok(Some(entry)) = entries.next_entry() else {
+            return Ok(());
+        };
+        match list_of_entry(unit, &mut entries, entry.tag == tag) {
+            Ok(Some(offset)) => offsets.push(offset)?,
+            Ok(None) => (),
+            Err(_) => return Ok(()),
+        }
+    }
+}
+
+/// Where the lists with many entries begin that functions and calls of a unit name, by rising offsets.
+fn lists_of_unit(
     alloc: Global,
     unit: &OpenUnit<'_, '_>,
 ) -> std::result::Result<Vec<u64>, AllocError>
     requires { CanBeOpened unit.now }
 {
     let mut offsets = Vec::new(alloc);
-    let Ok(mut entries) = unit.entries(unit.header.entries) else {
-        return Ok(offsets);
-    };
-    loop {
-        entries.pass_over(Passing::Others, dwarf::DW_TAG_inlined_subroutine);
-        let Ok(Some(entry)) = entries.next_entry() else {
-            break;
-        };
-        match list_of_entry(unit, &mut entries, entry.tag) {
-            Ok(Some(offset)) => offsets.push(offset)?,
-            Ok(None) => (),
-            Err(_) => break,
-        }
-    }
+    append_lists(unit, dwarf::DW_TAG_subprogram, &mut offsets)?;
+    append_lists(unit, dwarf::DW_TAG_inlined_subroutine, &mut offsets)?;
     offsets.sort_unstable();
     Ok(offsets)
 }
@@ -184,7 +200,7 @@ impl KeptLists {
         Ok(within)
     }
 
-    /// Keeps of all lists that calls of a unit name those whole that others begin within, so that these are found there
+    /// Keeps of all lists that functions and calls of a unit name those whole that others begin within, so that these are found there
     /// whichever is asked for first. They have no more entries together than were read again before.
     fn foresee(
         &mut self,
@@ -195,7 +211,7 @@ impl KeptLists {
         requires kept { AreKeptLists (open_view unit.now) self.old }
         ensures kept { AreKeptLists (open_view unit.now) self.new }
     {
-        let offsets = lists_of_calls(alloc, unit)?;
+        let offsets = lists_of_unit(alloc, unit)?;
         let mut left = self.foresight.reread;
         let mut at = 0;
         while at < offsets.len() {

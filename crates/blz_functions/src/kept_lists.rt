@@ -272,6 +272,23 @@ impl KeptLists {
         }
     }
 
+    /// Whether a list is around an offset.
+    pub(crate) fn is_named(&self, offset: u64) -> bool {
+        self.around(offset).is_some()
+    }
+
+    /// Notes that a list was named whose last entry lies at a place, and forgets the next one if it begins within it.
+    pub(crate) fn note(&mut self, offset: u64, last: usize) -> std::result::Result<(), AllocError>
+        ensures { (u : UnitParts) → AreKeptLists u self.old → AreKeptLists u self.new }
+    {
+        if let Some(next) = self.next_above(offset) {
+            if next as usize <= last {
+                self.take(next);
+            }
+        }
+        self.put(offset, NamedList { last, whole: None })
+    }
+
     /// Whether the list around an offset is kept whole.
     pub(crate) fn is_kept(&self, offset: u64) -> bool {
         self.kept_around(offset).is_some()

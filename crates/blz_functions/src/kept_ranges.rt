@@ -2,8 +2,9 @@
 ghost use Rattle.std.specs.Prelude.{◌≡◌, ◌+◌, ◌*◌, ◌^◌, ◌-◌, ◌≤◌, length, option_map, IfOk, IfSome};
 ghost use Rattle.std.specs.List.{slice_get};
 ghost use Rattle.blz_functions.specs.Found.{found_both, found_in, found_of};
+ghost use Rattle.blz_ranges.specs.Best.{best};
 ghost use Rattle.blz_ranges.specs.Groups.{AreApart};
-ghost use Rattle.blz_ranges.specs.Owned.{items_of, owned};
+ghost use Rattle.blz_ranges.specs.Owned.{items_of, owned, owner_at};
 ghost use Rattle.blz_ranges.specs.Ranges.{best_owner};
 
 use crate::found::Found;
@@ -55,6 +56,23 @@ impl KeptRanges {
         ensures { result ≡ length self.now }
     {
         self.list.len()
+    }
+
+    /// The place of the best range that covers an address.
+    pub(crate) fn best_at<L: Ledger>(&self, addr: u64, steps: &mut Steps<L>) -> Option<usize>
+        ensures best { result ≡ best (items_of self.now) addr }
+        ensures cost { AreApart (items_of self.now)
+            → 2 ^ (steps.new - steps.old) ≤ 4 * (2 * length self.now + 1) }
+        ensures later { steps.old ≤ steps.new }
+    {
+        self.list.best_at(addr, steps)
+    }
+
+    /// The call of the range at a place.
+    pub(crate) fn owner(&self, place: usize) -> Option<usize>
+        ensures { result ≡ owner_at self.now place }
+    {
+        number_at(self.owners.as_slice(), place)
     }
 
     /// The call of the best range that covers an address.

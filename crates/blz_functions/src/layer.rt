@@ -1,9 +1,10 @@
 //! Ranges of a depth that are kept with an index of their own.
-ghost use Rattle.std.specs.Prelude.{◌≡◌, ◌+◌, ◌*◌, ◌^◌, ◌-◌, ◌≤◌, length, slice_index_or};
+ghost use Rattle.std.specs.Prelude.{◌≡◌, ◌+◌, ◌*◌, ◌^◌, ◌-◌, ◌<◌, ◌≤◌, length, slice_index_or};
 ghost use Rattle.blz_functions.specs.Found.{found_in};
 ghost use Rattle.blz_functions.specs.Layers.{call_by, ranges_of};
+ghost use Rattle.blz_ranges.specs.Best.{best};
 ghost use Rattle.blz_ranges.specs.Groups.{AreApart};
-ghost use Rattle.blz_ranges.specs.Owned.{items_of};
+ghost use Rattle.blz_ranges.specs.Owned.{items_of, owner_at};
 ghost use Rattle.blz_ranges.specs.Ranges.{best_owner};
 
 use crate::found::Found;
@@ -11,10 +12,10 @@ use crate::kept_ranges::KeptRanges;
 use crate::shared_tail::SharedTail;
 use blz_bytes::Steps;
 use blz_ranges::number_at;
-use std::marker::Model;
+use std::marker::{Brand, Model};
 use std::ops::Deref;
 use std::sync::Arc;
-use std::sync::ledger::Ledger;
+use std::sync::ledger::{Blank, Ledger};
 
 /// What some calls of a depth name, kept for all depths whose calls name the same, with the calls of one of them.
 #[derive(Drop)]
@@ -61,6 +62,26 @@ impl SharedContent {
         self.ranges.deref().len()
     }
 
+    /// The place of the best range that covers an address.
+    fn best_at<L: Ledger>(&self, addr: u64, steps: &mut Steps<L>) -> Option<usize>
+        ensures best { result ≡ best (items_of self.now) addr }
+        ensures cost { AreApart (items_of self.now)
+            → 2 ^ (steps.new - steps.old) ≤ 4 * (2 * length self.now + 1) }
+        ensures later { steps.old ≤ steps.new }
+    {
+        self.ranges.deref().best_at(addr, steps)
+    }
+
+    /// The call of the range at a place.
+    fn owner(&self, place: usize) -> Option<usize>
+        ensures { result ≡ owner_at self.now place }
+    {
+        match self.ranges.deref().owner(place) {
+            Some(number) => Some(call_numbered(self.calls.as_slice(), number)),
+            None => None,
+        }
+    }
+
     /// The call whose range is the best that covers an address.
     fn call_of<L: Ledger>(&self, addr: u64, steps: &mut Steps<L>) -> Option<usize>
         ensures call { result ≡ best_owner self.now addr }
@@ -101,6 +122,50 @@ impl Layer {
             Layer::Tail(_, tail) => tail.len(),
             Layer::Content(content) => content.len(),
         }
+    }
+
+    /// The place of the best range that covers an address.
+    pub(crate) fn best_at<L: Ledger>(&self, addr: u64, steps: &mut Steps<L>) -> Option<usize>
+        ensures best { result ≡ best (items_of (ranges_of self.now)) addr }
+        ensures cost { AreApart (items_of (ranges_of self.now))
+            → 2 ^ (steps.new - steps.old) ≤ 4 * (2 * length (ranges_of self.now) + 1) }
+        ensures later { steps.old ≤ steps.new }
+    {
+        match self {
+            Layer::Tail(_, tail) => tail.best_at(addr, steps),
+            Layer::Content(content) => content.best_at(addr, steps),
+        }
+    }
+
+    /// The call of the range at a place.
+    pub(crate) fn owner(&self, place: usize) -> Option<usize>
+        ensures { result ≡ owner_at (ranges_of self.now) place }
+    {
+        match self {
+            Layer::Tail(call, tail) => if place < tail.len() {
+                Some(*call)
+            } else {
+                None
+            },
+            Layer::Content(content) => content.owner(place),
+        }
+    }
+
+    fn find_from<L: Ledger>(&self, addr: u64, blank: Blank) -> Option<usize>
+        requires name { blank.name ≡ L.name }
+        requires parts { blank.parts ≡ L.parts }
+        requires some { 0 < blank.parts }
+        ensures { result ≡ best_owner (ranges_of self.now) addr }
+    {
+        let mut steps: Steps<L> = Steps::new(blank);
+        self.call_of(addr, &mut steps)
+    }
+
+    /// The call whose range is the best that covers an address, for a caller that counts no looks.
+    pub(crate) fn find(&self, addr: u64) -> Option<usize>
+        ensures { result ≡ best_owner (ranges_of self.now) addr }
+    {
+        self.find_from::<Brand>(addr, Blank::new(1))
     }
 
     /// The call whose range is the best that covers an address.

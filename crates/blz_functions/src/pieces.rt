@@ -2,7 +2,8 @@
 ghost use Rattle.std.specs.Prelude.{◌≡◌, ◌≢◌, length, take, vec_len, IfOk, MatchResult};
 ghost use Rattle.blz_error.specs.declared.kind.ErrorKind.TheVariants.{OutOfMemory};
 ghost use Rattle.blz_functions.specs.Opened.{open_view};
-ghost use Rattle.blz_functions.specs.Pieces.{spans_named, AreNamed, TellAs};
+ghost use Rattle.blz_functions.specs.Leaves.{UnitParts};
+ghost use Rattle.blz_functions.specs.Pieces.{spans_named, AreNamed, AreOwned, TellAs};
 ghost use Rattle.blz_functions.specs.ReadLists.{AppendsRead};
 ghost use Rattle.blz_ranges.specs.Owned.{owned};
 
@@ -11,7 +12,7 @@ use crate::read_lists::ReadLists;
 use blz_entry::Span;
 use blz_error::Result;
 use blz_ranges::own;
-use std::alloc::Global;
+use std::alloc::{AllocError, Global};
 
 /// What tells ranges of a call.
 #[derive(Clone, Copy, PartialEq, Eq, PartialOrd, Ord)]
@@ -27,6 +28,26 @@ pub enum Named {
 pub struct Piece {
     pub call: usize,
     pub named: Named,
+}
+
+/// Ranges as pieces, each with its owner.
+pub(crate) fn owned_pieces(
+    alloc: Global,
+    spans: &[Span],
+    owners: &[usize],
+) -> std::result::Result<Vec<Piece>, AllocError>
+    requires { length spans.now ≡ length owners.now }
+    ensures { IfOk result (λ v. (u : UnitParts) → AreOwned u (owned spans.now owners.now) v.items) }
+{
+    let mut pieces = Vec::new(alloc);
+    for at in 0..spans.len() {
+        let named = Named::Range(spans[at].begin, spans[at].end);
+        pieces.push(Piece {
+            call: owners[at],
+            named,
+        })?;
+    }
+    Ok(pieces)
 }
 
 /// Appends the ranges that a piece names, without those of a list that were read before.

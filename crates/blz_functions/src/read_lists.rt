@@ -62,6 +62,8 @@ pub struct ReadLists {
     based: BTreeMap<(usize, u64), bool>,
     /// By where they begin: those that are the same whatever offsets are added to.
     free: BTreeMap<usize, bool>,
+    /// Where those with many entries begin whose ranges were appended.
+    pub(crate) begins: Vec<u64>,
 }
 
 /// A list of no more entries is read anew each time: that takes less than to keep it.
@@ -194,6 +196,7 @@ impl ReadLists {
             alloc,
             based: BTreeMap::new(alloc),
             free: BTreeMap::new(alloc),
+            begins: Vec::new(alloc),
         }
     }
 
@@ -340,6 +343,7 @@ impl ReadLists {
             return Ok(some);
         }
         out.truncate(before);
+        self.begins.push(offset)?;
         self.read(unit, offset, out)
     }
 }

@@ -2,7 +2,7 @@
 ghost use Rattle.std.specs.Prelude.{◌≡◌, true, length, IfSome};
 ghost use Rattle.blz_functions.specs.Leaves.{UnitParts, spans_behind};
 ghost use Rattle.blz_functions.specs.Opened.{open_view};
-ghost use Rattle.blz_functions.specs.Pieces.{HasAtLeast};
+ghost use Rattle.blz_functions.specs.Pieces.{HasCount};
 ghost use Rattle.blz_functions.specs.WholeLists.{BeginsIn, IsListAt, IsWhole, KeepsWhole, MayGiveTail, ReadsWhole};
 
 use crate::open_unit::OpenUnit;
@@ -79,7 +79,7 @@ impl WholeList {
 
     /// How many ranges a list has that begins within it.
     pub(crate) fn count_from(&self, tail: RangeTail) -> Option<usize>
-        ensures { (u : UnitParts) → IsWhole u self.now → IfSome result (HasAtLeast (spans_behind u tail)) }
+        ensures { (u : UnitParts) → IsWhole u self.now → IfSome result (HasCount (spans_behind u tail)) }
     {
         match self.find(tail) {
             Some(before) => Some(self.len().saturating_sub(before)),

@@ -1,4 +1,3 @@
-use Rattle.std.specs.Prelude.{IfSome}
 use Rattle.blz_functions.specs.ReadLists.{IsRead, IsReadFree}
 use Rattle.blz_functions.proofs.ReadLists.{known_based, known_free}
 use Rattle.blz_functions.proofs.read_lists.ReadLists.find.Goals as goal

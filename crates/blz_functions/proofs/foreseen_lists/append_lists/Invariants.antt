@@ -1,5 +1,5 @@
 use Rattle.std.proofs.Common.{◌≡◌, ◌-◌, []}
-use Rattle.blz_functions.proofs.foreseen_lists.lists_of_calls.Given as goal
+use Rattle.blz_functions.proofs.foreseen_lists.append_lists.Given as goal
 
 abbrev pub invariant-loop-entry : goal.invariant-loop-entry
 invariant-loop-entry l = record {
