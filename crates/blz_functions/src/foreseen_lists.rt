@@ -13,6 +13,7 @@ use blz_constants::dwarf;
 use blz_entry::{Entries, Passing, RangeAttributes};
 use blz_error::Result;
 use std::alloc::{AllocError, Global};
+use std::collections::BTreeMap;
 
 /// How much of the lists of a unit was read again, and when to look ahead at those that are to come.
 #[derive(Clone, Copy, Drop)]
@@ -26,8 +27,14 @@ pub struct Foresight {
 /// To pass so many bytes of a unit's entries twice takes about as long as to read an entry of a list.
 const BYTES_OF_UNIT: usize = 2;
 
+/// The same for each unit of which a list was read again, by where its entries begin.
+#[derive(Drop)]
+pub struct Foresights {
+    units: BTreeMap<usize, Foresight>,
+}
+
 impl Foresight {
-    pub(crate) fn new() -> Foresight {
+    fn new() -> Foresight {
         Foresight { reread: 0, due: 0 }
     }
 
@@ -41,6 +48,31 @@ impl Foresight {
         }
         self.due = self.reread.saturating_mul(2);
         true
+    }
+}
+
+impl Foresights {
+    /// Of no units; takes no memory.
+    pub(crate) fn new(alloc: Global) -> Foresights {
+        Foresights {
+            units: BTreeMap::new(alloc),
+        }
+    }
+
+    /// Counts the entries of one list of a unit more that was read again. Gives how many were, if a look ahead is due.
+    fn count(
+        &mut self,
+        unit: &OpenUnit<'_, '_>,
+        entries: usize,
+    ) -> std::result::Result<Option<usize>, AllocError> {
+        let place = unit.sections.shift.wrapping_add(unit.header.entries);
+        let mut foresight = match self.units.get(&place) {
+            Some(foresight) => *foresight,
+            None => Foresight::new(),
+        };
+        let due = foresight.is_due(unit, entries);
+        self.units.insert(place, foresight)?;
+        Ok(if due { Some(foresight.reread) } else { None })
     }
 }
 
@@ -201,18 +233,19 @@ impl KeptLists {
     }
 
     /// Keeps of all lists that functions and calls of a unit name those whole that others begin within, so that these are found there
-    /// whichever is asked for first. They have no more entries together than were read again before.
+    /// whichever is asked for first. Of their entries no more are read than a number.
     fn foresee(
         &mut self,
         alloc: Global,
         unit: &OpenUnit<'_, '_>,
+        most: usize,
     ) -> std::result::Result<(), AllocError>
         requires opened { CanBeOpened unit.now }
         requires kept { AreKeptLists (open_view unit.now) self.old }
         ensures kept { AreKeptLists (open_view unit.now) self.new }
     {
         let offsets = lists_of_unit(alloc, unit)?;
-        let mut left = self.foresight.reread;
+        let mut left = most;
         let mut at = 0;
         while at < offsets.len() {
             let offset = offsets[at];
@@ -234,9 +267,9 @@ impl KeptLists {
         requires kept { AreKeptLists (open_view unit.now) self.old }
         ensures kept { AreKeptLists (open_view unit.now) self.new }
     {
-        if !self.foresight.is_due(unit, entries) {
-            return Ok(());
+        match self.foresights.count(unit, entries)? {
+            Some(most) => self.foresee(alloc, unit, most),
+            None => Ok(()),
         }
-        self.foresee(alloc, unit)
     }
 }

@@ -7,7 +7,7 @@ ghost use Rattle.blz_functions.specs.Opened.{open_view, CanBeOpened};
 ghost use Rattle.blz_functions.specs.Pieces.{AreNamed, list_at};
 ghost use Rattle.blz_functions.specs.WholeLists.{IsWhole, MayGiveTail};
 
-use crate::foreseen_lists::Foresight;
+use crate::foreseen_lists::Foresights;
 use crate::kept_ranges::KeptRanges;
 use crate::open_unit::OpenUnit;
 use crate::pieces::{Piece, gathered};
@@ -33,7 +33,7 @@ pub(crate) struct NamedList {
 pub struct KeptLists {
     named: BTreeMap<u64, NamedList>,
     contents: BTreeMap<Vec<Piece>, Option<Arc<KeptRanges>>>,
-    pub(crate) foresight: Foresight,
+    pub(crate) foresights: Foresights,
 }
 
 /// Reads a list. None where it has no value.
@@ -75,7 +75,7 @@ impl KeptLists {
         KeptLists {
             named: BTreeMap::new(alloc),
             contents: BTreeMap::new(alloc),
-            foresight: Foresight::new(),
+            foresights: Foresights::new(alloc),
         }
     }
 
