@@ -43,3 +43,4 @@ pub mod SettledDepths
 pub mod RenamedRanges
 pub mod CallsRead
 pub mod SettledFunctions
+pub mod KeptAlike

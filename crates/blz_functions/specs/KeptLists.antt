@@ -1,4 +1,4 @@
--- Lists of ranges that calls of a unit name, and what was gathered of several, for all functions of the unit.
+-- Lists of ranges that calls name, and what was gathered of several, for all functions of units that read lists alike.
 use Rattle.std.specs.Prelude.{◌≢◌, ℕ, List, Option, IfOk, IfSome, Result, MatchResult}
 use Rattle.std.specs.Arc.{arc_value}
 use Rattle.std.specs.BTreeMap.{get}

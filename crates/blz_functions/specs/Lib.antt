@@ -33,3 +33,4 @@ pub mod Settling
 pub mod KeptLists
 pub mod ReadCalls
 pub mod ReadFunctions
+pub mod ReadAlike

@@ -1,4 +1,4 @@
-//! Lists of ranges that inlined calls of a unit name again and again, kept once for all functions of the unit.
+//! Lists of ranges that inlined calls name again and again, kept once for all functions of units that read lists alike.
 ghost use Rattle.std.specs.Prelude.{IfSome};
 ghost use Rattle.blz_entry.specs.RangeTails.{list_tail};
 ghost use Rattle.blz_functions.specs.KeptLists.{AreKeptLists, GivesContent, IsKeptContent, IsNamedList, KeepsLists, MayGiveWhole, Names, TellsWithin};
@@ -77,6 +77,11 @@ impl KeptLists {
             contents: BTreeMap::new(alloc),
             foresights: Foresights::new(alloc),
         }
+    }
+
+    /// Whether nothing is kept.
+    pub fn is_empty(&self) -> bool {
+        self.named.is_empty() && self.contents.is_empty()
     }
 
     /// Where the named list begins that an offset may lie in, and whether it is kept whole.

@@ -1,0 +1,77 @@
+-- Lists that are kept for one unit are right for another one that reads lists alike.
+use Rattle.std.proofs.Common.{◌≡◌, ℕ, List, [], ◌∷◌, ◌++◌, Option, Some, None, refl, sym, ap, subst, ◌∙◌}
+use Rattle.std.specs.Arc.{arc_value}
+use Rattle.std.specs.BTreeMap.{get}
+use Rattle.std.specs.Ordering.{nat_cmp}
+use Rattle.std.specs.declared.alloc.Global.{Global}
+use Rattle.std.specs.declared.sync.Arc.{Arc}
+use Rattle.std.specs.declared.vec.Vec.{Vec}
+use Rattle.std.proofs.lemmas.List.Elements.{All-weaker}
+use Rattle.blz_entry.specs.declared.range_tail.RangeTail.{RangeTail}
+use Rattle.blz_ranges.specs.Owned.{Owned, own_all}
+use Rattle.blz_ranges.specs.declared.span.Span.{Span}
+use Rattle.blz_functions.specs.BestOwned.{AnswersAs}
+use Rattle.blz_functions.specs.KeptLists.{pieces_cmp, AreKeptLists, IsContent, IsKeptContent, IsNamedList}
+use Rattle.blz_functions.specs.Leaves.{UnitParts, spans_behind}
+use Rattle.blz_functions.specs.Pieces.{or_none, spans_named, told}
+use Rattle.blz_functions.specs.ReadAlike.{ReadAlike}
+use Rattle.blz_functions.specs.ReadLists.{IsFreeIn, IsUseAt}
+use Rattle.blz_functions.specs.WholeLists.{IsEntryIn, IsWhole}
+use Rattle.blz_functions.specs.declared.kept_lists.KeptLists.{KeptLists}
+use Rattle.blz_functions.specs.declared.kept_lists.NamedList.{NamedList}
+use Rattle.blz_functions.specs.declared.pieces.Named.{Named}
+use Rattle.blz_functions.specs.declared.pieces.Named.TheVariants.{Range, Listed}
+use Rattle.blz_functions.specs.declared.pieces.Piece.{Piece}
+use Rattle.blz_functions.specs.declared.read_lists.BaseUse.{BaseUse}
+use Rattle.blz_functions.specs.declared.read_lists.BaseUse.TheVariants.{MayCount, AsBehind, Unused}
+use Rattle.blz_functions.specs.declared.read_lists.PassedEntry.{PassedEntry}
+use Rattle.blz_functions.specs.declared.whole_list.WholeList.{WholeList}
+use Rattle.blz_functions.proofs.ReadLists.{if_mapped}
+
+alike_back : (u v : UnitParts) → ReadAlike u v → ReadAlike v u
+alike_back u v alike = record { spans = λ t. sym (alike.spans t); low = sym alike.low }
+
+free_alike : (u v : UnitParts) → ReadAlike u v → (place : ℕ) → IsFreeIn u place → IsFreeIn v place
+free_alike u v alike place free = λ base other. alike.spans (record { place = place; base = base }) ∙ (free base other ∙ sym (alike.spans (record { place = place; base = other })))
+
+use_alike : (u v : UnitParts) → ReadAlike u v → (place behind : ℕ) (use_of : BaseUse) → IsUseAt u place behind use_of → IsUseAt v place behind use_of
+use_alike u v alike place behind MayCount is = tt
+use_alike u v alike place behind AsBehind is = λ free. free_alike u v alike place (is (free_alike v u (alike_back u v alike) behind free))
+use_alike u v alike place behind Unused is = free_alike u v alike place is
+
+-- ---- what pieces tell
+
+named_alike : (u v : UnitParts) → ReadAlike u v → (named : Named) → spans_named v named ≡ spans_named u named
+named_alike u v alike (Range begin end) = refl
+named_alike u v alike (Listed offset) = alike.spans (record { place = offset; base = v.root.low_pc }) ∙ ap (λ (low : ℕ). spans_behind u (record { place = offset; base = low })) alike.low
+
+told_alike : (u v : UnitParts) → ReadAlike u v → (pieces : List Piece) → told v pieces ≡ told u pieces
+unfolding told
+told_alike u v alike [] = refl
+told_alike u v alike (p ∷ rest) =
+    ap (λ (o : Option (List Span)). own_all p.call (or_none o) ++ told v rest) (named_alike u v alike p.named)
+    ∙ ap (λ (behind : List (Owned Span)). own_all p.call (or_none (spans_named u p.named)) ++ behind) (told_alike u v alike rest)
+
+-- ---- what is kept
+
+module _ (u v : UnitParts) (alike : ReadAlike u v) where
+  entry_alike : (spans : List Span) (p : PassedEntry) → IsEntryIn u spans p → IsEntryIn v spans p
+  entry_alike spans p is = record { begins = alike.spans p.tail ∙ is.begins; base = use_alike u v alike p.tail.place p.behind p.base is.base }
+
+  whole_alike : (list : WholeList) → IsWhole u list → IsWhole v list
+  whole_alike list whole = All-weaker (IsEntryIn u list.ranges) (IsEntryIn v list.ranges) (entry_alike list.ranges) list.entries.items whole
+
+  list_alike : (list : NamedList) → IsNamedList u list → IsNamedList v list
+  list_alike list is = if_mapped list.whole (IsWhole u) (IsWhole v) whole_alike is
+
+  content_alike : (pieces : List Piece) (c : Arc (List (Owned Span)) Global) → IsContent u pieces c → IsContent v pieces c
+  content_alike pieces c is = subst (λ (ranges : List (Owned Span)). AnswersAs (arc_value c) ranges) (sym (told_alike u v alike pieces)) is
+
+  kept_content_alike : (pieces : Vec Piece Global) (kept : Option (Arc (List (Owned Span)) Global)) → IsKeptContent u pieces kept → IsKeptContent v pieces kept
+  kept_content_alike pieces kept is = if_mapped kept (IsContent u pieces.items) (IsContent v pieces.items) (content_alike pieces.items) is
+
+  pub kept_alike : (lists : KeptLists) → AreKeptLists u lists → AreKeptLists v lists
+  kept_alike lists are = record {
+    named = λ offset. if_mapped (get nat_cmp lists.named offset) (IsNamedList u) (IsNamedList v) list_alike (are.named offset);
+    contents = λ key. if_mapped (get pieces_cmp lists.contents key) (IsKeptContent u key) (IsKeptContent v key) (kept_content_alike key) (are.contents key);
+  }
