@@ -19,6 +19,7 @@ pub mod SharedPackage
 pub mod Shared
 pub mod SharedLines
 pub mod KeyOrder
+pub mod SameLists
 pub mod RootKeys
 pub mod Chained
 pub mod ChainPieces

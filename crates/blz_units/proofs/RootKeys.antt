@@ -1,10 +1,8 @@
 -- What the root of a unit announces depends on its key alone.
-use Rattle.std.proofs.Common.{◌≡◌, ℕ, zero, suc, ◌+◌, ◌<◌, List, [], ◌∷◌, ◌++◌, length, Option, Some, None, option_map, refl, sym, ap, ◌∙◌, arith}
-use Rattle.std.specs.Prelude.{◌==◌, if◌then◌else◌}
+use Rattle.std.proofs.Common.{◌≡◌, ℕ, ◌<◌, List, [], ◌∷◌, length, Option, Some, None, option_map, refl, sym, ap, ◌∙◌, arith}
 use Rattle.std.specs.Option.{option_to_list}
 use Rattle.blz_model.specs.Reads.{◌>>=◌}
-use Rattle.blz_entry.specs.AddressIndexes.{address_of}
-use Rattle.blz_entry.specs.RangeLists.{base_behind, base_of_index, begin_by_index, both_by_index, bounds_of, coded_entry, coded_entry_at, is_end, list_length, not_empty, range_entry_at, ranges_by, ranges_of, spans_from, spans_in, spelled}
+use Rattle.blz_entry.specs.RangeLists.{bounds_of, not_empty, ranges_by, ranges_of, spans_from}
 use Rattle.blz_entry.specs.RangeTails.{list_tail, tail_spans}
 use Rattle.blz_entry.specs.declared.range_tail.RangeTail.{RangeTail}
 use Rattle.blz_entry.specs.declared.root.UnitRoot.{UnitRoot}
@@ -21,42 +19,23 @@ use Rattle.blz_units.specs.declared.shared_lines.ProgramKey.{ProgramKey}
 use Rattle.blz_units.specs.declared.root_key.RangesKey.{RangesKey}
 use Rattle.blz_units.specs.declared.root_key.RangesKey.TheVariants.{Listed, Bounded, Unbounded}
 use Rattle.blz_units.specs.declared.root_key.RootKey.TheVariants.{ByRanges, ByLines}
-use Rattle.blz_units.proofs.Rooted.{bind_same}
+use Rattle.blz_units.proofs.SameLists.{tail_same}
 use Rattle.blz_units.proofs.SharedLines.{lines_same}
 
 -- ---- what is read by the key of a list
 
--- the list of a unit is read as with the other fields of another one
-module _ (s : Sections) (h g : UnitHeader) (r q : UnitRoot) where
-  header : UnitHeader
-  header = record g { version = h.version; address_size = h.address_size }
-
-  root : UnitRoot
-  root = record q { addr_base = r.addr_base }
-
-  spans_same : (n base : ℕ) (front : List Span) (at : ℕ) → spans_in s h r n base front at ≡ spans_in s header root n base front at
-  unfolding header root spans_in range_entry_at coded_entry_at coded_entry base_of_index both_by_index begin_by_index address_of
-  spans_same zero base front at = refl
-  spans_same (suc n) base front at =
-      ap (λ (o : Option (List Span)). if at == list_length s h then Some front else o)
-      (bind_same (range_entry_at s h r at) _ _ (λ e. ap (λ (o : Option (List Span)). if is_end e.0 then Some front else o) (spans_same n (base_behind base e.0) (front ++ option_to_list (spelled h.version h.address_size base e.0)) e.1)))
-
-  tail_same : (t : RangeTail) → h.version ≡ g.version → h.address_size ≡ g.address_size → r.addr_base ≡ q.addr_base → tail_spans s h r t ≡ tail_spans s g q t
-  unfolding header root tail_spans
-  tail_same t version size addr =
-      spans_same (list_length s h + 1) t.base [] t.place
-      ∙ (λ i. tail_spans s (record g { version = version i; address_size = size i }) (record q { addr_base = addr i }) t)
-
-  list_same : (offset : ℕ) → h.version ≡ g.version → h.address_size ≡ g.address_size → r.low_pc ≡ q.low_pc → r.addr_base ≡ q.addr_base → spans_from [] s h r offset ≡ spans_from [] s g q offset
-  unfolding spans_from tail_spans
-  list_same offset version size low addr =
-      tail_same (list_tail r offset) version size addr ∙ ap (λ (base : ℕ). tail_spans s g q (record { place = offset; base = base })) low
+list_same : (s : Sections) (h g : UnitHeader) (r q : UnitRoot) (offset : ℕ) → h.version ≡ g.version → h.address_size ≡ g.address_size → r.low_pc ≡ q.low_pc → r.addr_base ≡ q.addr_base → spans_from [] s h r offset ≡ spans_from [] s g q offset
+unfolding spans_from tail_spans
+list_same s h g r q offset version size low addr =
+    tail_same s s h g r q version size refl refl refl addr (list_tail r offset) ∙ ap (λ (base : ℕ). tail_spans s g q (record { place = offset; base = base })) low
 
 -- the list from an entry on is read by its key
 pub tails_same : (u v : UnitParts) (t : RangeTail) → v.sections ≡ u.sections → tail_key v t ≡ tail_key u t → spans_behind v t ≡ spans_behind u t
 tails_same u v t at key =
+    let version : v.header.version ≡ u.header.version = ap (λ (k : ListKey). k.version) key in
+    let size : v.header.address_size ≡ u.header.address_size = ap (λ (k : ListKey). k.address_size) key in
     ap (λ (s : FileSections). tail_spans (lying s) v.header v.root t) at
-    ∙ tail_same (lying u.sections) v.header u.header v.root u.root t (ap (λ (k : ListKey). k.version) key) (ap (λ (k : ListKey). k.address_size) key) (ap (λ (k : ListKey). k.addr_base) key)
+    ∙ tail_same (lying u.sections) (lying u.sections) v.header u.header v.root u.root version size refl refl refl (ap (λ (k : ListKey). k.addr_base) key) t
 
 -- ---- the ranges of a root
 
