@@ -52,6 +52,7 @@ cold_fits f t kept count sups c fits k s cold = record {
     kept = rw cold.kept_is fits;
     sups = record { all = all_cold f Sup t.sups c.built.sups.units.items (cold.sup_count ∙ s) cold.sups_empty; shared = cold.sups_share (side_sections f Sup); packed = nothing_shared f c.built.sups.packed cold.sups_packed cold.sups_rows };
     long = cold.long_seen f t;
+    lists = cold.lists_right f;
   };
   units = record { same = cold.unit_count ∙ k; each = λ n. unit_cold f t n (slice_get c.units.items n) (cold.units_empty n) };
 }

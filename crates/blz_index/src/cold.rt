@@ -10,6 +10,7 @@ use blz_units::built_unit::BuiltUnit;
 use blz_units::built_units::{BuiltUnits, SideUnits};
 use blz_units::caches::{Caches, UnitCaches};
 use blz_units::long_entries::LongEntries;
+use blz_units::shared_lists::SharedLists;
 use blz_units::shared_package::SharedPackage;
 use blz_units::shared_parts::SharedParts;
 use std::alloc::{AllocError, Global};
@@ -72,6 +73,7 @@ pub fn cold_caches(
         kept,
         sups,
         long: LongEntries::new(alloc),
+        lists: SharedLists::new(alloc),
     };
     Ok(Caches { built, units })
 }

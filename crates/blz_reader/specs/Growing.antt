@@ -20,7 +20,7 @@ Told = Option (List Key → List ℕ)
 
 -- Where the places are told, an order is accepted exactly where they pass the check.
 abbrev pub AreOrdered : Told → FunctionRanges → Type 0
-AreOrdered told x = IsAccepted told (map begin_key (items_of x.ranges)) x.ordered
+AreOrdered told x = IsAccepted told (map begin_key (items_of x.own)) x.ordered
 
 abbrev pub LinesOrdered : Told → Option OrderedLines → Type 0
 LinesOrdered told None = ⊤

@@ -26,7 +26,9 @@ use blz_units::built_unit::{BuiltUnit, may_be_split};
 use blz_units::built_units::{BuiltUnits, Side, SideUnits, look, put, take};
 use blz_units::dwarf::Origin;
 use blz_units::long_entries::LongEntries;
+use blz_units::shared_lists::SharedLists;
 use blz_units::shared_parts::SharedParts;
+use std::alloc::AllocError;
 use std::mem;
 
 impl<'r, 's, 'b> Reader<'r, 's, 'b> {
@@ -74,7 +76,31 @@ impl<'r, 's, 'b> Reader<'r, 's, 'b> {
             kept: SideUnits::new(self.alloc),
             sups: SideUnits::new(self.alloc),
             long: LongEntries::new(self.alloc),
+            lists: SharedLists::new(self.alloc),
         }
+    }
+
+    /// Takes out the lists of ranges that are kept for a unit.
+    fn take_lists(&self, built: &mut BuiltUnits, unit: &BuiltUnit) -> KeptLists
+        requires fits { BuiltFor self.now built.old }
+        ensures right { AreKeptLists (as_seen self.now unit.now) result }
+        ensures fits { BuiltFor self.now built.new }
+    {
+        built.lists.take(self.alloc, unit)
+    }
+
+    /// Puts the lists of a unit back.
+    fn put_lists(
+        &self,
+        built: &mut BuiltUnits,
+        unit: &BuiltUnit,
+        lists: KeptLists,
+    ) -> std::result::Result<(), AllocError>
+        requires fits { BuiltFor self.now built.old }
+        requires right { AreKeptLists (as_seen self.now unit.now) lists }
+        ensures { BuiltFor self.now built.new }
+    {
+        built.lists.put(unit, lists)
     }
 
     /// The functions of a unit that is built, which is none of those that are kept meanwhile.
@@ -83,19 +109,22 @@ impl<'r, 's, 'b> Reader<'r, 's, 'b> {
         built: &mut BuiltUnits,
         number: usize,
         unit: &BuiltUnit,
+        kept: &mut KeptLists,
     ) -> Result<FunctionLists>
         requires readable { IsReadable self.now.dwarf.now }
         requires fits { BuiltFor self.now built.old }
         requires unit { BuiltFits (reader_files self.now) unit.now }
+        requires kept { AreKeptLists (as_seen self.now unit.now) kept.old }
         requires is { as_read self.now read_unit number ≡ Some (as_seen self.now unit.now) }
         ensures value { Gives asked_of result (or_invalid (as_read self.now lists_in (as_seen self.now unit.now))) }
         ensures fits { BuiltFor self.now built.new }
+        ensures kept { AreKeptLists (as_seen self.now unit.now) kept.new }
     {
         let dwarf = lent(&*self.dwarf);
         let open = open_in(&*unit, &dwarf);
         let others = mem::replace(built, self.no_units());
         let mut links = References::new(self.alloc, dwarf, &*self.table, number, open, others);
-        let lists = FunctionLists::read(self.alloc, &open, &mut links);
+        let lists = FunctionLists::read(self.alloc, &open, &mut links, kept);
         *built = links.into_built();
         lists
     }
@@ -136,8 +165,11 @@ impl<'r, 's, 'b> Reader<'r, 's, 'b> {
         ensures fits { BuiltFor self.now built.new }
     {
         let unit = self.take_unit(built, number)?;
-        let lists = self.functions_of(built, number, &unit);
+        let mut kept = self.take_lists(built, &unit);
+        let lists = self.functions_of(built, number, &unit, &mut kept);
+        let put = self.put_lists(built, &unit, kept);
         self.put_unit(built, number, Cache::Value(unit));
+        put?;
         lists
     }
 
@@ -154,12 +186,13 @@ impl<'r, 's, 'b> Reader<'r, 's, 'b> {
         ensures value { Gives asked_calls result (or_invalid (as_read self.now place_calls number place)) }
         ensures fits { BuiltFor self.now built.new }
     {
-        let mut unit = self.take_unit(built, number)?;
-        let mut kept = mem::replace(&mut unit.lists, KeptLists::new(self.alloc));
-        let lists = self.calls_of(built, number, &unit, &mut kept, place);
-        unit.lists = kept;
+        let unit = self.take_unit(built, number)?;
+        let mut kept = self.take_lists(built, &unit);
+        let calls = self.calls_of(built, number, &unit, &mut kept, place);
+        let put = self.put_lists(built, &unit, kept);
         self.put_unit(built, number, Cache::Value(unit));
-        lists
+        put?;
+        calls
     }
 
     /// The root of a unit itself, which is not the one that its functions are read from.

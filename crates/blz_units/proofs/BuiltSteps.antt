@@ -109,5 +109,5 @@ pub none_built : (f : Files) (headers : List UnitHeader) (b : SideUnits) → hea
 none_built f headers b none empty shared packed rows = record { all = rw (none, empty) (nothing_built f); shared = shared f.main; packed = nothing_shared f b.packed packed rows }
 
 -- the kept units share more
-pub shared_again : (f : Files) (t : UnitTable) (old new : built.BuiltUnits) → new.kept.units ≡ old.kept.units → new.kept.packed ≡ old.kept.packed → new.sups ≡ old.sups → new.long ≡ old.long → AreShared f.main new.kept.shared → BuiltFit f t old → BuiltFit f t new
-shared_again f t old new units packed sups long shared fits = record { kept = side_same f t.kept old.kept new.kept units packed shared fits.kept; sups = rw sups fits.sups; long = rw long fits.long }
+pub shared_again : (f : Files) (t : UnitTable) (old new : built.BuiltUnits) → new.kept.units ≡ old.kept.units → new.kept.packed ≡ old.kept.packed → new.sups ≡ old.sups → new.long ≡ old.long → new.lists ≡ old.lists → AreShared f.main new.kept.shared → BuiltFit f t old → BuiltFit f t new
+shared_again f t old new units packed sups long lists shared fits = record { kept = side_same f t.kept old.kept new.kept units packed shared fits.kept; sups = rw sups fits.sups; long = rw long fits.long; lists = rw lists fits.lists }

@@ -4,11 +4,14 @@ use Rattle.std.specs.Ordering.{bool_cmp, nat_cmp, ordering_then}
 use Rattle.std.proofs.lemmas.Map.Lookups.{CmpEqualImpliesEq, exact_unsigned}
 use Rattle.blz_units.specs.RangeChains.{piece_cmp}
 use Rattle.blz_units.specs.RootKeys.{list_cmp, root_cmp}
+use Rattle.blz_units.specs.SharedLists.{key_cmp}
 use Rattle.blz_units.specs.Sharing.{program_cmp}
 use Rattle.blz_units.specs.contracts.root_key.RangesKeyOrd.TheImpl as ranges
 use Rattle.blz_units.specs.contracts.shared_lines.LinesKeyOrd.TheImpl as lines
+use Rattle.blz_units.specs.contracts.shared_lists.ListsPlaceOrd.TheImpl as places
 use Rattle.blz_units.specs.declared.root_key.RangesKey.TheVariants.{Listed, Bounded, Unbounded}
 use Rattle.blz_units.specs.declared.root_key.RootKey.TheVariants.{ByRanges, ByLines}
+use Rattle.blz_units.specs.declared.shared_lists.ListsPlace.TheVariants.{InFile, InPiece, InSup}
 
 both : (a b : Ordering) → ordering_then a b ≡ Equal → (a ≡ Equal) × (b ≡ Equal)
 both Less b e = absurd cc
@@ -52,6 +55,32 @@ exact_ranges (Bounded begin end) Unbounded e = absurd cc
 exact_ranges Unbounded (Listed y) e = absurd cc
 exact_ranges Unbounded (Bounded begin end) e = absurd cc
 exact_ranges Unbounded Unbounded e = refl
+
+-- ---- what the lists of a unit are read by
+
+exact_place : CmpEqualImpliesEq places.ghosts.cmp
+exact_place InFile InFile e = refl
+exact_place InFile (InPiece start len) e = absurd cc
+exact_place InFile InSup e = absurd cc
+exact_place (InPiece start len) InFile e = absurd cc
+exact_place (InPiece start len) (InPiece other last) e =
+    let first = number start other _ e in
+    let second = exact_unsigned len last first.1 in
+    λ i. InPiece (first.0 i) (second i)
+exact_place (InPiece start len) InSup e = absurd cc
+exact_place InSup InFile e = absurd cc
+exact_place InSup (InPiece start len) e = absurd cc
+exact_place InSup InSup e = refl
+
+pub exact_lists : CmpEqualImpliesEq key_cmp
+exact_lists x y e =
+    let first = both (places.ghosts.cmp x.place y.place) _ e in
+    let place = exact_place x.place y.place first.0 in
+    let version = number x.version y.version _ first.1 in
+    let size = number x.address_size y.address_size _ version.1 in
+    let low = number x.low_pc y.low_pc _ size.1 in
+    let base = exact_unsigned x.addr_base y.addr_base low.1 in
+    λ i. record { place = place i; version = version.0 i; address_size = size.0 i; low_pc = low.0 i; addr_base = base i }
 
 -- ---- a piece of a chain
 

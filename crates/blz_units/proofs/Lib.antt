@@ -24,3 +24,4 @@ pub mod RootKeys
 pub mod Chained
 pub mod ChainPieces
 pub mod RootTold
+pub mod SharedLists

@@ -25,7 +25,6 @@ use Rattle.blz_units.specs.declared.built_unit.BuiltUnit.{BuiltUnit}
 use Rattle.blz_units.specs.declared.dwarf.Dwarf.{Dwarf}
 use Rattle.blz_units.specs.declared.dwarf.Origin.{Origin}
 use Rattle.blz_units.specs.declared.dwarf.Origin.TheVariants.{Main, Split, Sup}
-use Rattle.blz_functions.specs.KeptLists.{AreKeptLists}
 use Rattle.blz_functions.specs.Leaves.{UnitParts, lying}
 
 -- the files that units are read from, without where they lie in memory
@@ -199,4 +198,3 @@ built_view f u = record { sections = sections_from f u.origin; header = u.header
 pub record BuiltFits (f : Files) (u : BuiltUnit) : Type 0 where
   pub inside : IsInside f.«package» u.origin
   pub ordered : u.header.entries ≤ u.header.end
-  pub lists : AreKeptLists (built_view f u) u.lists

@@ -31,6 +31,7 @@ use Rattle.blz_functions.specs.Leaves.{UnitParts}
 use Rattle.blz_functions.specs.FunctionRanges.{FunctionRanges, CallRanges}
 use Rattle.blz_units.specs.LongEntries.{seen_in}
 use Rattle.blz_units.specs.SharedPackage.{IsPackageShared}
+use Rattle.blz_units.specs.SharedLists.{AreSharedLists}
 use Rattle.blz_units.specs.Sharing.{AreShared}
 use Rattle.blz_units.specs.UnitAnswers.{main_unit, unit_functions, unit_lines, function_calls}
 use Rattle.blz_units.specs.UnitTables.{UnitTable}
@@ -105,11 +106,12 @@ IsSeen f t e = entry_of f t e.side e.number e.distance ≡ Some e.seen
 abbrev pub AreSeen : Files → UnitTable → LongEntries → Type 0
 AreSeen f t entries = (key : ℕ) → IfSome (get nat_cmp entries.kept key) (IsSeen f t)
 
--- the kept units, those of the supplementary file, and what their entries tell
+-- the kept units, those of the supplementary file, what their entries tell, and the lists that calls name
 pub record BuiltFit (f : Files) (t : UnitTable) (b : built.BuiltUnits) : Type 0 where
   pub kept : SideFits f File t.kept b.kept
   pub sups : SideFits f Sup t.sups b.sups
   pub long : AreSeen f t b.long
+  pub lists : AreSharedLists f b.lists
 
 abbrev pub caches_of : Side → built.BuiltUnits → List (Cache BuiltUnit)
 caches_of File b = b.kept.units.items

@@ -12,5 +12,6 @@ pub mod TableViews
 pub mod UnitAnswers
 pub mod UnitSites
 pub mod LongEntries
+pub mod SharedLists
 pub mod KeptParts
 pub mod KeptAnswers

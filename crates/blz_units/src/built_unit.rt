@@ -4,8 +4,7 @@ ghost use Rattle.blz_model.specs.Part.{Gives, Exactly};
 ghost use Rattle.blz_info.specs.Marks.{or_invalid};
 ghost use Rattle.blz_entry.specs.Roots.{root_of};
 ghost use Rattle.blz_units.specs.BuiltUnits.{built, built_view, first_unit, has_lines, has_id, not_empty, pieces_of, reading, rooted_on, sections_from, table_from, split_built, files_view, BuiltFits, IsInside, IsReadable};
-ghost use Rattle.blz_functions.specs.KeptLists.{AreKeptLists};
-ghost use Rattle.blz_functions.specs.Leaves.{UnitParts, lying};
+ghost use Rattle.blz_functions.specs.Leaves.{lying};
 ghost use Rattle.blz_units.specs.declared.dwarf.Origin.TheVariants.{Split};
 ghost use Rattle.blz_functions.specs.Opened.{open_view, CanBeOpened};
 ghost use Rattle.blz_units.specs.SharedPackage.{IsPackageShared};
@@ -18,7 +17,7 @@ use crate::shared_package::SharedPackage;
 use crate::shared_parts::SharedParts;
 use blz_entry::{Abbreviations, Sections, UnitHeader, UnitHeaders, UnitKind, UnitRoot, invalid};
 use blz_error::Result;
-use blz_functions::{KeptLists, OpenUnit};
+use blz_functions::OpenUnit;
 use blz_split::SplitUnit;
 use std::alloc::Global;
 
@@ -30,8 +29,6 @@ pub struct BuiltUnit {
     pub abbreviations: Abbreviations,
     pub root: UnitRoot,
     pub origin: Origin,
-    /// Its lists of ranges that calls of its functions name again and again.
-    pub lists: KeptLists,
 }
 
 /// Whether a unit has an id, by which a package may have its split unit.
@@ -161,7 +158,6 @@ impl BuiltUnit {
             abbreviations,
             root,
             origin,
-            lists: KeptLists::new(alloc),
         })
     }
 
@@ -190,21 +186,15 @@ impl BuiltUnit {
     }
 
     /// The unit with addresses and ranges that count from those of its main unit.
-    fn based_on(self, alloc: Global, main: &UnitRoot) -> BuiltUnit
-        ensures root { result ≡ record self { root = rooted_on main.now self.root; lists = result.lists } }
-        ensures lists { (u : UnitParts) → AreKeptLists u result.lists }
+    fn based_on(self, main: &UnitRoot) -> BuiltUnit
+        ensures { result ≡ record self { root = rooted_on main.now self.root } }
     {
         let root = UnitRoot {
             addr_base: main.addr_base,
             low_pc: main.low_pc,
             ..self.root
         };
-        let lists = KeptLists::new(alloc);
-        BuiltUnit {
-            root,
-            lists,
-            ..self
-        }
+        BuiltUnit { root, ..self }
     }
 
     /// Builds a unit of some pieces of the package. Its line program is one of the main file.
@@ -252,7 +242,7 @@ impl BuiltUnit {
     {
         let header = first_header(&dwarf.sections(&Origin::Split(pieces)))?;
         let unit = BuiltUnit::of_package(alloc, dwarf, headers, packed, pieces, &header)?;
-        Ok(unit.based_on(alloc, main))
+        Ok(unit.based_on(main))
     }
 
     /// The unit from which the functions of a unit of the main file are read: the split unit of its id where the package

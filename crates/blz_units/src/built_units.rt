@@ -16,6 +16,7 @@ ghost use Rattle.blz_info.specs.FileSections.{FileSections};
 use crate::built_unit::BuiltUnit;
 use crate::dwarf::Dwarf;
 use crate::long_entries::LongEntries;
+use crate::shared_lists::SharedLists;
 use crate::shared_package::SharedPackage;
 use crate::shared_parts::SharedParts;
 use crate::unit_list::UnitList;
@@ -51,6 +52,8 @@ pub struct BuiltUnits {
     pub sups: SideUnits,
     /// What their entries with very many attributes told.
     pub long: LongEntries,
+    /// Their lists of ranges that functions and calls name again and again.
+    pub lists: SharedLists,
 }
 
 impl Side {

@@ -19,6 +19,7 @@ mod passed_list;
 mod range_chains;
 mod root_key;
 mod shared_lines;
+pub mod shared_lists;
 pub mod shared_package;
 pub mod shared_parts;
 mod shared_tables;

@@ -1,5 +1,7 @@
-use Rattle.std.proofs.Common.{◌≡◌}
+use Rattle.std.proofs.Common.{◌≡◌, subst, sym}
 use Rattle.blz_units.specs.BuiltUnits.{built_view}
+use Rattle.blz_functions.specs.KeptLists.{AreKeptLists}
+use Rattle.blz_functions.specs.Leaves.{UnitParts}
 use Rattle.blz_functions.specs.Opened.{open_view}
 use Rattle.blz_functions.specs.SearchedFunctions.{asked_of}
 use Rattle.blz_units.specs.UnitAnswers.{read_unit}
@@ -21,3 +23,13 @@ returns-clause-fits c =
 pub new-links-requires-clause-is : goal.new-links-requires-clause-is
 unfolding read_unit
 new-links-requires-clause-is c = rw (c.open_in-open.ensures.view, c.lent-dwarf.ensures) c.requires.is
+
+pub read-lists-requires-clause-kept : goal.read-lists-requires-clause-kept
+read-lists-requires-clause-kept c =
+    let same : open_view c.open_in-open.result ≡ built_view (reader_files c.args.self.now) c.args.unit.now = rw c.lent-dwarf.ensures at c.open_in-open.ensures.view in
+    subst (λ (u : UnitParts). AreKeptLists u c.args.kept.now) (sym same) c.requires.kept
+
+pub returns-clause-kept : goal.returns-clause-kept
+returns-clause-kept c =
+    let same : open_view c.open_in-open.result ≡ built_view (reader_files c.args.self.now) c.args.unit.now = rw c.lent-dwarf.ensures at c.open_in-open.ensures.view in
+    subst (λ (u : UnitParts). AreKeptLists u c.read-lists.new.kept) same c.read-lists.ensures.kept
