@@ -309,6 +309,19 @@ def one_list_of_offsets_of_functions_each_behind_its_base(n):
 
 
 @shape
+def tails_of_a_range_list_of_calls_that_share_addresses_the_shortest_first(n):
+    lists = [offset_pair(1, 0x10000 - k) for k in range(n)]
+    return calls_of_tails(b"".join(lists), list(reversed(begins_of(lists))), 1)
+
+
+@shape
+def tails_of_a_range_list_of_calls_that_are_ranges_within_one_another(n):
+    # the innermost is the first of each list, so an address that is asked has another best range in each
+    lists = [offset_pair(n - k, n + k + 1) for k in range(n)]
+    return calls_of_tails(b"".join(lists), begins_of(lists), 1)
+
+
+@shape
 def tails_of_a_range_list_of_calls_within_one_another(n):
     lists = pairs_of_a_size(n)
     return calls_of_tails(b"".join(lists), begins_of(lists), 1)
@@ -368,3 +381,46 @@ def one_range_list_of_a_function_of_each_unit(n):
     begins = [BASE + 4 * k for k in range(n)]
     units = [unit(entry(shapes, ROOT, begin, 4) + entry(shapes, FUNCTION, first) + b"\0") for begin in begins]
     return Attack(dwarf(shapes, b"".join(units), rnglists=data), begins)
+
+
+def asked_units(n, below, lists):
+    """Units without a base of their own, each asked once, that have what is made of the address and a number."""
+    rows = set_address(BASE) + SET_FILE_0 + COPY + advance(4 * n) + END_SEQUENCE
+    shapes = {ROOT: root([LINES], 1), OUTER: subprogram(RANGE, 1), FUNCTION: subprogram(RANGES),
+              CALL: Abbreviation(DW_TAG_INLINED_SUBROUTINE, 0, RANGES)}
+    data, first = range_lists(lists + b"\0")
+    begins = [BASE + 4 * k for k in range(n)]
+    units = [unit(entry(shapes, ROOT, 0) + below(shapes, first, begin, k) + b"\0") for k, begin in enumerate(begins)]
+    places = begins_of(units)
+    sets = [announced(place, [(begin, 4)]) for place, begin in zip(places, begins)]
+    return Attack(dwarf(shapes, b"".join(units), rnglists=data, aranges=b"".join(sets), line=plain_program(rows)), begins)
+
+
+@shape
+def one_range_list_of_a_function_of_each_unit_without_a_base(n):
+    return asked_units(n, lambda shapes, first, begin, k: entry(shapes, FUNCTION, first), pairs(n))
+
+
+@shape
+def one_range_list_of_a_call_of_each_unit_without_a_base(n):
+    def below(shapes, first, begin, k):
+        return entry(shapes, OUTER, begin, 4) + entry(shapes, CALL, first) + b"\0"
+
+    return asked_units(n, below, pairs(n))
+
+
+@shape
+def tails_of_a_range_list_of_a_function_of_each_unit_without_a_base(n):
+    lists = pairs_of_a_size(n)
+    begins = begins_of(lists)
+    return asked_units(n, lambda shapes, first, begin, k: entry(shapes, FUNCTION, first + begins[k]), b"".join(lists))
+
+
+@shape
+def two_range_lists_of_functions_of_each_unit_without_a_base(n):
+    one = pairs(n) + b"\0"
+
+    def below(shapes, first, begin, k):
+        return entry(shapes, FUNCTION, first) + entry(shapes, FUNCTION, first + len(one))
+
+    return asked_units(n, below, one + pairs(n))
