@@ -424,3 +424,18 @@ def two_range_lists_of_functions_of_each_unit_without_a_base(n):
         return entry(shapes, FUNCTION, first) + entry(shapes, FUNCTION, first + len(one))
 
     return asked_units(n, below, one + pairs(n))
+
+
+@shape
+def one_range_list_beside_a_range_of_each_unit_without_a_base(n):
+    def below(shapes, first, begin, k):
+        return entry(shapes, OUTER, begin, 1) + b"\0" + entry(shapes, FUNCTION, first)
+
+    return asked_units(n, below, pairs(n))
+
+
+@shape
+def tails_of_a_range_list_of_a_function_of_each_unit_without_a_base_the_shortest_first(n):
+    lists = pairs_of_a_size(n)
+    begins = begins_of(lists)
+    return asked_units(n, lambda shapes, first, begin, k: entry(shapes, FUNCTION, first + begins[n - 1 - k]), b"".join(lists))
