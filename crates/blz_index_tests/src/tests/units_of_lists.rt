@@ -1,4 +1,4 @@
-//! Units whose roots name lists of ranges that begin within one another.
+//! Units whose roots, or whose functions, name lists of ranges that begin within one another.
 
 use super::questions::functions_at;
 use super::small::Parts;
@@ -32,15 +32,28 @@ const SHORTEST_FIRST: &[u8] = b"\x1b\0\0\0\x05\0\x01\x08\0\0\0\0\
       \x1b\0\0\0\x05\0\x01\x08\0\0\0\0\
       \x01\0\0\0\0\x02\x01\0\0\0\0\0\0\0\x01\0\0\0\0";
 
+// a unit with children and addresses; a function with a list of ranges
+const OF_FUNCTIONS: &[u8] = b"\x01\x11\x01\x11\x01\x12\x06\0\0\x02.\0\x55\x17\0\0\0";
+
+// units of the addresses from 0x100, 0x200 and 0x300 on, each with one function: of all ten ranges, counted from there, twice,
+// and of those from the fourth on
+const ALIKE: &[u8] = b"\x1b\0\0\0\x05\0\x01\x08\0\0\0\0\
+      \x01\0\x01\0\0\0\0\0\0\x20\0\0\0\x02\0\0\0\0\0\
+      \x1b\0\0\0\x05\0\x01\x08\0\0\0\0\
+      \x01\0\x02\0\0\0\0\0\0\x20\0\0\0\x02\0\0\0\0\0\
+      \x1b\0\0\0\x05\0\x01\x08\0\0\0\0\
+      \x01\0\x03\0\0\0\0\0\0\x20\0\0\0\x02\x09\0\0\0\0";
+
 // the units of the functions of some addresses
 fn units_at(
     alloc: Global,
+    abbrev: &[u8],
     info: &[u8],
     addresses: [u64; 3],
 ) -> blz_error::Result<[Option<usize>; 3]> {
     let parts = Parts {
         info,
-        abbrev: ABBREV,
+        abbrev,
         aranges: &[],
         rnglists: LIST,
     };
@@ -61,11 +74,24 @@ fn unit_of(found: super::questions::Found) -> Option<usize> {
 #[test]
 fn a_unit_announces_what_a_longer_list_ends_with(rt: HostRuntime) -> Result<(), Fail> {
     let mut checks = Checks::new();
-    let longest_first = units_at(rt.alloc(), LONGEST_FIRST, [1, 7, 0x13]);
+    let longest_first = units_at(rt.alloc(), ABBREV, LONGEST_FIRST, [1, 7, 0x13]);
     checks.gives(longest_first, [Some(0), Some(1), Some(2)]);
-    let shortest_first = units_at(rt.alloc(), SHORTEST_FIRST, [1, 7, 0x13]);
+    let shortest_first = units_at(rt.alloc(), ABBREV, SHORTEST_FIRST, [1, 7, 0x13]);
     checks.gives(shortest_first, [Some(2), Some(1), Some(0)]);
-    let of_none = units_at(rt.alloc(), LONGEST_FIRST, [3, 6, 0x15]);
+    let of_none = units_at(rt.alloc(), ABBREV, LONGEST_FIRST, [3, 6, 0x15]);
+    checks.gives(of_none, [None, None, None]);
+    checks.result()
+}
+
+// the offsets of a list count from the low address of the unit that names it
+#[test]
+fn functions_of_several_units_have_the_ranges_of_one_list(rt: HostRuntime) -> Result<(), Fail> {
+    let mut checks = Checks::new();
+    let first = units_at(rt.alloc(), OF_FUNCTIONS, ALIKE, [0x101, 0x201, 0x307]);
+    checks.gives(first, [Some(0), Some(1), Some(2)]);
+    let last = units_at(rt.alloc(), OF_FUNCTIONS, ALIKE, [0x313, 0x213, 0x113]);
+    checks.gives(last, [Some(2), Some(1), Some(0)]);
+    let of_none = units_at(rt.alloc(), OF_FUNCTIONS, ALIKE, [0x102, 0x214, 0x301]);
     checks.gives(of_none, [None, None, None]);
     checks.result()
 }
