@@ -14,24 +14,24 @@ use Rattle.blz_info.specs.declared.section.Sections.{Sections}
 use Rattle.blz_info.specs.declared.units.UnitHeader.{UnitHeader}
 use Rattle.blz_ranges.specs.declared.span.Span.{Span}
 
-abbrev at_base : ℕ → ℕ → RangeTail
+abbrev pub at_base : ℕ → ℕ → RangeTail
 at_base place base = record { place = place; base = base }
 
-abbrev leads_to : UnitHeader → ℕ → RangeEntry → ℕ → Option Span × RangeTail
+abbrev pub leads_to : UnitHeader → ℕ → RangeEntry → ℕ → Option Span × RangeTail
 leads_to h base e next = (spelled h.version h.address_size base e, at_base next (base_behind base e))
 
 -- An entry that leads on lies at the place of a list, whatever offsets are added to.
-record IsEntryAt (s : Sections) (h : UnitHeader) (root : UnitRoot) (place base : ℕ) (next : Option Span × RangeTail) : Type 0 where
-  e : RangeEntry × ℕ
-  is : range_entry_at s h root place ≡ Some e
-  leads : next ≡ leads_to h base e.0 e.1
-  elsewhere : (other : ℕ) → tail_step s h root (at_base place other) ≡ Some (Some (leads_to h other e.0 e.1))
+pub record IsEntryAt (s : Sections) (h : UnitHeader) (root : UnitRoot) (place base : ℕ) (next : Option Span × RangeTail) : Type 0 where
+  pub e : RangeEntry × ℕ
+  pub is : range_entry_at s h root place ≡ Some e
+  pub leads : next ≡ leads_to h base e.0 e.1
+  pub elsewhere : (other : ℕ) → tail_step s h root (at_base place other) ≡ Some (Some (leads_to h other e.0 e.1))
 
 abbrev or_other : Option Span × RangeTail → Option (Option Span × RangeTail) → Option Span × RangeTail
 or_other other None = other
 or_other other (Some n) = n
 
-entry_told : (s : Sections) (h : UnitHeader) (root : UnitRoot) (place base : ℕ) (next : Option Span × RangeTail) → tail_step s h root (at_base place base) ≡ Some (Some next) → IsEntryAt s h root place base next
+pub entry_told : (s : Sections) (h : UnitHeader) (root : UnitRoot) (place base : ℕ) (next : Option Span × RangeTail) → tail_step s h root (at_base place base) ≡ Some (Some next) → IsEntryAt s h root place base next
 unfolding tail_step
 entry_told s h root place base next told = elim (cases_Bool (eqb place (list_length s h))) [
   | inl here ↦ let k = rw here at told in absurd cc
@@ -52,7 +52,7 @@ entry_told s h root place base next told = elim (cases_Bool (eqb place (list_len
     found (Some e) is led there = on e (is_end e.0) refl is (let k : tail_behind h (at_base place base) e ≡ Some next = cc in k) there
 
 -- the ranges of a list by its first entry
-by_entry : (s : Sections) (h : UnitHeader) (root : UnitRoot) (place base other : ℕ) (next : Option Span × RangeTail) → (k : IsEntryAt s h root place base next)
+pub by_entry : (s : Sections) (h : UnitHeader) (root : UnitRoot) (place base other : ℕ) (next : Option Span × RangeTail) → (k : IsEntryAt s h root place base next)
     → tail_spans s h root (at_base place other) ≡ joined (option_to_list (spelled h.version h.address_size other k.e.0)) (tail_spans s h root (at_base k.e.1 (base_behind other k.e.0)))
 by_entry s h root place base other next k = tail_more s h root (at_base place other) _ _ (k.elsewhere other)
 

@@ -1,5 +1,6 @@
 pub mod RangeSteps
 pub mod FreeTails
+pub mod RelativeTails
 pub mod Settled
 pub mod FoldSteps
 pub mod RangesSettled

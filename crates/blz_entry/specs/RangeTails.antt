@@ -1,7 +1,7 @@
 -- Lists of ranges, entry by entry.
-use Rattle.std.specs.Prelude.{◌≡◌, ℕ, ◌+◌, Bool, false, List, [], Option, Some, None, ◌==◌, if◌then◌else◌}
+use Rattle.std.specs.Prelude.{◌≡◌, ℕ, ◌+◌, ◌<◌, ◌≤◌, Bool, false, List, [], ◌∷◌, Option, Some, None, ◌==◌, if◌then◌else◌, map}
 use Rattle.blz_model.specs.Reads.{Read, ◌>>=◌}
-use Rattle.blz_entry.specs.RangeLists.{base_behind, counts_from_base, is_end, list_length, range_entry_at, spans_in, spelled}
+use Rattle.blz_entry.specs.RangeLists.{base_behind, counts_from_base, greatest, is_end, list_length, range_entry_at, spans_in, spelled}
 use Rattle.blz_entry.specs.declared.range_list.RangeEntry.{RangeEntry}
 use Rattle.blz_entry.specs.declared.range_tail.RangeTail.{RangeTail}
 use Rattle.blz_entry.specs.declared.root.UnitRoot.{UnitRoot}
@@ -38,3 +38,21 @@ entry_counts s h root place = if_it_counts (range_entry_at s h root place)
 abbrev pub IsFree : Sections → UnitHeader → UnitRoot → ℕ → Type 0
 IsFree s h root place = (base other : ℕ)
     → tail_spans s h root (record { place = place; base = base }) ≡ tail_spans s h root (record { place = place; base = other })
+
+-- ---- lists that count from the base throughout
+
+-- a range whose addresses are so much greater
+abbrev pub moved : ℕ → Span → Span
+moved by s = record { begin = by + s.begin; end = by + s.end }
+
+-- No range ends behind an address.
+abbrev pub EndUpTo : ℕ → List Span → Type 0
+EndUpTo most [] = Unit {0}
+EndUpTo most (s ∷ rest) = (s.end ≤ most) × EndUpTo most rest
+
+-- The list from a place on has some ranges where they count from 0, and the same where they count from another base, all
+-- moved by it, as long as they stay below the greatest address.
+pub record IsRelative (s : Sections) (h : UnitHeader) (root : UnitRoot) (place : ℕ) (spans : List Span) : Type 0 where
+  pub from_zero : tail_spans s h root (record { place = place; base = 0 }) ≡ Some spans
+  pub from_base : (base most : ℕ) → EndUpTo most spans → base + most < greatest h.address_size
+      → tail_spans s h root (record { place = place; base = base }) ≡ Some (map (moved base) spans)
