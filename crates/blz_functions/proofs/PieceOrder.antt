@@ -24,9 +24,12 @@ exact_named (Range begin end) (Range other last) e =
     let first = number begin other _ e in
     let second = exact_unsigned end last first.1 in
     λ i. Range (first.0 i) (second i)
-exact_named (Range begin end) (Listed offset) e = absurd cc
-exact_named (Listed offset) (Range begin end) e = absurd cc
-exact_named (Listed offset) (Listed other) e = ap Listed (exact_unsigned offset other e)
+exact_named (Range begin end) (Listed place base) e = absurd cc
+exact_named (Listed place base) (Range begin end) e = absurd cc
+exact_named (Listed place base) (Listed other zero) e =
+    let first = number place other _ e in
+    let second = exact_unsigned base zero first.1 in
+    λ i. Listed (first.0 i) (second i)
 
 exact_piece : CmpEqualImpliesEq piece_cmp
 exact_piece x y e =

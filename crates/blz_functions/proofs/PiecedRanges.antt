@@ -10,8 +10,9 @@ use Rattle.blz_ranges.specs.declared.span.Span.{Span}
 use Rattle.blz_ranges.specs.Owned.{Owned, own_all}
 use Rattle.blz_functions.specs.Chain.{call_range}
 use Rattle.blz_functions.specs.DepthRanges.{AddsPieces, AddsToList, AreOfCalls, PutsRanges, of_depth, pieces_at, ranges_view}
-use Rattle.blz_functions.specs.Leaves.{UnitParts}
-use Rattle.blz_functions.specs.Pieces.{AreNamed, HasCount, list_at, or_none, ranges_of_call, told}
+use Rattle.blz_entry.specs.declared.range_tail.RangeTail.{RangeTail}
+use Rattle.blz_functions.specs.Leaves.{UnitParts, spans_behind}
+use Rattle.blz_functions.specs.Pieces.{AreNamed, HasCount, or_none, ranges_of_call, told}
 use Rattle.blz_functions.specs.ReadLists.{AppendsFew}
 use Rattle.blz_functions.specs.declared.depth_ranges.DepthCall.{DepthCall}
 use Rattle.blz_functions.specs.declared.depth_ranges.DepthRanges.{DepthRanges}
@@ -73,11 +74,11 @@ module _ (u : UnitParts) (old new : DepthRanges) (all : List (Owned Grouped)) (a
   of_one_more spans le (inl adds) = in_list spans le adds
   of_one_more spans le (inr adds) = of_pieces spans (ranges_of_call at.call spans) le adds (told_ranges u at.call spans) (ranges_named u at.call spans)
 
-  pub of_list : (offset count : ℕ) (named : HasCount (list_at u offset) count) → new.count ≤ old.count + count → AddsPieces old new at.depth (record { call = at.call; named = Listed offset } ∷ []) → AreOfCalls u (ranges_view new) (all ++ map (call_range at.depth at.call) named.spans)
+  pub of_list : (list : RangeTail) (count : ℕ) (named : HasCount (spans_behind u list) count) → new.count ≤ old.count + count → AddsPieces old new at.depth (record { call = at.call; named = Listed list.place list.base } ∷ []) → AreOfCalls u (ranges_view new) (all ++ map (call_range at.depth at.call) named.spans)
   unfolding told
-  of_list offset count named le adds =
-      let p : Piece = record { call = at.call; named = Listed offset } in
-      of_pieces named.spans (p ∷ []) (omega (arith, le, named.counted)) adds (append-nil (own_all at.call (or_none (list_at u offset))) ∙ ap (λ (o : Option (List Span)). own_all at.call (or_none o)) named.is) (record { spans = named.spans; is = named.is }, tt)
+  of_list list count named le adds =
+      let p : Piece = record { call = at.call; named = Listed list.place list.base } in
+      of_pieces named.spans (p ∷ []) (omega (arith, le, named.counted)) adds (append-nil (own_all at.call (or_none (spans_behind u list))) ∙ ap (λ (o : Option (List Span)). own_all at.call (or_none o)) named.is) (record { spans = named.spans; is = named.is }, tt)
 
 -- a list of few entries
 pub record FewTold (o : Option (List Span)) (old new : List Span) : Type 0 where

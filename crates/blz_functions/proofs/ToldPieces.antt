@@ -9,8 +9,8 @@ use Rattle.std.proofs.lemmas.List.{append-nil}
 use Rattle.blz_ranges.specs.declared.span.Span.{Span}
 use Rattle.blz_ranges.specs.Owned.{Owned, own_all}
 use Rattle.blz_functions.specs.DepthRanges.{HasPieces, has_pieces, pieces_at}
-use Rattle.blz_functions.specs.Leaves.{UnitParts}
-use Rattle.blz_functions.specs.Pieces.{AreNamed, AreOwned, list_at, or_none, range_piece, ranges_of_call, spans_named, told, told_by}
+use Rattle.blz_functions.specs.Leaves.{UnitParts, spans_behind}
+use Rattle.blz_functions.specs.Pieces.{AreNamed, AreOwned, or_none, range_piece, ranges_of_call, spans_named, told, told_by}
 use Rattle.blz_functions.specs.declared.pieces.Named.{Named}
 use Rattle.blz_functions.specs.declared.pieces.Named.TheVariants.{Listed}
 use Rattle.blz_functions.specs.declared.pieces.Piece.{Piece}
@@ -29,9 +29,9 @@ told_ranges u call [] = refl
 told_ranges u call (s ∷ rest) = ap (λ (l : List (Owned Span)). record { item = s; owner = call } ∷ l) (told_ranges u call rest)
 
 -- a list
-pub told_list : (u : UnitParts) (p : Piece) (offset : ℕ) (spans : List Span) → p.named ≡ Listed offset → list_at u offset ≡ Some spans → told u (p ∷ []) ≡ own_all p.call spans
+pub told_list : (u : UnitParts) (p : Piece) (place base : ℕ) (spans : List Span) → p.named ≡ Listed place base → spans_behind u (record { place = place; base = base }) ≡ Some spans → told u (p ∷ []) ≡ own_all p.call spans
 unfolding told
-told_list u p offset spans named is =
+told_list u p place base spans named is =
     append-nil (told_by u p) ∙ (ap (λ (n : Named). own_all p.call (or_none (spans_named u n))) named ∙ ap (λ (o : Option (List Span)). own_all p.call (or_none o)) is)
 
 pub ranges_named : (u : UnitParts) (call : ℕ) (spans : List Span) → AreNamed u (ranges_of_call call spans)

@@ -15,7 +15,7 @@ list_at u offset = spans_behind u (list_tail u.root offset)
 
 abbrev pub spans_named : UnitParts → Named → Option (List Span)
 spans_named u (Range begin end) = Some (record { begin = begin; end = end } ∷ [])
-spans_named u (Listed offset) = list_at u offset
+spans_named u (Listed place base) = spans_behind u (record { place = place; base = base })
 
 abbrev pub or_none : Option (List Span) → List Span
 or_none None = []

@@ -13,7 +13,7 @@ use crate::kept_lists::KeptLists;
 use crate::open_unit::OpenUnit;
 use crate::pieces::{Named, Piece};
 use crate::read_lists::append_few;
-use blz_entry::{RangeAttributes, Span};
+use blz_entry::{RangeAttributes, RangeTail, Span};
 use blz_error::Result;
 use blz_ranges::{Grouped, own};
 use std::alloc::{AllocError, Global};
@@ -110,16 +110,16 @@ impl DepthRanges {
     fn put_list(
         &mut self,
         at: DepthCall,
-        offset: u64,
+        list: RangeTail,
         count: usize,
     ) -> std::result::Result<(), AllocError>
-        ensures pieces { OnOk result (AddsPieces self.old self.new at.depth (record { call = at.call; named = Listed offset } ∷ [])) }
+        ensures pieces { OnOk result (AddsPieces self.old self.new at.depth (record { call = at.call; named = Listed list.place list.base } ∷ [])) }
         ensures count { OnOk result (self.new.count ≤ self.old.count + count) }
     {
         self.count = self.count.saturating_add(count);
         reach(self.alloc, &mut self.pieces, at.depth)?;
         let call = at.call;
-        let named = Named::Listed(offset);
+        let named = Named::Listed(list.place, list.base);
         self.pieces[at.depth].push(Piece { call, named })?;
         Ok(())
     }
@@ -167,7 +167,7 @@ impl DepthRanges {
             return Ok(());
         }
         let count = kept.name(self.alloc, unit, offset)?;
-        self.put_list(at, offset, count)?;
+        self.put_list(at, unit.ranges_at(offset), count)?;
         Ok(())
     }
 }

@@ -10,6 +10,7 @@ use crate::layer::{Layer, SharedContent};
 use crate::open_unit::OpenUnit;
 use crate::parts::is_kept;
 use crate::pieces::{Named, Piece};
+use blz_entry::RangeTail;
 use blz_error::Result;
 use std::alloc::{AllocError, Global};
 
@@ -52,10 +53,10 @@ fn tail_layer(
     ensures layer { IfOk result (λ o. IfSome o (IsLayerAs (open_view unit.now) (piece ∷ []))) }
     ensures kept { AreKeptLists (open_view unit.now) kept.new }
 {
-    let Named::Listed(offset) = piece.named else {
+    let Named::Listed(place, base) = piece.named else {
         return Ok(None);
     };
-    match kept.tail(alloc, unit, offset)? {
+    match kept.tail(alloc, unit, RangeTail { place, base })? {
         Some(tail) => Ok(Some(Layer::Tail(piece.call, tail))),
         None => Ok(None),
     }

@@ -1,6 +1,5 @@
 //! Lists of ranges that inlined calls name again and again, kept once for all functions of units that read lists alike.
 ghost use Rattle.std.specs.Prelude.{IfSome};
-ghost use Rattle.blz_entry.specs.RangeTails.{list_tail};
 ghost use Rattle.blz_functions.specs.KeptLists.{AreKeptLists, GivesContent, IsKeptContent, IsNamedList, KeepsLists, MayGiveWhole, Names, TellsWithin};
 ghost use Rattle.blz_functions.specs.Leaves.{UnitParts};
 ghost use Rattle.blz_functions.specs.Opened.{open_view, CanBeOpened};
@@ -234,15 +233,16 @@ impl KeptLists {
         &mut self,
         alloc: Global,
         unit: &OpenUnit<'_, '_>,
-        offset: u64,
+        list: RangeTail,
     ) -> std::result::Result<Option<SharedTail>, AllocError>
         requires kept { AreKeptLists (open_view unit.now) self.old }
-        ensures value { MayGiveTail (open_view unit.now) (list_tail unit.now.root offset) result }
+        ensures value { MayGiveTail (open_view unit.now) list result }
         ensures kept { AreKeptLists (open_view unit.now) self.new }
     {
+        let offset = list.place as u64;
         match self.around(offset) {
             Some((start, whole)) if whole || start < offset => {
-                let tail = first_telling(unit, unit.ranges_at(offset));
+                let tail = first_telling(unit, list);
                 self.tail_of(alloc, unit, start, tail)
             }
             _ => Ok(None),

@@ -20,7 +20,7 @@ pub struct Parts {
 /// Whether a list is kept: else it is named for the first time, or a range is.
 pub(crate) fn is_kept(kept: &KeptLists, named: Named) -> bool {
     match named {
-        Named::Listed(offset) => kept.is_kept(offset),
+        Named::Listed(place, _) => kept.is_kept(place as u64),
         Named::Range(..) => false,
     }
 }

@@ -9,7 +9,7 @@ ghost use Rattle.blz_ranges.specs.Owned.{owned};
 
 use crate::open_unit::OpenUnit;
 use crate::read_lists::ReadLists;
-use blz_entry::Span;
+use blz_entry::{RangeTail, Span};
 use blz_error::Result;
 use blz_ranges::own;
 use std::alloc::{AllocError, Global};
@@ -19,8 +19,8 @@ use std::alloc::{AllocError, Global};
 pub enum Named {
     /// A range of its own: where it begins and ends.
     Range(u64, u64),
-    /// The list of ranges at an offset.
-    Listed(u64),
+    /// A list of ranges: where it begins, and what offsets are added to there.
+    Listed(usize, u64),
 }
 
 /// A call and what it names.
@@ -65,7 +65,7 @@ fn append_named(
             out.push(Span { begin, end })?;
             Ok(true)
         }
-        Named::Listed(offset) => lists.read(unit, offset, out),
+        Named::Listed(place, base) => lists.read(unit, RangeTail { place, base }, out),
     }
 }
 

@@ -276,16 +276,16 @@ impl ReadLists {
     pub(crate) fn pass(
         &self,
         unit: &OpenUnit<'_, '_>,
-        offset: u64,
+        list: RangeTail,
         passed: &mut Vec<PassedEntry>,
         out: &mut Vec<Span>,
     ) -> Result<bool>
         requires { passed.old.items ≡ [] }
-        ensures value { PassesTo (open_view unit.now) self.now (list_tail unit.now.root offset) out.old.items out.new.items passed.new.items result }
+        ensures value { PassesTo (open_view unit.now) self.now list out.old.items out.new.items passed.new.items result }
         ensures front { OnOk result (take (vec_len out.old) out.new.items ≡ out.old.items) }
         ensures none { IsNothing self.now → IfOk result (λ some. some ≡ false) }
     {
-        let mut tail = unit.ranges_at(offset);
+        let mut tail = list;
         loop {
             if let Some(known) = self.find(tail) {
                 settle_bases(passed, tail.place, known.free);
@@ -309,16 +309,16 @@ impl ReadLists {
     pub(crate) fn read(
         &mut self,
         unit: &OpenUnit<'_, '_>,
-        offset: u64,
+        list: RangeTail,
         out: &mut Vec<Span>,
     ) -> Result<bool>
-        ensures value { AppendsRead (open_view unit.now) self.old self.new (spans_behind (open_view unit.now) (list_tail unit.now.root offset)) out.old.items out.new.items result }
+        ensures value { AppendsRead (open_view unit.now) self.old self.new (spans_behind (open_view unit.now) list) out.old.items out.new.items result }
         ensures front { OnOk result (take (vec_len out.old) out.new.items ≡ out.old.items) }
         ensures none { IfOk result (λ some. some ≡ false → out.new.items ≡ out.old.items) }
     {
         let before = out.len();
         let mut passed = Vec::new(self.alloc);
-        let some = self.pass(unit, offset, &mut passed, out)?;
+        let some = self.pass(unit, list, &mut passed, out)?;
         self.keep_passed(&passed, out.len(), some)?;
         Ok(some || before < out.len())
     }
@@ -344,6 +344,6 @@ impl ReadLists {
         }
         out.truncate(before);
         self.begins.push(offset)?;
-        self.read(unit, offset, out)
+        self.read(unit, unit.ranges_at(offset), out)
     }
 }

@@ -36,7 +36,7 @@ impl WholeList {
         let nothing = ReadLists::new(alloc);
         let mut entries = Vec::new(alloc);
         let mut spans = Vec::new(alloc);
-        nothing.pass(unit, offset, &mut entries, &mut spans)?;
+        nothing.pass(unit, unit.ranges_at(offset), &mut entries, &mut spans)?;
         let ranges = SharedList::new(alloc, spans);
         Ok(WholeList { entries, ranges })
     }

@@ -8,5 +8,5 @@ use Rattle.blz_functions.proofs.kept_layers.tail_layer.Goals as goal
 
 pub returns-in-Some-clause-layer : goal.returns-in-Some-clause-layer
 returns-in-Some-clause-layer c = λ addr.
-    let told = told_list (open_view c.args.unit.now) c.args.piece c.in-Listed.offset c.in-Some.tail c.in-Listed.is (rw c.in-Some.is at c.in_ok-tail.ensures.value) in
+    let told = told_list (open_view c.args.unit.now) c.args.piece c.in-Listed.place c.in-Listed.base c.in-Some.tail c.in-Listed.is (rw c.in-Some.is at c.in_ok-tail.ensures.value) in
     ap (λ (l : List (Owned Span)). best_owned l addr) (sym told)

@@ -1,5 +1,6 @@
 use Rattle.std.proofs.Common.{◌≡◌, List, ◌++◌, sym, ap, subst, ◌∙◌}
 use Rattle.std.proofs.lemmas.Result.{err_from_is_err_and}
+use Rattle.blz_entry.specs.RangeTails.{list_tail}
 use Rattle.blz_info.proofs.Marked.{marks_on}
 use Rattle.blz_ranges.specs.declared.span.Span.{Span}
 use Rattle.blz_functions.specs.DepthRanges.{PutsRanges}
@@ -55,5 +56,5 @@ returns-clause-value c = λ all h.
     record {
       value = named.spans;
       is = list_in u c.args.attributes.now c.in-Some.offset c.in-Some.is ∙ named.is;
-      fits = of_list u c.args.self.now c.put_list.new.self all c.args.at h c.in-Some.offset c.in_ok-count.count named c.in_ok-put_list.ensures.count c.in_ok-put_list.ensures.pieces;
+      fits = of_list u c.args.self.now c.put_list.new.self all c.args.at h (list_tail c.args.unit.now.root c.in-Some.offset) c.in_ok-count.count named c.in_ok-put_list.ensures.count c.in_ok-put_list.ensures.pieces;
     }

@@ -1,0 +1,8 @@
+-- The ranges of a list, each so much greater than in the index of the list.
+use Rattle.std.specs.Prelude.{ℕ, ◌+◌, ◌^◌, ◌<◌, List, IfSome}
+use Rattle.std.specs.List.{slice_get}
+use Rattle.blz_ranges.specs.declared.span.Span.{Span}
+
+-- Ranges that are moved by so much stay among the addresses of the machine.
+abbrev pub CanBeMoved : ℕ → List Span → Type 0
+CanBeMoved by spans = (place : ℕ) → IfSome (slice_get spans place) (λ s. by + s.end < 2 ^ 64)
