@@ -24,6 +24,7 @@ pub mod DepthRanges
 pub mod IndexedTails
 pub mod Sharings
 pub mod PiecedTails
+pub mod MovedRanges
 pub mod BetterFound
 pub mod FoundRanges
 pub mod LayersCost

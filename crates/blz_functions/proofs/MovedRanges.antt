@@ -3,11 +3,14 @@ use Rattle.std.proofs.Common.{◌≡◌, ℕ, zero, suc, ◌+◌, ◌-◌, ◌<�
 use Rattle.std.specs.List.{slice_get}
 use Rattle.std.specs.Prelude.{option_map}
 use Rattle.std.proofs.lemmas.Bool.{cases_Bool, le-leb, le-ltb, leb-false, leb-true, lt-leb, lt-ltb, ltb-false, ltb-true}
+use Rattle.std.proofs.lemmas.List.{length-map}
 use Rattle.blz_entry.specs.RangeTails.{moved}
 use Rattle.blz_ranges.specs.declared.placed.Placed.{Placed}
 use Rattle.blz_ranges.specs.declared.span.Span.{Span}
 use Rattle.blz_ranges.specs.Best.{best, best_by, better, covers, place_of}
 use Rattle.blz_ranges.specs.Groups.{AreApart}
+use Rattle.blz_functions.specs.KeptList.{AreFewLooks}
+use Rattle.blz_functions.specs.MovedTail.{CanBeMoved, Stays}
 
 -- ---- which one is the best
 
@@ -49,7 +52,7 @@ same_place by (Some p) = refl
 pub moved_best : (by addr : ℕ) (spans : List Span) → by ≤ addr → best (map (moved by) spans) addr ≡ best spans (addr - by)
 moved_best by addr spans le =
     let e : by + (addr - by) ≡ addr = omega (arith, le) in
-    rw (← e) (ap place_of (best_moved by (addr - by) 0 spans) ∙ same_place by (best_by (λ place s. covers s (addr - by)) 0 spans))
+    ap (best (map (moved by) spans)) (sym e) ∙ (ap place_of (best_moved by (addr - by) 0 spans) ∙ same_place by (best_by (λ place s. covers s (addr - by)) 0 spans))
 
 none_below : (by addr at : ℕ) (spans : List Span) → addr < by → best_by (λ place s. covers s addr) at (map (moved by) spans) ≡ None
 unfolding best_by
@@ -64,7 +67,7 @@ moved_none by addr spans lt = ap place_of (none_below by addr 0 spans lt)
 
 -- ---- whether they share an address
 
-get_moved : (by place : ℕ) (spans : List Span) (s : Span) → slice_get spans place ≡ Some s → slice_get (map (moved by) spans) place ≡ Some (moved by s)
+pub get_moved : (by place : ℕ) (spans : List Span) (s : Span) → slice_get spans place ≡ Some s → slice_get (map (moved by) spans) place ≡ Some (moved by s)
 get_moved by place [] s is = absurd cc
 get_moved by zero (x ∷ rest) s is = let e : x ≡ s = cc in ap (λ (y : Span). Some (moved by y)) e
 get_moved by (suc place) (x ∷ rest) s is = get_moved by place rest s is
@@ -77,3 +80,11 @@ moved_apart by spans apart = record {
     | inr le ↦ inr (omega (arith, le))
   ];
 }
+
+-- ---- what it takes
+
+pub moved_cost : (by looks : ℕ) (spans : List Span) → AreFewLooks spans looks → AreFewLooks (map (moved by) spans) looks
+moved_cost by looks spans few apart = rw (length-map spans (moved by)) (few (moved_apart by spans apart))
+
+pub one_stays : (by place : ℕ) (spans : List Span) (s : Span) → CanBeMoved by spans → slice_get spans place ≡ Some s → Stays by s
+one_stays by place spans s stay is = rw is at (stay place)

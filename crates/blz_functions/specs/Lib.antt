@@ -21,6 +21,7 @@ pub mod Sharing
 pub mod PiecedTail
 pub mod SharedTail
 pub mod SharedList
+pub mod MovedTail
 pub mod WholeLists
 pub mod Renamed
 pub mod Found

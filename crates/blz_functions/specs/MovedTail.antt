@@ -4,5 +4,9 @@ use Rattle.std.specs.List.{slice_get}
 use Rattle.blz_ranges.specs.declared.span.Span.{Span}
 
 -- Ranges that are moved by so much stay among the addresses of the machine.
+pub record Stays (by : ℕ) (s : Span) : Type 0 where
+  pub begin : by + s.begin < 2 ^ 64
+  pub end : by + s.end < 2 ^ 64
+
 abbrev pub CanBeMoved : ℕ → List Span → Type 0
-CanBeMoved by spans = (place : ℕ) → IfSome (slice_get spans place) (λ s. by + s.end < 2 ^ 64)
+CanBeMoved by spans = (place : ℕ) → IfSome (slice_get spans place) (Stays by)

@@ -25,6 +25,7 @@ mod merged_depth;
 mod merged_lists;
 mod merged_order;
 mod noted_lists;
+mod moved_tail;
 mod open_unit;
 mod parts;
 mod pieced_tail;
