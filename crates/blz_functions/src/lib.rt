@@ -35,6 +35,7 @@ mod read_functions;
 mod read_lists;
 mod read_ranges;
 mod referred;
+mod relative_list;
 mod settled_ranges;
 mod shared_depth;
 mod shared_list;
