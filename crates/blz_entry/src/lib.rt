@@ -18,6 +18,7 @@ pub use blz_info::{
     fixed_at, form_value, invalid, laws, list_unit, offset_at,
 };
 pub use blz_ranges::Span;
+pub use range_list::greatest;
 pub use range_tail::RangeTail;
 pub use ranges::{RangeAttributes, attr_ranges_offset};
 pub use root::UnitRoot;

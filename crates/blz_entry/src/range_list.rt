@@ -29,7 +29,7 @@ pub(crate) enum RangeEntry {
 }
 
 /// The greatest address.
-pub(crate) fn greatest(address_size: u8) -> u64
+pub fn greatest(address_size: u8) -> u64
     ensures value { result ≡ greatest address_size }
     ensures above { 0 < result }
 {

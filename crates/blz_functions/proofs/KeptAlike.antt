@@ -1,5 +1,5 @@
 -- Lists that are kept for one unit are right for another one that reads lists alike.
-use Rattle.std.proofs.Common.{◌≡◌, ℕ, List, [], ◌∷◌, ◌++◌, Option, Some, None, refl, sym, ap, subst, ◌∙◌}
+use Rattle.std.proofs.Common.{◌≡◌, ℕ, List, [], ◌∷◌, ◌++◌, drop, Option, refl, sym, ap, subst, ◌∙◌}
 use Rattle.std.specs.Arc.{arc_value}
 use Rattle.std.specs.BTreeMap.{get}
 use Rattle.std.specs.Ordering.{nat_cmp}
@@ -7,16 +7,18 @@ use Rattle.std.specs.declared.alloc.Global.{Global}
 use Rattle.std.specs.declared.sync.Arc.{Arc}
 use Rattle.std.specs.declared.vec.Vec.{Vec}
 use Rattle.std.proofs.lemmas.List.Elements.{All-weaker}
-use Rattle.blz_entry.specs.declared.range_tail.RangeTail.{RangeTail}
+use Rattle.blz_entry.specs.RangeLists.{greatest}
 use Rattle.blz_ranges.specs.Owned.{Owned, own_all}
 use Rattle.blz_ranges.specs.declared.span.Span.{Span}
 use Rattle.blz_functions.specs.BestOwned.{AnswersAs}
 use Rattle.blz_functions.specs.KeptLists.{pieces_cmp, AreKeptLists, IsContent, IsKeptContent, IsNamedList}
-use Rattle.blz_functions.specs.Leaves.{UnitParts, spans_behind}
+use Rattle.blz_functions.specs.Leaves.{UnitParts}
 use Rattle.blz_functions.specs.Pieces.{or_none, spans_named, told}
 use Rattle.blz_functions.specs.ReadAlike.{ReadAlike}
 use Rattle.blz_functions.specs.ReadLists.{IsFreeIn, IsUseAt}
-use Rattle.blz_functions.specs.WholeLists.{IsEntryIn, IsWhole}
+use Rattle.blz_functions.specs.RelativeList.{IsRelativeEntry, IsRelativeIn}
+use Rattle.blz_functions.specs.WholeLists.{AreWithin, IsEntryIn, IsWhole}
+use Rattle.blz_functions.specs.declared.reach.Reach.{Reach}
 use Rattle.blz_functions.specs.declared.kept_lists.KeptLists.{KeptLists}
 use Rattle.blz_functions.specs.declared.kept_lists.NamedList.{NamedList}
 use Rattle.blz_functions.specs.declared.pieces.Named.{Named}
@@ -29,7 +31,7 @@ use Rattle.blz_functions.specs.declared.whole_list.WholeList.{WholeList}
 use Rattle.blz_functions.proofs.ReadLists.{if_mapped}
 
 alike_back : (u v : UnitParts) → ReadAlike u v → ReadAlike v u
-alike_back u v alike = record { spans = λ t. sym (alike.spans t); low = sym alike.low }
+alike_back u v alike = record { spans = λ t. sym (alike.spans t); size = sym alike.size }
 
 free_alike : (u v : UnitParts) → ReadAlike u v → (place : ℕ) → IsFreeIn u place → IsFreeIn v place
 free_alike u v alike place free = λ base other. alike.spans (record { place = place; base = base }) ∙ (free base other ∙ sym (alike.spans (record { place = place; base = other })))
@@ -43,7 +45,7 @@ use_alike u v alike place behind Unused is = free_alike u v alike place is
 
 named_alike : (u v : UnitParts) → ReadAlike u v → (named : Named) → spans_named v named ≡ spans_named u named
 named_alike u v alike (Range begin end) = refl
-named_alike u v alike (Listed offset) = alike.spans (record { place = offset; base = v.root.low_pc }) ∙ ap (λ (low : ℕ). spans_behind u (record { place = offset; base = low })) alike.low
+named_alike u v alike (Listed place base) = alike.spans (record { place = place; base = base })
 
 told_alike : (u v : UnitParts) → ReadAlike u v → (pieces : List Piece) → told v pieces ≡ told u pieces
 unfolding told
@@ -58,8 +60,27 @@ module _ (u v : UnitParts) (alike : ReadAlike u v) where
   entry_alike : (spans : List Span) (p : PassedEntry) → IsEntryIn u spans p → IsEntryIn v spans p
   entry_alike spans p is = record { begins = alike.spans p.tail ∙ is.begins; base = use_alike u v alike p.tail.place p.behind p.base is.base }
 
+  relative_alike : (place : ℕ) (spans : List Span) → IsRelativeIn u place spans → IsRelativeIn v place spans
+  relative_alike place spans is = record {
+    from_zero = alike.spans (record { place = place; base = 0 }) ∙ is.from_zero;
+    from_base = λ base most ends below. alike.spans (record { place = place; base = base }) ∙ is.from_base base most ends (rw alike.size at below);
+  }
+
+  counted_alike : (spans : List Span) (p : PassedEntry) → IsRelativeEntry u spans p → IsRelativeEntry v spans p
+  counted_alike spans p is = record { zero = is.zero; counts = is.counts; ranges = relative_alike p.tail.place (drop p.before spans) is.ranges }
+
+  reach_alike : (spans : List Span) (entries : List PassedEntry) (reach : Reach) → AreWithin u spans entries reach → AreWithin v spans entries reach
+  reach_alike spans entries reach is = record {
+    each = All-weaker (IsRelativeEntry u spans) (IsRelativeEntry v spans) (counted_alike spans) entries is.each;
+    most = is.most;
+    top = is.top ∙ ap greatest (sym alike.size);
+  }
+
   whole_alike : (list : WholeList) → IsWhole u list → IsWhole v list
-  whole_alike list whole = All-weaker (IsEntryIn u list.ranges) (IsEntryIn v list.ranges) (entry_alike list.ranges) list.entries.items whole
+  whole_alike list whole = record {
+    entries = All-weaker (IsEntryIn u list.ranges) (IsEntryIn v list.ranges) (entry_alike list.ranges) list.entries.items whole.entries;
+    reach = if_mapped list.reach (AreWithin u list.ranges list.entries.items) (AreWithin v list.ranges list.entries.items) (reach_alike list.ranges list.entries.items) whole.reach;
+  }
 
   list_alike : (list : NamedList) → IsNamedList u list → IsNamedList v list
   list_alike list is = if_mapped list.whole (IsWhole u) (IsWhole v) whole_alike is

@@ -33,6 +33,7 @@ pub mod SharedLists
 pub mod MergedLists
 pub mod MergedOrder
 pub mod MergedTails
+pub mod Reaches
 pub mod RelativeLists
 pub mod WholeLists
 pub mod PieceOrder

@@ -4,9 +4,9 @@ use Rattle.std.specs.Prelude.{slice_index_or, IfOk, IfSome, Result, Ok, Err}
 use Rattle.std.proofs.lemmas.List.{append-nil, length-append}
 use Rattle.blz_ranges.specs.declared.span.Span.{Span}
 use Rattle.blz_ranges.specs.Owned.{Owned, own_all}
-use Rattle.blz_functions.specs.Leaves.{UnitParts}
+use Rattle.blz_functions.specs.Leaves.{UnitParts, spans_behind}
 use Rattle.blz_functions.specs.MergedLists.{ranges_in}
-use Rattle.blz_functions.specs.Pieces.{list_at, told}
+use Rattle.blz_functions.specs.Pieces.{told}
 use Rattle.blz_functions.specs.Settling.{MayGiveMerged}
 use Rattle.blz_functions.specs.declared.called_tails.CalledTail.{CalledTail}
 use Rattle.blz_functions.specs.declared.pieces.Named.TheVariants.{Listed}
@@ -26,14 +26,14 @@ unfolding told ranges_in
 no_tails u = refl
 
 -- one piece more
-pub tails_next : (u : UnitParts) (pieces : List Piece) (k : ℕ) (d : Piece) (lists : List CalledTail) (offset : ℕ) (tail : List Span) → k < length pieces → (slice_index_or pieces k d).named ≡ Listed offset → list_at u offset ≡ Some tail → told u (take k pieces) ≡ ranges_in lists
+pub tails_next : (u : UnitParts) (pieces : List Piece) (k : ℕ) (d : Piece) (lists : List CalledTail) (place base : ℕ) (tail : List Span) → k < length pieces → (slice_index_or pieces k d).named ≡ Listed place base → spans_behind u (record { place = place; base = base }) ≡ Some tail → told u (take k pieces) ≡ ranges_in lists
     → told u (take (k + 1) pieces) ≡ ranges_in (lists ++ record { call = (slice_index_or pieces k d).call; tail = tail } ∷ [])
-tails_next u pieces k d lists offset tail lt named is h =
+tails_next u pieces k d lists place base tail lt named is h =
     let p : Piece = slice_index_or pieces k d in
     let t : CalledTail = record { call = p.call; tail = tail } in
     ap (told u) (take_next pieces k d lt)
     ∙ (told_appended u (take k pieces) (p ∷ [])
-    ∙ ((λ i. h i ++ told_list u p offset tail named is i) ∙ sym (ranges_pushed lists t)))
+    ∙ ((λ i. h i ++ told_list u p place base tail named is i) ∙ sym (ranges_pushed lists t)))
 
 -- ---- how many ranges lists have
 

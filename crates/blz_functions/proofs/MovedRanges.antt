@@ -1,9 +1,10 @@
 -- Ranges that are moved: which of them is the best one, and whether they share an address.
-use Rattle.std.proofs.Common.{◌≡◌, ℕ, zero, suc, ◌+◌, ◌-◌, ◌<◌, ◌≤◌, Bool, true, false, leb, ltb, ◌&&◌, List, [], ◌∷◌, map, Option, Some, None, refl, sym, ap, ◌∙◌, arith, inl, inr}
+use Rattle.std.proofs.Common.{◌≡◌, ℕ, zero, suc, ◌+◌, ◌-◌, ◌<◌, ◌≤◌, false, leb, ltb, List, [], ◌∷◌, map, Option, Some, None, refl, sym, ap, subst, ◌∙◌, arith, inl, inr}
 use Rattle.std.specs.List.{slice_get}
 use Rattle.std.specs.Prelude.{option_map}
 use Rattle.std.proofs.lemmas.Bool.{cases_Bool, le-leb, le-ltb, leb-false, leb-true, lt-leb, lt-ltb, ltb-false, ltb-true}
 use Rattle.std.proofs.lemmas.List.{length-map}
+use Rattle.std.proofs.lemmas.List.Elements.{All-head, All-tail}
 use Rattle.blz_entry.specs.RangeTails.{moved}
 use Rattle.blz_ranges.specs.declared.placed.Placed.{Placed}
 use Rattle.blz_ranges.specs.declared.span.Span.{Span}
@@ -87,4 +88,15 @@ pub moved_cost : (by looks : ℕ) (spans : List Span) → AreFewLooks spans look
 moved_cost by looks spans few apart = rw (length-map spans (moved by)) (few (moved_apart by spans apart))
 
 pub one_stays : (by place : ℕ) (spans : List Span) (s : Span) → CanBeMoved by spans → slice_get spans place ≡ Some s → Stays by s
-one_stays by place spans s stay is = rw is at (stay place)
+one_stays by place [] s stay is = absurd cc
+one_stays by zero (x ∷ rest) s stay is = let e : x ≡ s = cc in subst (Stays by) e (All-head (Stays by) x rest stay)
+one_stays by (suc place) (x ∷ rest) s stay is = one_stays by place rest s (All-tail (Stays by) x rest stay) is
+
+-- ---- by nothing
+
+pub moved_by_zero : (spans : List Span) → map (moved 0) spans ≡ spans
+moved_by_zero [] = refl
+moved_by_zero (s ∷ rest) =
+    let b : 0 + s.begin ≡ s.begin = omega arith in
+    let e : 0 + s.end ≡ s.end = omega arith in
+    rw (b, e, moved_by_zero rest) refl

@@ -22,6 +22,7 @@ pub mod PiecedTail
 pub mod SharedTail
 pub mod SharedList
 pub mod MovedTail
+pub mod Reach
 pub mod RelativeList
 pub mod WholeLists
 pub mod Renamed

@@ -2,7 +2,7 @@
 ghost use Rattle.std.specs.Prelude.{◌≡◌, ◌+◌, ◌≤◌, IfSome};
 ghost use Rattle.blz_functions.specs.MergedLists.{ranged_at};
 
-use crate::shared_tail::SharedTail;
+use crate::moved_tail::MovedTail;
 use blz_bytes::Steps;
 use blz_ranges::Span;
 use std::sync::ledger::Ledger;
@@ -11,7 +11,7 @@ use std::sync::ledger::Ledger;
 #[derive(Drop)]
 pub struct CalledTail {
     pub call: usize,
-    pub tail: SharedTail,
+    pub tail: MovedTail,
 }
 
 /// Where a range stands: in which of some lists, and at which place there.

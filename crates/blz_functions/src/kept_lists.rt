@@ -8,10 +8,10 @@ ghost use Rattle.blz_functions.specs.WholeLists.{IsWhole, MayGiveTail};
 
 use crate::foreseen_lists::Foresights;
 use crate::kept_ranges::KeptRanges;
+use crate::moved_tail::MovedTail;
 use crate::open_unit::OpenUnit;
 use crate::pieces::{Piece, gathered};
 use crate::read_lists::first_telling;
-use crate::shared_tail::SharedTail;
 use crate::whole_list::WholeList;
 use blz_entry::RangeTail;
 use blz_error::{ErrorKind, Result};
@@ -234,7 +234,7 @@ impl KeptLists {
         alloc: Global,
         unit: &OpenUnit<'_, '_>,
         list: RangeTail,
-    ) -> std::result::Result<Option<SharedTail>, AllocError>
+    ) -> std::result::Result<Option<MovedTail>, AllocError>
         requires kept { AreKeptLists (open_view unit.now) self.old }
         ensures value { MayGiveTail (open_view unit.now) list result }
         ensures kept { AreKeptLists (open_view unit.now) self.new }
@@ -256,7 +256,7 @@ impl KeptLists {
         unit: &OpenUnit<'_, '_>,
         start: u64,
         tail: RangeTail,
-    ) -> std::result::Result<Option<SharedTail>, AllocError>
+    ) -> std::result::Result<Option<MovedTail>, AllocError>
         requires kept { AreKeptLists (open_view unit.now) self.old }
         ensures value { MayGiveTail (open_view unit.now) tail result }
         ensures kept { AreKeptLists (open_view unit.now) self.new }
@@ -264,7 +264,7 @@ impl KeptLists {
         let Some(mut list) = self.take_whole(alloc, unit, start)? else {
             return Ok(None);
         };
-        let found = list.tail_at(alloc, tail)?;
+        let found = list.tail_at(alloc, unit, tail)?;
         self.put_whole(start, list)?;
         Ok(found)
     }

@@ -9,7 +9,7 @@ ghost use Rattle.blz_ranges.specs.Ranges.{best_owner};
 
 use crate::found::Found;
 use crate::kept_ranges::KeptRanges;
-use crate::shared_tail::SharedTail;
+use crate::moved_tail::MovedTail;
 use blz_bytes::Steps;
 use blz_ranges::number_at;
 use std::marker::{Brand, Model};
@@ -40,7 +40,7 @@ impl Model for SharedContent {
 #[derive(Drop)]
 pub enum Layer {
     /// Those of a list that one call names.
-    Tail(usize, SharedTail),
+    Tail(usize, MovedTail),
     /// Those of several calls.
     Content(SharedContent),
 }

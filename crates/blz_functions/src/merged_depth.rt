@@ -10,6 +10,7 @@ use crate::kept_lists::KeptLists;
 use crate::merged_lists::MergedLists;
 use crate::open_unit::OpenUnit;
 use crate::pieces::{Named, Piece};
+use blz_entry::RangeTail;
 use std::alloc::{AllocError, Global};
 
 /// Where the kept lists begin in which those of pieces lie. None where a piece is a range, or its list is not kept.
@@ -20,10 +21,10 @@ fn starts_of(
 ) -> Result<Option<Vec<u64>>, AllocError> {
     let mut starts = Vec::new(alloc);
     for piece in pieces {
-        let Named::Listed(offset) = piece.named else {
+        let Named::Listed(place, _) = piece.named else {
             return Ok(None);
         };
-        let Some(start) = kept.kept_around(offset) else {
+        let Some(start) = kept.kept_around(place as u64) else {
             return Ok(None);
         };
         starts.push(start)?;
@@ -73,10 +74,10 @@ fn tails_of(
 {
     let mut lists = Vec::new(alloc);
     for piece in pieces {
-        let Named::Listed(offset) = piece.named else {
+        let Named::Listed(place, base) = piece.named else {
             return Ok(None);
         };
-        let Some(tail) = kept.tail(alloc, unit, offset)? else {
+        let Some(tail) = kept.tail(alloc, unit, RangeTail { place, base })? else {
             return Ok(None);
         };
         let call = piece.call;

@@ -3,7 +3,7 @@ ghost use Rattle.std.specs.Prelude.{◌≡◌, ◌++◌, ◌<◌, ◌≤◌, tru
 ghost use Rattle.blz_functions.specs.MergedLists.{begun_from, begun_of, IsAgain, IsLastAgain, IsMerged, IsOrderOf};
 
 use crate::called_tails::{CalledTail, Spot, ranged_at};
-use crate::shared_tail::SharedTail;
+use crate::moved_tail::MovedTail;
 use blz_bytes::Steps;
 use blz_ranges::Span;
 use std::alloc::{AllocError, Global};
@@ -46,7 +46,7 @@ fn is_again(last: Option<Seen>, seen: &Seen) -> bool
 
 /// The spots of the ranges of a list behind others.
 fn put_spots<L: Ledger>(
-    tail: &SharedTail,
+    tail: &MovedTail,
     list: usize,
     out: &mut Vec<Begun>,
     steps: &mut Steps<L>,

@@ -22,7 +22,7 @@ pub struct MovedTail {
 }
 
 impl Model for MovedTail {
-    ghost use Rattle.std.specs.Prelude.{List, map};
+    ghost use Rattle.std.specs.Prelude.{◌<◌, List, map};
     ghost use Rattle.blz_entry.specs.RangeTails.{moved};
     ghost use Rattle.blz_ranges.specs.declared.span.Span.{Span};
     ghost use Rattle.blz_functions.specs.MovedTail.{CanBeMoved};
@@ -31,12 +31,12 @@ impl Model for MovedTail {
 
     ghost view = { λ t. map (moved t.by) t.tail };
 
-    ghost invariant = { λ t. CanBeMoved t.by t.tail };
+    ghost invariant = { λ t. 0 < t.by → CanBeMoved t.by t.tail };
 }
 
 impl MovedTail {
     pub(crate) fn new(tail: SharedTail, by: u64) -> MovedTail
-        requires { CanBeMoved by tail }
+        requires { 0 < by → CanBeMoved by tail }
         ensures { result ≡ map (moved by) tail }
     {
         MovedTail { tail, by }
@@ -67,6 +67,9 @@ impl MovedTail {
         ensures cost { steps.new ≡ steps.old + 1 }
     {
         let span = self.tail.span(place, steps)?;
+        if self.by == 0 {
+            return Some(span);
+        }
         let begin = self.by + span.begin;
         let end = self.by + span.end;
         Some(Span { begin, end })

@@ -96,7 +96,8 @@ impl ReadRanges {
             return Ok(some);
         }
         let count = kept.name(self.alloc, unit, offset)?;
-        let named = Named::Listed(offset);
+        let list = unit.ranges_at(offset);
+        let named = Named::Listed(list.place, list.base);
         self.pieces.push(Piece {
             call: function,
             named,

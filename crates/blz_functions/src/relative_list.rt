@@ -25,12 +25,7 @@ fn from_zero(place: usize) -> RangeTail
 
 impl RelativeList {
     /// Passes an entry, which may tell a range.
-    fn pass(
-        &mut self,
-        place: usize,
-        behind: usize,
-        span: Option<Span>,
-    ) -> Result<(), AllocError>
+    fn pass(&mut self, place: usize, behind: usize, span: Option<Span>) -> Result<(), AllocError>
         ensures entries { OnOk result (self.new.entries.items
             ≡ self.old.entries.items ++ counting_entry place (length self.old.spans.items) behind ∷ []) }
         ensures spans { OnOk result (self.new.spans.items ≡ self.old.spans.items ++ option_to_list span) }

@@ -78,9 +78,8 @@ exact_lists x y e =
     let place = exact_place x.place y.place first.0 in
     let version = number x.version y.version _ first.1 in
     let size = number x.address_size y.address_size _ version.1 in
-    let low = number x.low_pc y.low_pc _ size.1 in
-    let base = exact_unsigned x.addr_base y.addr_base low.1 in
-    λ i. record { place = place i; version = version.0 i; address_size = size.0 i; low_pc = low.0 i; addr_base = base i }
+    let base = exact_unsigned x.addr_base y.addr_base size.1 in
+    λ i. record { place = place i; version = version.0 i; address_size = size.0 i; addr_base = base i }
 
 -- ---- a piece of a chain
 

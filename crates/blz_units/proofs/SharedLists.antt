@@ -104,7 +104,7 @@ module _ (f : Files) (h g : UnitHeader) (r q : UnitRoot) (version : h.version �
 read_alike : (f : Files) (u v : BuiltUnit) → lists_key v ≡ lists_key u → ReadAlike (built_view f u) (built_view f v)
 read_alike f u v e = record {
   spans = λ t. origin_same f v.header u.header v.root u.root (ap (λ (k : UnitListsKey). k.version) e) (ap (λ (k : UnitListsKey). k.address_size) e) (ap (λ (k : UnitListsKey). k.addr_base) e) t v.origin u.origin (ap (λ (k : UnitListsKey). k.place) e);
-  low = ap (λ (k : UnitListsKey). k.low_pc) e;
+  size = ap (λ (k : UnitListsKey). k.address_size) e;
 }
 
 -- ---- what is kept

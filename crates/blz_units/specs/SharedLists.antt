@@ -26,7 +26,6 @@ lists_key u = record {
   place = lists_place u.header.version u.origin;
   version = u.header.version;
   address_size = u.header.address_size;
-  low_pc = u.root.low_pc;
   addr_base = u.root.addr_base;
 }
 

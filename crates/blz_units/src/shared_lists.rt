@@ -26,7 +26,6 @@ pub struct UnitListsKey {
     pub place: ListsPlace,
     pub version: u16,
     pub address_size: u8,
-    pub low_pc: u64,
     pub addr_base: u64,
 }
 
@@ -58,7 +57,6 @@ fn lists_key(unit: &BuiltUnit) -> UnitListsKey
         place: lists_place(unit.header.version, &unit.origin),
         version: unit.header.version,
         address_size: unit.header.address_size,
-        low_pc: unit.root.low_pc,
         addr_base: unit.root.addr_base,
     }
 }

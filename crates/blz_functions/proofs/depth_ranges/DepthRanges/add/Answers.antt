@@ -56,5 +56,5 @@ returns-clause-value c = λ all h.
     record {
       value = named.spans;
       is = list_in u c.args.attributes.now c.in-Some.offset c.in-Some.is ∙ named.is;
-      fits = of_list u c.args.self.now c.put_list.new.self all c.args.at h (list_tail c.args.unit.now.root c.in-Some.offset) c.in_ok-count.count named c.in_ok-put_list.ensures.count c.in_ok-put_list.ensures.pieces;
+      fits = of_list u c.args.self.now c.put_list.new.self all c.args.at h (list_tail c.args.unit.now.root c.in-Some.offset) c.in_ok-count.count named c.in_ok-put_list.ensures.count (rw c.ranges_at.ensures at c.in_ok-put_list.ensures.pieces);
     }

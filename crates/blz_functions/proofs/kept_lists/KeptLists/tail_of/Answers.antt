@@ -8,11 +8,11 @@ returns-in_err-put_whole-clause-kept c =
     let whole : IsWhole u c.in-Some.list = rw c.in-Some.is at c.in_ok-list.ensures.value in
     c.put_whole.ensures u (c.in_ok-found.ensures.kept u whole) c.in_ok-list.ensures.kept
 
+pub tail_at-requires : goal.tail_at-requires
+tail_at-requires c = rw c.in-Some.is at c.in_ok-list.ensures.value
+
 pub returns-clause-value : goal.returns-clause-value
-returns-clause-value c =
-    let u = open_view c.args.unit.now in
-    let whole : IsWhole u c.in-Some.list = rw c.in-Some.is at c.in_ok-list.ensures.value in
-    c.in_ok-found.ensures.value u whole
+returns-clause-value c = c.in_ok-found.ensures.value
 
 pub returns-clause-kept : goal.returns-clause-kept
 returns-clause-kept c =

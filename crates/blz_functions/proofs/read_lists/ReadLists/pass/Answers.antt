@@ -2,7 +2,6 @@ use Rattle.std.proofs.Common.{◌≡◌, ℕ, ◌<◌, ◌≤◌, Some, None, le
 use Rattle.std.proofs.lemmas.List.{take-append-le}
 use Rattle.blz_info.proofs.Marked.{good_some, marks_on}
 use Rattle.blz_entry.specs.RangeLists.{list_length}
-use Rattle.blz_entry.specs.RangeTails.{list_tail}
 use Rattle.blz_entry.proofs.RangeSteps.{tail_ahead}
 use Rattle.blz_functions.specs.Leaves.{entry_behind, lying, spans_behind}
 use Rattle.blz_functions.specs.Opened.{open_view}
@@ -39,7 +38,7 @@ returns-in-Some-clause-value c = λ ranges told.
 pub returns-in-Err-clause-value : goal.returns-in-Err-clause-value
 returns-in-Err-clause-value c = λ ranges told.
     let u = open_view c.args.unit.now in
-    let list = list_tail c.args.unit.now.root c.args.offset in
+    let list = c.args.list in
     marks_on c.in-Err.fault.kind (entry_behind u c.loop-known.tail) (spans_behind u list) (λ ne. c.in-Err.ensures.0) (λ none. passed_fails u _ _ _ list c.loop-known.tail c.loop-known.invariant.whole none)
 
 pub pass_entry-requires : goal.pass_entry-requires

@@ -63,9 +63,10 @@ returns-clause-value c = λ lists all h from.
     let u = open_view c.args.unit.now in
     let n = c.args.function in
     let named = c.in_ok-count.ensures.value in
-    let p : Piece = record { call = n; named = Listed c.in-Some.offset } in
+    let low = c.args.unit.now.root.low_pc in
+    let p : Piece = record { call = n; named = Listed c.in-Some.offset low } in
     record {
       value = named.spans;
       is = list_in u c.args.attributes.now c.in-Some.offset c.in-Some.is ∙ named.is;
-      fits = stand_named u c.args.self.now lists c.push.new.self all n (p ∷ []) _ named.spans (ap (λ (k : ℕ). nat_lt 0 k) named.counted) c.in_ok-push.ensures.items (told_list u p c.in-Some.offset named.spans refl named.is) (record { spans = named.spans; is = named.is }, tt) h from;
+      fits = stand_named u c.args.self.now lists c.push.new.self all n (p ∷ []) _ named.spans (ap (λ (k : ℕ). nat_lt 0 k) named.counted) (rw c.ranges_at-list.ensures at c.in_ok-push.ensures.items) (told_list u p c.in-Some.offset low named.spans refl named.is) (record { spans = named.spans; is = named.is }, tt) h from;
     }

@@ -1,4 +1,4 @@
-use Rattle.std.proofs.Common.{◌≡◌, ℕ, ◌<◌, ◌≤◌, true, Some, None, arith, refl, sym, ◌∙◌}
+use Rattle.std.proofs.Common.{◌≡◌, ◌<◌, ◌≤◌, true, Some, None, arith, refl, sym, ◌∙◌}
 use Rattle.blz_info.proofs.Marked.{good_some}
 use Rattle.blz_entry.specs.RangeLists.{list_length}
 use Rattle.blz_entry.proofs.RangeSteps.{tail_ahead}
