@@ -383,14 +383,15 @@ def one_range_list_of_a_function_of_each_unit(n):
     return Attack(dwarf(shapes, b"".join(units), rnglists=data), begins)
 
 
-def asked_units(n, below, lists):
-    """Units without a base of their own, each asked once, that have what is made of the address and a number."""
+def asked_units(n, below, lists, based=False):
+    """Units, with or without a base of their own, each asked once, that have what is made of the address and a number."""
     rows = set_address(BASE) + SET_FILE_0 + COPY + advance(4 * n) + END_SEQUENCE
-    shapes = {ROOT: root([LINES], 1), OUTER: subprogram(RANGE, 1), FUNCTION: subprogram(RANGES),
+    shapes = {ROOT: root([LINES, *RANGE] if based else [LINES], 1), OUTER: subprogram(RANGE, 1), FUNCTION: subprogram(RANGES),
               CALL: Abbreviation(DW_TAG_INLINED_SUBROUTINE, 0, RANGES)}
     data, first = range_lists(lists + b"\0")
     begins = [BASE + 4 * k for k in range(n)]
-    units = [unit(entry(shapes, ROOT, 0) + below(shapes, first, begin, k) + b"\0") for k, begin in enumerate(begins)]
+    roots = [entry(shapes, ROOT, 0, begin, 4) if based else entry(shapes, ROOT, 0) for begin in begins]
+    units = [unit(top + below(shapes, first, begin, k) + b"\0") for k, (top, begin) in enumerate(zip(roots, begins))]
     places = begins_of(units)
     sets = [announced(place, [(begin, 4)]) for place, begin in zip(places, begins)]
     return Attack(dwarf(shapes, b"".join(units), rnglists=data, aranges=b"".join(sets), line=plain_program(rows)), begins)
@@ -401,12 +402,26 @@ def one_range_list_of_a_function_of_each_unit_without_a_base(n):
     return asked_units(n, lambda shapes, first, begin, k: entry(shapes, FUNCTION, first), pairs(n))
 
 
+def one_call(shapes, first, begin, k):
+    return entry(shapes, OUTER, begin, 4) + entry(shapes, CALL, first) + b"\0"
+
+
 @shape
 def one_range_list_of_a_call_of_each_unit_without_a_base(n):
-    def below(shapes, first, begin, k):
-        return entry(shapes, OUTER, begin, 4) + entry(shapes, CALL, first) + b"\0"
+    return asked_units(n, one_call, pairs(n))
 
-    return asked_units(n, below, pairs(n))
+
+@shape
+def one_range_list_of_a_call_of_each_unit(n):
+    # the offsets of the list count from another base in each unit
+    return asked_units(n, one_call, pairs(n), True)
+
+
+@shape
+def tails_of_a_range_list_of_a_function_of_each_unit(n):
+    lists = pairs_of_a_size(n)
+    begins = begins_of(lists)
+    return asked_units(n, lambda shapes, first, begin, k: entry(shapes, FUNCTION, first + begins[k]), b"".join(lists), True)
 
 
 @shape
