@@ -49,6 +49,7 @@ fn leb_at(bytes: &[u8], at: usize) -> Option<(Leb, usize)>
 }
 
 /// An unsigned number; none where it does not end within ten bytes or the slice, or is 2 ^ 64 or more.
+#[inline(always)]
 #[tactic(auto, unfolding(blz_model::specs::LebNumbers::uleb))]
 pub fn uleb_at(bytes: &[u8], at: usize) -> Option<(u64, usize)>
     ensures value { result ≡ uleb bytes.now at }
