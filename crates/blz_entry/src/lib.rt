@@ -12,10 +12,10 @@ mod strings;
 pub use addresses::address;
 pub use aranges::{ArangeSet, Aranges};
 pub use blz_info::{
-    Abbreviation, Abbreviations, AttrSpec, AttrValue, BrokenTables, Declarations, Encoding,
-    Entries, Entry, Extent, Field, Form, Listed, Makes, Passing, Section, Sections, StrBase,
-    StrPart, StrPlace, Texts, UnitHeader, UnitHeaders, UnitKind, Width, address_at, cut, extent_at,
-    fixed_at, form_value, invalid, laws, list_unit, offset_at,
+    Abbreviation, Abbreviations, AttrSpec, AttrValue, AttributeLists, BrokenTables, Declarations,
+    Encoding, Entries, Entry, Extent, Field, Form, Listed, Makes, Passing, Section, Sections,
+    StrBase, StrPart, StrPlace, Texts, UnitHeader, UnitHeaders, UnitKind, Width, address_at, cut,
+    extent_at, fixed_at, form_value, invalid, laws, list_unit, offset_at,
 };
 pub use blz_ranges::Span;
 pub use range_list::greatest;

@@ -51,7 +51,7 @@ behind_same a e base s at = behind_opened a (form_at a e) e base s at ∙ ap nex
 -- ---- lists of attributes
 
 -- those from an index on begin with the one there
-from_there_on : (specs : List AttrSpec) (c : ℕ) (x : AttrSpec) → slice_get specs c ≡ Some x → drop c specs ≡ x ∷ drop (c + 1) specs
+pub from_there_on : {A : Type 0} (specs : List A) (c : ℕ) (x : A) → slice_get specs c ≡ Some x → drop c specs ≡ x ∷ drop (c + 1) specs
 from_there_on specs c x h =
     let lt = slice_get_within specs c x h in
     let is = get_or_from_slice_get specs c x x h in
@@ -103,15 +103,15 @@ runs_passed reading e (r ∷ rest) tail specs base s at h =
 
 -- ---- one turn of the loop that passes over runs
 
-run_on : (r : Run) (rest : List Run) (tail : ℕ) (e : Encoding) (s : Contents) (at start next : ℕ) → over r.skip s.bytes at ≡ Some start → behind_by r.form r.spec e s start ≡ Some next → passed_by (r ∷ rest) tail e s at ≡ passed_by rest tail e s next
+pub run_on : (r : Run) (rest : List Run) (tail : ℕ) (e : Encoding) (s : Contents) (at start next : ℕ) → over r.skip s.bytes at ≡ Some start → behind_by r.form r.spec e s start ≡ Some next → passed_by (r ∷ rest) tail e s at ≡ passed_by rest tail e s next
 unfolding passed_by
 run_on r rest tail e s at start next h k = rw (h, k) refl
 
-run_short : (r : Run) (rest : List Run) (tail : ℕ) (e : Encoding) (s : Contents) (at : ℕ) → over r.skip s.bytes at ≡ None → passed_by (r ∷ rest) tail e s at ≡ None
+pub run_short : (r : Run) (rest : List Run) (tail : ℕ) (e : Encoding) (s : Contents) (at : ℕ) → over r.skip s.bytes at ≡ None → passed_by (r ∷ rest) tail e s at ≡ None
 unfolding passed_by
 run_short r rest tail e s at h = rw h refl
 
-run_stops : (r : Run) (rest : List Run) (tail : ℕ) (e : Encoding) (s : Contents) (at start : ℕ) → over r.skip s.bytes at ≡ Some start → behind_by r.form r.spec e s start ≡ None → passed_by (r ∷ rest) tail e s at ≡ None
+pub run_stops : (r : Run) (rest : List Run) (tail : ℕ) (e : Encoding) (s : Contents) (at start : ℕ) → over r.skip s.bytes at ≡ Some start → behind_by r.form r.spec e s start ≡ None → passed_by (r ∷ rest) tail e s at ≡ None
 unfolding passed_by
 run_stops r rest tail e s at start h k = rw (h, k) refl
 
@@ -183,19 +183,19 @@ run_wanted e r rest tail specs base s at h =
 
 -- ---- one turn of the loop that looks for it
 
-skip_fails : (e : Encoding) (r : Run) (rest : List Run) (tail : ℕ) (specs : List AttrSpec) (base : StrBase) (s : Contents) (at : ℕ) → AreRuns true e (r ∷ rest) tail specs → over r.skip s.bytes at ≡ None → wanted_in specs e base s at ≡ None
+pub skip_fails : (e : Encoding) (r : Run) (rest : List Run) (tail : ℕ) (specs : List AttrSpec) (base : StrBase) (s : Contents) (at : ℕ) → AreRuns true e (r ∷ rest) tail specs → over r.skip s.bytes at ≡ None → wanted_in specs e base s at ≡ None
 skip_fails e r rest tail specs base s at h short = run_wanted e r rest tail specs base s at h ∙ rw short refl
 
-value_fails : (e : Encoding) (r : Run) (rest : List Run) (tail : ℕ) (specs : List AttrSpec) (base : StrBase) (s : Contents) (at start : ℕ) → AreRuns true e (r ∷ rest) tail specs → over r.skip s.bytes at ≡ Some start → r.wanted ≡ true → value_by_form r.form r.spec e base s start ≡ None → wanted_in specs e base s at ≡ None
+pub value_fails : (e : Encoding) (r : Run) (rest : List Run) (tail : ℕ) (specs : List AttrSpec) (base : StrBase) (s : Contents) (at start : ℕ) → AreRuns true e (r ∷ rest) tail specs → over r.skip s.bytes at ≡ Some start → r.wanted ≡ true → value_by_form r.form r.spec e base s start ≡ None → wanted_in specs e base s at ≡ None
 value_fails e r rest tail specs base s at start h skips wanted none = run_wanted e r rest tail specs base s at h ∙ rw (skips, wanted, none) refl
 
-value_found : (e : Encoding) (r : Run) (rest : List Run) (tail : ℕ) (specs : List AttrSpec) (base : StrBase) (s : Contents) (at start next : ℕ) (v : AttrValue) → AreRuns true e (r ∷ rest) tail specs → over r.skip s.bytes at ≡ Some start → r.wanted ≡ true → value_by_form r.form r.spec e base s start ≡ Some (v, next) → wanted_in specs e base s at ≡ Some (Some (r.spec.name, v), (drop (r.count + 1) specs, next))
+pub value_found : (e : Encoding) (r : Run) (rest : List Run) (tail : ℕ) (specs : List AttrSpec) (base : StrBase) (s : Contents) (at start next : ℕ) (v : AttrValue) → AreRuns true e (r ∷ rest) tail specs → over r.skip s.bytes at ≡ Some start → r.wanted ≡ true → value_by_form r.form r.spec e base s start ≡ Some (v, next) → wanted_in specs e base s at ≡ Some (Some (r.spec.name, v), (drop (r.count + 1) specs, next))
 value_found e r rest tail specs base s at start next v h skips wanted is = run_wanted e r rest tail specs base s at h ∙ rw (skips, wanted, is) refl
 
-pass_fails : (e : Encoding) (r : Run) (rest : List Run) (tail : ℕ) (specs : List AttrSpec) (base : StrBase) (s : Contents) (at start : ℕ) → AreRuns true e (r ∷ rest) tail specs → over r.skip s.bytes at ≡ Some start → r.wanted ≡ false → behind_by r.form r.spec e s start ≡ None → wanted_in specs e base s at ≡ None
+pub pass_fails : (e : Encoding) (r : Run) (rest : List Run) (tail : ℕ) (specs : List AttrSpec) (base : StrBase) (s : Contents) (at start : ℕ) → AreRuns true e (r ∷ rest) tail specs → over r.skip s.bytes at ≡ Some start → r.wanted ≡ false → behind_by r.form r.spec e s start ≡ None → wanted_in specs e base s at ≡ None
 pass_fails e r rest tail specs base s at start h skips wanted none = run_wanted e r rest tail specs base s at h ∙ rw (skips, wanted, none) refl
 
-pass_on : (e : Encoding) (r : Run) (rest : List Run) (tail : ℕ) (specs : List AttrSpec) (base : StrBase) (s : Contents) (at start next : ℕ) → AreRuns true e (r ∷ rest) tail specs → over r.skip s.bytes at ≡ Some start → r.wanted ≡ false → behind_by r.form r.spec e s start ≡ Some next → wanted_in specs e base s at ≡ wanted_in (drop (r.count + 1) specs) e base s next
+pub pass_on : (e : Encoding) (r : Run) (rest : List Run) (tail : ℕ) (specs : List AttrSpec) (base : StrBase) (s : Contents) (at start next : ℕ) → AreRuns true e (r ∷ rest) tail specs → over r.skip s.bytes at ≡ Some start → r.wanted ≡ false → behind_by r.form r.spec e s start ≡ Some next → wanted_in specs e base s at ≡ wanted_in (drop (r.count + 1) specs) e base s next
 pass_on e r rest tail specs base s at start next h skips wanted is = run_wanted e r rest tail specs base s at h ∙ rw (skips, wanted, is) refl
 
 -- the runs from an index on begin with the one there

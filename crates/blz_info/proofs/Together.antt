@@ -16,7 +16,7 @@ use Rattle.blz_info.specs.declared.text.StrBase.{StrBase}
 use Rattle.blz_info.specs.declared.value.AttrValue.{AttrValue}
 use Rattle.blz_info.proofs.Sizes.{next_place, sized, behind_is}
 
-look : {A : Type 0} (o : Option A) → (o ≡ None) ⊎ ((x : A) × (o ≡ Some x))
+pub look : {A : Type 0} (o : Option A) → (o ≡ None) ⊎ ((x : A) × (o ≡ Some x))
 look None = inl refl
 look (Some x) = inr (x, refl)
 

@@ -1,6 +1,6 @@
 -- Attributes that tell what a function or an inlined call is, its names, the addresses that it covers, and where it is
 -- called, or what holds for a whole unit (DWARF 5 sections 2.15, 2.17, 3.1.1, 3.3.8.2 and 7.5.4).
-use Rattle.std.specs.Prelude.{ℕ, Bool, true, false, ◌||◌, ◌&&◌, not, List, [], ◌∷◌, drop, Option, Some, None, nat_lt, ◌==◌, if◌then◌else◌}
+use Rattle.std.specs.Prelude.{◌≡◌, ℕ, ◌+◌, ◌<◌, Bool, true, false, ◌||◌, ◌&&◌, not, List, [], ◌∷◌, length, drop, Option, Some, None, is_some, option_map, IfSome, MatchOption, nat_lt, ◌==◌, if◌then◌else◌}
 use Rattle.blz_constants.specs.declared.dwarf.TheConstants as dwarf
 use Rattle.blz_model.specs.Reads.{◌>>=◌}
 use Rattle.blz_info.specs.Attributes.{attribute}
@@ -97,3 +97,15 @@ wanted_of w = do
 
 abbrev pub met_view : List AttrSpec → Met → Wanted
 met_view specs m = (m.found, (drop m.count specs, m.place))
+
+-- what is met behind so many attributes and runs more
+abbrev pub further : Met → ℕ → ℕ → Met
+further m count runs = record { found = m.found; count = m.count + count; runs = (if is_some m.found then m.runs + runs else 0); place = m.place }
+
+-- What a search has met is what there is.
+abbrev pub IsMet : List AttrSpec → Encoding → StrBase → Contents → ℕ → Option Met → Type 0
+IsMet specs e base s at met = option_map (met_view specs) met ≡ wanted_in specs e base s at
+
+-- Something was met behind one attribute at least, or nothing behind all of them.
+abbrev pub IsMetAmong : List AttrSpec → Option Met → Type 0
+IsMetAmong specs met = IfSome met (λ m. MatchOption m.found (m.count ≡ length specs) (λ _. 0 < m.count))

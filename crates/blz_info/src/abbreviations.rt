@@ -4,10 +4,13 @@ ghost use Rattle.blz_model.specs.Part.{Gives};
 ghost use Rattle.blz_info.specs.Marks.{or_invalid};
 ghost use Rattle.blz_info.specs.AttributeRuns.{Passes, Reads};
 ghost use Rattle.blz_info.specs.Wanted.{any_placing};
+ghost use Rattle.blz_info.specs.AttributeLists.{AreLists};
 ghost use Rattle.blz_info.specs.AbbreviationTables.{spec_at, is_last, specs_in, has_children, abbreviation_at};
 
+use crate::attribute_lists::AttributeLists;
 use crate::encoding::Encoding;
 use crate::fault::invalid;
+use crate::kept_specs::KeptSpecs;
 use crate::ready::Ready;
 use crate::runs::Runs;
 use blz_bytes::{sleb_at, u8_at, uleb_at};
@@ -32,21 +35,22 @@ pub struct Abbreviation {
     pub tag: u64,
     /// Whether they have children.
     pub children: bool,
-    specs: Vec<AttrSpec>,
+    specs: KeptSpecs,
     // how the attributes are passed over and read
     ready: Ready,
 }
 
 impl Model for Abbreviation {
     ghost use Rattle.blz_info.specs.Abbrevs.{Abbrev};
+    ghost use Rattle.blz_info.specs.KeptSpecs.{kept_specs};
 
     ghost Value = { Abbrev };
 
-    ghost view = { λ a. record { code = a.code; tag = a.tag; children = a.children; specs = a.specs.items } };
+    ghost view = { λ a. record { code = a.code; tag = a.tag; children = a.children; specs = kept_specs a.specs } };
 
     ghost use Rattle.blz_info.specs.AttributeRuns.{IsReady};
 
-    ghost invariant = { λ a. IsReady a.ready a.specs.items };
+    ghost invariant = { λ a. IsReady a.ready (kept_specs a.specs) };
 }
 
 impl Abbreviation {
@@ -54,7 +58,7 @@ impl Abbreviation {
     pub fn attributes(&self) -> &[AttrSpec]
         ensures { result.now ≡ self.now.specs }
     {
-        &self.specs
+        self.specs.as_slice()
     }
 
     /// Whether one of the attributes tells addresses or refers to an entry.
@@ -93,7 +97,8 @@ impl Abbreviation {
 }
 
 #[tactic(auto, unfolding(crate::specs::AbbreviationTables::spec_at))]
-fn spec_at(bytes: &[u8], at: usize) -> Option<(AttrSpec, usize)>
+#[inline(always)]
+pub(crate) fn spec_at(bytes: &[u8], at: usize) -> Option<(AttrSpec, usize)>
     ensures value { result ≡ spec_at bytes.now at }
     ensures ahead { IfSome result (λ r. at < r.1) }
 {
@@ -127,7 +132,7 @@ fn is_last(spec: AttrSpec) -> bool
     spec.name == 0 && spec.form == 0
 }
 
-fn specs_at(alloc: Global, bytes: &[u8], at: usize) -> Result<(Vec<AttrSpec>, usize)>
+pub(crate) fn specs_at(alloc: Global, bytes: &[u8], at: usize) -> Result<(Vec<AttrSpec>, usize)>
     ensures value { Gives (λ x. (x.0.items, x.1)) result (or_invalid (specs_in (length bytes.now) [] bytes.now at)) }
     ensures ahead { IfOk result (λ x. at ≤ x.1) }
 {
@@ -156,7 +161,8 @@ fn has_children(flag: u8) -> Option<bool>
     }
 }
 
-/// The abbreviation behind its code, ready for the sizes of a unit, and the place after it.
+/// The abbreviation behind its code, ready for the sizes of a unit, and the place after it. What is
+/// kept of long lists of attributes is taken from there, and more is kept.
 #[tactic(auto, unfolding(crate::specs::AbbreviationTables::abbreviation_at))]
 pub(crate) fn abbreviation_at(
     alloc: Global,
@@ -164,10 +170,13 @@ pub(crate) fn abbreviation_at(
     code: u64,
     bytes: &[u8],
     at: usize,
+    lists: &mut AttributeLists,
 ) -> Result<(Abbreviation, usize)>
+    requires { AreLists bytes.now lists.old }
     ensures value { Gives (λ x. x) result (or_invalid (abbreviation_at code bytes.now at)) }
     ensures code { IfOk result (λ x. x.0.code ≡ code) }
     ensures ahead { IfOk result (λ x. at < x.1) }
+    ensures lists { AreLists bytes.now lists.new }
 {
     let Some((tag, next)) = uleb_at(bytes, at) else {
         return Err(invalid("an abbreviation has no tag"));
@@ -178,14 +187,13 @@ pub(crate) fn abbreviation_at(
     let Some(children) = has_children(flag) else {
         return Err(invalid("the children byte of an abbreviation is neither 0 nor 1"));
     };
-    let (specs, next) = specs_at(alloc, bytes, next)?;
-    let ready = Ready::of(alloc, tag, &specs, encoding)?;
+    let read = lists.read(alloc, encoding, tag, bytes, next)?;
     let abbreviation = Abbreviation {
         code,
         tag,
         children,
-        specs,
-        ready,
+        specs: read.specs,
+        ready: read.ready,
     };
-    Ok((abbreviation, next))
+    Ok((abbreviation, read.end))
 }

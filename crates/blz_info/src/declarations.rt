@@ -6,9 +6,11 @@ ghost use Rattle.blz_error.specs.declared.kind.ErrorKind.TheVariants.{OutOfMemor
 ghost use Rattle.blz_model.specs.Part.{Fails, Gives};
 ghost use Rattle.blz_info.specs.Marks.{or_invalid};
 ghost use Rattle.blz_info.specs.Abbrevs.{of_code, bytes_of, IsFront, IsNumberOf};
+ghost use Rattle.blz_info.specs.AttributeLists.{AreLists};
 ghost use Rattle.blz_info.specs.AbbreviationTables.{abbreviations, has_code, AreBroken, GoOn, IsReadFrom};
 
 use crate::abbreviations::{Abbreviation, abbreviation_at};
+use crate::attribute_lists::AttributeLists;
 use crate::encoding::Encoding;
 use crate::fault::invalid;
 use blz_bytes::uleb_at;
@@ -169,9 +171,18 @@ impl Declarations {
 
     /// How many tables that begin at one of these have a code twice, where as many more are read at a place behind them. To
     /// read on costs no more than what was read, and tells it of tails whose own code stands twice further on.
-    fn count_repeated(&self, alloc: Global, abbrev: &[u8], at: usize, encoding: Encoding) -> usize
-        requires { GoOn «abbrev».now self.now at }
-        ensures { AreBroken «abbrev».now (take result self.now.places) }
+    fn count_repeated(
+        &self,
+        alloc: Global,
+        abbrev: &[u8],
+        at: usize,
+        encoding: Encoding,
+        lists: &mut AttributeLists,
+    ) -> usize
+        requires on { GoOn «abbrev».now self.now at }
+        requires lists { AreLists «abbrev».now lists.old }
+        ensures broken { AreBroken «abbrev».now (take result self.now.places) }
+        ensures lists { AreLists «abbrev».now lists.new }
     {
         let mut count = 0;
         let mut place = at;
@@ -183,7 +194,7 @@ impl Declarations {
                 return count;
             }
             count = count.max(self.count_with(code));
-            let Ok((_, next)) = abbreviation_at(alloc, encoding, code, abbrev, next) else {
+            let Ok((_, next)) = abbreviation_at(alloc, encoding, code, abbrev, next, lists) else {
                 return count;
             };
             place = next;
@@ -194,11 +205,20 @@ impl Declarations {
     /// Reads those from an offset of `.debug_abbrev` on into what is empty. Where they are not whole, those places are left
     /// of which no table that begins there is whole: all that begin before what is broken, and where a code stands twice those
     /// that begin at its first declaration or before it.
-    fn read(&mut self, alloc: Global, abbrev: &[u8], at: u64, encoding: Encoding) -> Result<()>
-        requires { self.old ≡ record { list = []; places = [] } }
+    fn read(
+        &mut self,
+        alloc: Global,
+        abbrev: &[u8],
+        at: u64,
+        encoding: Encoding,
+        lists: &mut AttributeLists,
+    ) -> Result<()>
+        requires empty { self.old ≡ record { list = []; places = [] } }
+        requires lists { AreLists «abbrev».now lists.old }
         ensures value { Gives (λ _. self.new.list) result (or_invalid (abbreviations «abbrev».now at)) }
         ensures places { IfOk result (λ _. IsReadFrom «abbrev».now self.new) }
         ensures broken { IfErr result (λ e. e.kind ≢ OutOfMemory → AreBroken «abbrev».now self.new.places) }
+        ensures lists { AreLists «abbrev».now lists.new }
     {
         if at > abbrev.len() as u64 {
             return Err(invalid("abbreviations lie outside their section"));
@@ -213,11 +233,11 @@ impl Declarations {
                 return Ok(());
             }
             if self.has(code) {
-                let count = self.count_repeated(alloc, abbrev, place, encoding);
+                let count = self.count_repeated(alloc, abbrev, place, encoding, lists);
                 self.places.truncate(count);
                 return Err(invalid("an abbreviation code stands twice"));
             }
-            let (abbreviation, next) = abbreviation_at(alloc, encoding, code, abbrev, next)?;
+            let (abbreviation, next) = abbreviation_at(alloc, encoding, code, abbrev, next, lists)?;
             self.add(abbreviation)?;
             place = next;
         }
@@ -244,7 +264,30 @@ impl Declarations {
 
     /// The declarations from an offset of `.debug_abbrev` on (DWARF 5 section 7.5.3), ready for units whose fields have the
     /// sizes of an encoding: their entries are walked over faster. InvalidDwarf exactly where they are not whole, or a code
-    /// or a children byte is not as it has to be; then it is told where else this is so.
+    /// or a children byte is not as it has to be; then it is told where else this is so. What is kept of
+    /// long lists of attributes is taken from there, and more is kept.
+    pub fn parse_sharing(
+        alloc: Global,
+        abbrev: &[u8],
+        at: u64,
+        encoding: Encoding,
+        lists: &mut AttributeLists,
+    ) -> std::result::Result<Declarations, BrokenTables>
+        requires { AreLists «abbrev».now lists.old }
+        ensures value { IfOk result (λ d. abbreviations «abbrev».now at ≡ Some d.list) }
+        ensures places { IfOk result (IsReadFrom «abbrev».now) }
+        ensures fails { IfErr result (λ b. Fails b.fault.kind (or_invalid (abbreviations «abbrev».now at))) }
+        ensures broken { IfErr result (λ b. AreBroken «abbrev».now b.places.items) }
+        ensures lists { AreLists «abbrev».now lists.new }
+    {
+        let mut read = Declarations::empty(alloc);
+        match read.read(alloc, abbrev, at, encoding, lists) {
+            Ok(()) => Ok(read),
+            Err(fault) => Err(read.broken(fault)),
+        }
+    }
+
+    /// The same, where nothing is kept from other calls.
     pub fn parse_or_broken(
         alloc: Global,
         abbrev: &[u8],
@@ -256,11 +299,8 @@ impl Declarations {
         ensures fails { IfErr result (λ b. Fails b.fault.kind (or_invalid (abbreviations «abbrev».now at))) }
         ensures broken { IfErr result (λ b. AreBroken «abbrev».now b.places.items) }
     {
-        let mut read = Declarations::empty(alloc);
-        match read.read(alloc, abbrev, at, encoding) {
-            Ok(()) => Ok(read),
-            Err(fault) => Err(read.broken(fault)),
-        }
+        let mut lists = AttributeLists::new(alloc);
+        Declarations::parse_sharing(alloc, abbrev, at, encoding, &mut lists)
     }
 
     /// The same, and no more than that there are none.

@@ -12,12 +12,13 @@ ghost use Rattle.blz_info.specs.Wanted.{bare_language, wanted_of};
 use crate::abbreviations::{Abbreviation, AttrSpec};
 use crate::attributes::{attribute, passed};
 use crate::behind::over;
+use crate::cuts::KeptRuns;
 use crate::encoding::Encoding;
 use crate::fault::invalid;
 use crate::lent::LentTable;
 use crate::passing::Passing;
 use crate::ready::next_wanted;
-use crate::runs::{Runs, passed_by};
+use crate::runs::Runs;
 use crate::section::{Section, Sections, cut};
 use crate::table::Abbreviations;
 use crate::text::{StrBase, StrPart};
@@ -173,13 +174,7 @@ impl<'s, 'b> Entries<'s, 'b> {
         ensures within { IfSome result (λ n. (self.now.place ≤ n) × (self.now.place ≤ length self.now.source.section.bytes → n ≤ length self.now.source.section.bytes)) }
     {
         if let Some(runs) = self.passing {
-            return passed_by(
-                &runs.runs,
-                runs.tail,
-                self.encoding,
-                &self.section,
-                self.place,
-            );
+            return runs.passed(self.encoding, &self.section, self.place);
         }
         passed(
             self.pending,
@@ -357,12 +352,13 @@ impl<'s, 'b> Entries<'s, 'b> {
         ensures within { IfSome result (λ n. StaysIn self.now.source.section.bytes at n) }
     {
         let runs = abbreviation.passing(self.encoding)?;
-        let list = runs.runs.as_slice();
         // most entries have attributes of fixed sizes alone
-        if list.is_empty() {
+        if let KeptRuns::Own(list) = &runs.runs
+            && list.as_slice().is_empty()
+        {
             return over(runs.tail, self.section.bytes, at);
         }
-        passed_by(list, runs.tail, self.encoding, &self.section, at)
+        runs.passed(self.encoding, &self.section, at)
     }
 
     /// The place and the depth behind the entry at a place, where it is passed over and its size is known.

@@ -2,8 +2,12 @@
 #![tactic(auto)]
 
 mod abbreviations;
+mod attribute_list;
+mod attribute_lists;
 mod attributes;
 mod behind;
+mod cuts;
+mod cutting;
 mod declarations;
 mod encoding;
 mod entries;
@@ -11,10 +15,13 @@ mod extent;
 mod fault;
 mod field;
 mod form;
+mod kept_specs;
+mod known;
 pub mod laws;
 mod lent;
 mod listing;
 mod passing;
+mod placed_list;
 mod ready;
 mod runs;
 mod section;
@@ -25,6 +32,7 @@ mod value;
 mod wanted;
 
 pub use abbreviations::{Abbreviation, AttrSpec};
+pub use attribute_lists::AttributeLists;
 pub use declarations::{BrokenTables, Declarations};
 pub use encoding::Encoding;
 pub use entries::{Entries, Entry};

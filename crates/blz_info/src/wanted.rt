@@ -2,7 +2,7 @@
 //! called, or what holds for a whole unit.
 ghost use Rattle.std.specs.Prelude.{◌≡◌, ◌≤◌, ◌<◌, ◌+◌, ◌^◌, length, drop, Some, IfSome, MatchOption, option_map};
 ghost use Rattle.blz_info.specs.Contents.{section_view, StaysIn};
-ghost use Rattle.blz_info.specs.Wanted.{is_wanted, is_placing, any_placing, bare_value, same_kind, is_alike, any_alike, bare_language, told_elsewhere, tells, wanted_in, met_view};
+ghost use Rattle.blz_info.specs.Wanted.{is_wanted, is_placing, any_placing, bare_value, same_kind, is_alike, any_alike, bare_language, told_elsewhere, tells, wanted_in, met_view, further};
 
 use crate::abbreviations::AttrSpec;
 use crate::attributes::attribute;
@@ -23,6 +23,25 @@ pub struct Met {
     pub(crate) runs: usize,
     /// The place behind them.
     pub(crate) place: usize,
+}
+
+impl Met {
+    /// The same, met behind so many attributes and runs more.
+    pub(crate) fn behind(self, count: usize, runs: usize) -> Met
+        requires attributes { self.count + count < 2 ^ 64 }
+        requires runs { self.runs + runs < 2 ^ 64 }
+        ensures { result ≡ further self count runs }
+    {
+        let runs = match self.found {
+            Some(_) => self.runs + runs,
+            None => 0,
+        };
+        Met {
+            count: self.count + count,
+            runs,
+            ..self
+        }
+    }
 }
 
 /// The attribute is wanted where what an entry is called and covers is read, or what a unit says of itself.
@@ -54,7 +73,7 @@ pub(crate) fn is_wanted(name: u64) -> bool
 
 /// The attribute tells addresses that its entry covers, or another entry that it stands for.
 #[tactic(auto, unfolding(crate::specs::Wanted::is_placing))]
-fn is_placing(name: u64) -> bool
+pub(crate) fn is_placing(name: u64) -> bool
     ensures { result ≡ is_placing name }
 {
     match name {

@@ -14,6 +14,7 @@ pub mod KeptValues
 pub mod TableWindows
 pub mod CutTables
 pub mod SharedTables
+pub mod SizedSteps
 pub mod LineHeaders
 pub mod SharedPackage
 pub mod Shared

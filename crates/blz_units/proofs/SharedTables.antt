@@ -10,6 +10,7 @@ use Rattle.blz_units.specs.declared.shared_tables.KeptTables.{KeptTables}
 use Rattle.blz_units.specs.declared.shared_tables.NoTables.{NoTables}
 use Rattle.blz_units.specs.declared.shared_tables.SharedTables.{SharedTables}
 use Rattle.blz_units.specs.SharedTables.{table_cmp, AreTables}
+use Rattle.blz_units.specs.SizedLists.{AreSizedLists}
 use Rattle.blz_units.proofs.CutTables.{broken_before, whole_before, whole_in_all}
 use Rattle.blz_units.proofs.KeptValues.{if_empty, number_more, pair_more}
 
@@ -19,10 +20,11 @@ AreRead bytes k = IsReadFrom (take k.end bytes) (arc_value k.declarations)
 abbrev AreNone : List ℕ → NoTables → Type 0
 AreNone bytes b = AreBroken (take b.end bytes) b.places.items
 
-pub new_tables : (bytes : List ℕ) (t : SharedTables) → IsEmpty t.kept → IsEmpty t.broken → AreTables bytes t
-new_tables bytes t kept broken = record {
+pub new_tables : (bytes : List ℕ) (t : SharedTables) → IsEmpty t.kept → IsEmpty t.broken → AreSizedLists bytes t.lists → AreTables bytes t
+new_tables bytes t kept broken lists = record {
   kept = if_empty table_cmp t.kept (λ _ k. AreRead bytes k) kept;
   broken = if_empty nat_cmp t.broken (λ _ b. AreNone bytes b) broken;
+  lists = lists;
 }
 
 -- the table at a place of declarations that are kept
@@ -48,20 +50,27 @@ kept_in_all bytes end at h = is_in_all bytes end at (abbreviations (take end byt
 -- ---- one more, or none
 
 module _ (bytes : List ℕ) (old new : SharedTables) where
-  pub kept_same : new.kept.entries ≡ old.kept.entries → new.broken ≡ old.broken → AreTables bytes old → AreTables bytes new
-  kept_same e b tables = record { kept = λ key. rw e (tables.kept key); broken = rw b tables.broken }
+  pub kept_same : new.kept.entries ≡ old.kept.entries → new.broken ≡ old.broken → new.lists ≡ old.lists → AreTables bytes old → AreTables bytes new
+  kept_same e b l tables = record { kept = λ key. rw e (tables.kept key); broken = rw b tables.broken; lists = rw l tables.lists }
 
-  pub kept_more : (key : ℕ × ℕ) (k : KeptTables) → Updates table_cmp old.kept new.kept key (Some k) → new.broken ≡ old.broken → IsReadFrom (take k.end bytes) (arc_value k.declarations) → AreTables bytes old → AreTables bytes new
-  kept_more key k u b here tables = record {
+  pub kept_more : (key : ℕ × ℕ) (k : KeptTables) → Updates table_cmp old.kept new.kept key (Some k) → new.broken ≡ old.broken → new.lists ≡ old.lists → IsReadFrom (take k.end bytes) (arc_value k.declarations) → AreTables bytes old → AreTables bytes new
+  kept_more key k u b l here tables = record {
     kept = pair_more old.kept new.kept key k (λ _ x. AreRead bytes x) u here tables.kept;
     broken = rw b tables.broken;
+    lists = rw l tables.lists;
   }
 
-  pub broken_same : new.broken.entries ≡ old.broken.entries → new.kept ≡ old.kept → AreTables bytes old → AreTables bytes new
-  broken_same e k tables = record { kept = rw k tables.kept; broken = λ at. rw e (tables.broken at) }
+  pub broken_same : new.broken.entries ≡ old.broken.entries → new.kept ≡ old.kept → new.lists ≡ old.lists → AreTables bytes old → AreTables bytes new
+  broken_same e k l tables = record { kept = rw k tables.kept; broken = λ at. rw e (tables.broken at); lists = rw l tables.lists }
 
-  pub broken_more : (first : ℕ) (b : NoTables) → Updates nat_cmp old.broken new.broken first (Some b) → new.kept ≡ old.kept → AreBroken (take b.end bytes) b.places.items → AreTables bytes old → AreTables bytes new
-  broken_more first b u k here tables = record {
+  pub broken_more : (first : ℕ) (b : NoTables) → Updates nat_cmp old.broken new.broken first (Some b) → new.kept ≡ old.kept → new.lists ≡ old.lists → AreBroken (take b.end bytes) b.places.items → AreTables bytes old → AreTables bytes new
+  broken_more first b u k l here tables = record {
     kept = rw k tables.kept;
     broken = number_more old.broken new.broken first b (λ _ x. AreNone bytes x) u here tables.broken;
+    lists = rw l tables.lists;
   }
+
+-- Where what is kept tells of a table, there is one.
+pub some_told : {X : Type 0} (o : Option X) (f : X → List Abbrev) (table : Option (List Abbrev)) → IfSome o (λ x. table ≡ Some (f x)) → is_some o ≡ true → is_some table ≡ true
+some_told None f table h some = absurd cc
+some_told (Some x) f table h some = rw h refl

@@ -1,4 +1,5 @@
 pub mod BuiltUnits
+pub mod SizedLists
 pub mod SharedTables
 pub mod Sharing
 pub mod SharedPackage

@@ -10,6 +10,7 @@ use Rattle.blz_info.specs.AbbreviationTables.{abbreviations, AreBroken, IsReadFr
 use Rattle.blz_info.specs.Abbrevs.{Abbrev}
 use Rattle.blz_info.specs.Marks.{or_invalid}
 use Rattle.blz_info.specs.declared.units.UnitHeader.{UnitHeader}
+use Rattle.blz_units.specs.SizedLists.{AreSizedLists}
 use Rattle.blz_units.specs.declared.shared_tables.SharedTables.{SharedTables}
 
 -- the sizes of the fields of a unit as one number
@@ -36,3 +37,4 @@ IsTableAt bytes at result = Gives (λ t. t) result (or_invalid (abbreviations by
 pub record AreTables (bytes : List ℕ) (t : SharedTables) : Type 0 where
   pub kept : (key : ℕ × ℕ) → IfSome (get table_cmp t.kept key) (λ k. IsReadFrom (take k.end bytes) (arc_value k.declarations))
   pub broken : (at : ℕ) → IfSome (get nat_cmp t.broken at) (λ b. AreBroken (take b.end bytes) b.places.items)
+  pub lists : AreSizedLists bytes t.lists

@@ -3,7 +3,7 @@ ghost use Rattle.std.specs.Prelude.{◌≡◌, ◌≤◌, length, take};
 ghost use Rattle.blz_info.specs.AbbreviationTables.{IsReadFrom};
 ghost use Rattle.blz_units.specs.SharedTables.{AreTables, IsTableAt};
 
-use crate::shared_tables::{SharedTables, read_before, sizes_of};
+use crate::shared_tables::{SharedTables, sizes_of};
 use crate::unit_list::UnitList;
 use crate::unit_table::units_in;
 use blz_entry::{Abbreviations, BrokenTables, Declarations, Sections, UnitHeader};
@@ -64,7 +64,8 @@ impl SharedTables {
         ensures { AreTables «abbrev».now self.new }
     {
         let least = end_of(&declarations, header.abbrev, end);
-        match read_before(alloc, abbrev, header, least) {
+        let read = self.lists.read_before(alloc, abbrev, header, least);
+        match read {
             Ok(shortest) => {
                 let shortest = Arc::new(alloc, shortest)?;
                 self.keep_declarations(abbrev, header, &shortest, least)
@@ -92,7 +93,8 @@ impl SharedTables {
         if self.keeps_before(header, end) || self.is_broken(header.abbrev, end) {
             return Ok(true);
         }
-        match read_before(alloc, abbrev, header, end) {
+        let read = self.lists.read_before(alloc, abbrev, header, end);
+        match read {
             Ok(declarations) => self.keep_shortest(alloc, abbrev, header, declarations, end),
             Err(BrokenTables { places, read, .. }) => self.note_broken(abbrev, places, read, end),
         }
@@ -129,6 +131,7 @@ impl SharedTables {
     pub fn begins_gathering(&mut self, header: &UnitHeader) -> std::result::Result<bool, AllocError>
         ensures kept { self.new.kept ≡ self.old.kept }
         ensures broken { self.new.broken ≡ self.old.broken }
+        ensures lists { self.new.lists ≡ self.old.lists }
     {
         let sizes = sizes_of(header);
         match self.gathered.get(&sizes) {

@@ -23,5 +23,6 @@ pub mod shared_lists;
 pub mod shared_package;
 pub mod shared_parts;
 mod shared_tables;
+mod sized_lists;
 pub mod unit_list;
 pub mod unit_table;

@@ -1,12 +1,11 @@
 //! Tables of abbreviations that units share, read once.
-ghost use Rattle.std.specs.Prelude.{◌≡◌, ◌≤◌, ℕ, true, List, drop, length, slice_get, take, IfErr, IfSome, IfOk, Some, None, is_some};
+ghost use Rattle.std.specs.Prelude.{◌≡◌, ◌≤◌, ℕ, true, List, drop, length, slice_get, take, IfSome, IfOk, Some, None, is_some};
 ghost use Rattle.std.specs.Arc.{arc_value};
 ghost use Rattle.std.specs.BTreeMap.{IsEmpty};
-ghost use Rattle.blz_model.specs.Part.{Fails};
-ghost use Rattle.blz_info.specs.Marks.{or_invalid};
 ghost use Rattle.blz_info.specs.AbbreviationTables.{abbreviations, AreBroken, IsReadFrom};
 ghost use Rattle.blz_units.specs.SharedTables.{bytes_kept, with_more, sizes_of, AreTables, IsTableAt};
 
+use crate::sized_lists::SizedLists;
 use blz_entry::{Abbreviations, BrokenTables, Declarations, UnitHeader, invalid};
 use blz_error::Result;
 use std::alloc::{AllocError, Global};
@@ -39,6 +38,8 @@ pub struct SharedTables {
     pub broken: BTreeMap<u64, NoTables>,
     /// How many declarations were read to find them.
     pub broken_read: u64,
+    /// The long lists of attributes that were read, which tables share that are not kept.
+    pub lists: SizedLists,
     /// For which sizes there was no room, and whether the tables of all units were sought then.
     pub gathered: BTreeMap<u64, bool>,
 }
@@ -71,27 +72,11 @@ fn has_place(places: &[u64], at: u64) -> bool
 }
 
 /// A section up to an end.
-fn up_to(bytes: &[u8], end: usize) -> &[u8]
+pub fn up_to(bytes: &[u8], end: usize) -> &[u8]
     requires { end ≤ length bytes.now }
     ensures { result.now ≡ take end bytes.now }
 {
     &bytes[..end]
-}
-
-/// Reads the declarations from the offset of a unit on, before an end.
-pub fn read_before(
-    alloc: Global,
-    abbrev: &[u8],
-    header: &UnitHeader,
-    end: usize,
-) -> std::result::Result<Declarations, BrokenTables>
-    requires { end ≤ length «abbrev».now }
-    ensures value { IfOk result (λ d. abbreviations (take end «abbrev».now) header.now.«abbrev» ≡ Some d.list) }
-    ensures places { IfOk result (IsReadFrom (take end «abbrev».now)) }
-    ensures fails { IfErr result (λ b. Fails b.fault.kind (or_invalid (abbreviations (take end «abbrev».now) header.now.«abbrev»))) }
-    ensures broken { IfErr result (λ b. AreBroken (take end «abbrev».now) b.places.items) }
-{
-    Declarations::parse_or_broken(alloc, up_to(abbrev, end), header.abbrev, header.encoding())
 }
 
 impl SharedTables {
@@ -105,6 +90,7 @@ impl SharedTables {
             bytes: BTreeMap::new(alloc),
             broken: BTreeMap::new(alloc),
             broken_read: 0,
+            lists: SizedLists::new(alloc),
             gathered: BTreeMap::new(alloc),
         }
     }
@@ -237,6 +223,7 @@ impl SharedTables {
     fn note_room(&mut self, header: &UnitHeader, room: bool) -> std::result::Result<(), AllocError>
         ensures kept { self.new.kept ≡ self.old.kept }
         ensures broken { self.new.broken ≡ self.old.broken }
+        ensures lists { self.new.lists ≡ self.old.lists }
     {
         let sizes = sizes_of(header);
         if !room && self.gathered.get(&sizes).is_none() {
@@ -258,7 +245,8 @@ impl SharedTables {
         ensures value { IsTableAt (take end «abbrev».now) header.now.«abbrev» result }
         ensures tables { AreTables «abbrev».now self.new }
     {
-        match read_before(alloc, abbrev, header, end) {
+        let read = self.lists.read_before(alloc, abbrev, header, end);
+        match read {
             Ok(declarations) => {
                 let declarations = Arc::new(alloc, declarations)?;
                 let room = self.keep_declarations(abbrev, header, &declarations, end)?;

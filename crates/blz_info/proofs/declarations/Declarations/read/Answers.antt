@@ -16,7 +16,7 @@ returns-then-at-abbrev-clause-value c = marks _ _ (past_the_end _ _ _ _ (omega a
 
 pub loop-init : goal.loop-init
 unfolding abbreviations
-loop-init c = rw c.requires (ap (λ n. table_in n [] c.args.abbrev.now c.args.at) (omega arith), refl, refl, λ number. tt, omega arith)
+loop-init c = rw c.requires.empty (ap (λ n. table_in n [] c.args.abbrev.now c.args.at) (omega arith), refl, refl, λ number. tt, omega arith, c.requires.lists)
 
 pub returns-in_default-clause-value : goal.returns-in_default-clause-value
 returns-in_default-clause-value c =
@@ -43,8 +43,8 @@ returns-then-has-clause-value c =
     let again : has_code c.in-Some.code c.loop.self.list ≡ true = rw c.in_ok-mark.ensures at (sym c.if-has.ensures) in
     marks _ _ (sym c.loop.invariant.0 ∙ table_again _ _ _ _ _ c.in-Some.next (sym c.in-Some.ensures.value) (ne_eqb _ _ (omega arith)) again) c.invalid-then-has.ensures
 
-pub count_repeated-count-requires : goal.count_repeated-count-requires
-count_repeated-count-requires c =
+pub count_repeated-count-requires-clause-on : goal.count_repeated-count-requires-clause-on
+count_repeated-count-requires-clause-on c =
     let i = c.loop.invariant in
     let placed : AreTails c.args.abbrev.now c.mark.new.self c.loop.place = rw c.in_ok-mark.ensures (tails_placed c.args.abbrev.now c.loop.self c.loop.place (i.2 ∙ sym i.1) i.3) in
     tails_go_on c.args.abbrev.now c.mark.new.self c.loop.place placed
@@ -52,7 +52,7 @@ count_repeated-count-requires c =
 pub returns-then-has-clause-broken : goal.returns-then-has-clause-broken
 returns-then-has-clause-broken c = λ _.
     let kept : c.truncate.new.self.items ≡ take c.count_repeated-count.result c.mark.new.self.places = c.truncate.ensures.items ∙ ap (λ (d : Declared). take c.count_repeated-count.result d.places) c.self.view_is in
-    rw kept c.count_repeated-count.ensures
+    rw kept c.count_repeated-count.ensures.broken
 
 pub returns-in_err-abbreviation-clause-value : goal.returns-in_err-abbreviation-clause-value
 returns-in_err-abbreviation-clause-value c =
@@ -91,6 +91,7 @@ loop-preserved c =
       omega (arith, one, i.2),
       tails_more c.args.abbrev.now _ c.loop.place c.in-Some.code c.in-Some.next (omega (arith, i.1)) code c.in_ok-abbreviation.next c.in_ok-abbreviation.abbreviation (omega (arith, one, i.1, i.2)) some new read placed,
       omega (arith, ahead, within.0, further),
+      c.in_ok-abbreviation.ensures.lists,
     )
 
 pub returns-clause-value : goal.returns-clause-value
