@@ -6,5 +6,6 @@ pub mod Search
 pub mod Keyed
 pub mod Owned
 pub mod Ranges
+pub mod Rising
 pub mod Turned
 pub mod Skipping

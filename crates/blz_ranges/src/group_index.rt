@@ -6,6 +6,7 @@ ghost use Rattle.blz_ranges.specs.Best.{best_by, better, passes};
 ghost use Rattle.blz_ranges.specs.Groups.{after_in, best_in, next_in, in_group, spans_of, group_is, AreApartInGroups};
 ghost use Rattle.blz_ranges.specs.Keyed.{AreKeysOf, IsAccepted};
 ghost use Rattle.blz_ranges.specs.Ranges.{GroupedRanges, IsIndexIf};
+ghost use Rattle.blz_ranges.specs.Sorted.{IsIndexOf};
 
 use crate::grouped::{Grouped, first_places, search_order};
 use crate::ordered::{Ordered, Target, is_chain, last_before, place_found, split};
@@ -29,7 +30,7 @@ pub struct GroupIndex {
 impl Model for GroupIndex {
     ghost Value = { GroupedRanges };
 
-    ghost view = { λ x. record { list = x.list; ordered = x.ordered } };
+    ghost view = { λ x. record { list = x.list; ordered = x.ordered; order = x.order } };
 
     ghost invariant = { λ x. IsIndexIf x.list x.order x.skips x.ordered };
 }
@@ -116,6 +117,7 @@ impl GroupIndex {
     /// order was accepted.
     pub fn is_apart<L: Ledger>(&self, steps: &mut Steps<L>) -> bool
         ensures apart { result ≡ true → AreApartInGroups self.now.list }
+        ensures index { result ≡ true → IsIndexOf self.now.list self.now.order }
         ensures later { steps.old ≤ steps.new }
     {
         self.ordered && is_chain(&self.order, steps)
@@ -127,6 +129,14 @@ impl GroupIndex {
         ensures cost { steps.new ≡ steps.old + 1 }
     {
         self.list.look(place, steps)
+    }
+
+    /// The range at a place of the order, for one step.
+    pub(crate) fn entry<L: Ledger>(&self, at: usize, steps: &mut Steps<L>) -> Option<Ordered>
+        ensures entry { result ≡ slice_get self.now.order at }
+        ensures cost { steps.new ≡ steps.old + 1 }
+    {
+        self.order.look(at, steps)
     }
 
     /// Of the ranges of a group that cover an address the one with the greatest begin, then the earlier place.

@@ -5,6 +5,7 @@ ghost use Rattle.blz_ranges.specs.Best.{best, next, next_after};
 ghost use Rattle.blz_ranges.specs.Groups.{AreApart, spans_of};
 ghost use Rattle.blz_ranges.specs.Keyed.{IsAccepted, begin_key};
 ghost use Rattle.blz_ranges.specs.Ranges.{Ranges, AllInGroup};
+ghost use Rattle.blz_ranges.specs.Rising.{AreRising, all_placed};
 
 use crate::group_index::GroupIndex;
 use crate::grouped::{begin_keys, one_group};
@@ -24,7 +25,11 @@ pub struct RangeIndex {
 impl Model for RangeIndex {
     ghost Value = { Ranges };
 
-    ghost view = { λ x. record { spans = spans_of x.index.list; ordered = x.index.ordered } };
+    ghost view = { λ x. record {
+      spans = spans_of x.index.list;
+      ordered = x.index.ordered;
+      order = all_placed x.index.order;
+    } };
 
     ghost invariant = { λ x. AllInGroup 0 x.index.list };
 }
@@ -59,6 +64,20 @@ impl RangeIndex {
     {
         match self.index.range(place, steps) {
             Some(range) => Some(range.span),
+            None => None,
+        }
+    }
+
+    /// The range at a place of the order, with its place in the list, for one step.
+    pub fn ordered<L: Ledger>(&self, at: usize, steps: &mut Steps<L>) -> Option<Placed>
+        ensures range { result ≡ slice_get self.now.order at }
+        ensures cost { steps.new ≡ steps.old + 1 }
+    {
+        match self.index.entry(at, steps) {
+            Some(entry) => Some(Placed {
+                place: entry.place,
+                span: entry.span,
+            }),
             None => None,
         }
     }
@@ -113,16 +132,18 @@ impl RangeIndex {
         requires name { blank.name ≡ L.name }
         requires parts { blank.parts ≡ L.parts }
         requires some { 0 < blank.parts }
-        ensures { result ≡ true → AreApart self.now.spans }
+        ensures apart { result ≡ true → AreApart self.now.spans }
+        ensures rising { result ≡ true → AreRising self.now.spans self.now.order }
     {
         let mut steps: Steps<L> = Steps::new(blank);
         self.index.is_apart(&mut steps)
     }
 
-    /// Whether the order shows that the ranges are not empty and no two share an address. False where no order was
-    /// accepted. For a caller that counts no looks.
+    /// Whether the order shows that the ranges are not empty and no two share an address: then they rise in it. False
+    /// where no order was accepted. For a caller that counts no looks.
     pub fn is_apart(&self) -> bool
-        ensures { result ≡ true → AreApart self.now.spans }
+        ensures apart { result ≡ true → AreApart self.now.spans }
+        ensures rising { result ≡ true → AreRising self.now.spans self.now.order }
     {
         self.apart_from::<Brand>(Blank::new(1))
     }
