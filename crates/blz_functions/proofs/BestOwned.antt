@@ -11,7 +11,7 @@ use Rattle.blz_ranges.specs.Ranges.{owner_of, best_owner}
 
 -- ---- the better of two
 
-better_none : (x : Option (Owned Span)) → better_owned x None ≡ x
+pub better_none : (x : Option (Owned Span)) → better_owned x None ≡ x
 better_none None = refl
 better_none (Some p) = refl
 
@@ -28,7 +28,7 @@ three p q r =
       ]
     ]
 
-better_better : (x y z : Option (Owned Span)) → better_owned (better_owned x y) z ≡ better_owned x (better_owned y z)
+pub better_better : (x y z : Option (Owned Span)) → better_owned (better_owned x y) z ≡ better_owned x (better_owned y z)
 better_better None y z = refl
 better_better (Some p) None z = refl
 better_better (Some p) (Some q) None = better_none (better_owned (Some p) (Some q))

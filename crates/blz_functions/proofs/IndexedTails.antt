@@ -47,7 +47,7 @@ get_dropped [] (suc n) i = refl
 get_dropped (x ∷ xs) (suc n) i = let e : suc n + i ≡ suc (n + i) = omega arith in rw e (get_dropped xs n i)
 
 -- an address lies in one range alone
-one_covers : (spans : List Span) (a p q : ℕ) (s t : Span) → AreApart spans → slice_get spans p ≡ Some s → slice_get spans q ≡ Some t → covers s a ≡ true → covers t a ≡ true → (p ≡ q → ⊥) → ⊥
+pub one_covers : (spans : List Span) (a p q : ℕ) (s t : Span) → AreApart spans → slice_get spans p ≡ Some s → slice_get spans q ≡ Some t → covers s a ≡ true → covers t a ≡ true → (p ≡ q → ⊥) → ⊥
 one_covers spans a p q s t apart is_s is_t in_s in_t differ =
     let x = and_parts (leb s.begin a) (ltb a s.end) in_s in
     let y = and_parts (leb t.begin a) (ltb a t.end) in_t in

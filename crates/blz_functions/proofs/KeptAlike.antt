@@ -1,45 +1,39 @@
 -- Lists that are kept for one unit are right for another one that reads lists alike.
-use Rattle.std.proofs.Common.{◌≡◌, ℕ, List, [], ◌∷◌, ◌++◌, drop, Option, refl, sym, ap, subst, ◌∙◌}
+use Rattle.std.proofs.Common.{◌≡◌, ℕ, Bool, List, [], ◌∷◌, ◌++◌, Option, refl, sym, ap, subst, ◌∙◌}
 use Rattle.std.specs.Arc.{arc_value}
 use Rattle.std.specs.BTreeMap.{get}
 use Rattle.std.specs.Ordering.{nat_cmp}
+use Rattle.std.specs.Prelude.{is_some}
 use Rattle.std.specs.declared.alloc.Global.{Global}
 use Rattle.std.specs.declared.sync.Arc.{Arc}
 use Rattle.std.specs.declared.vec.Vec.{Vec}
 use Rattle.std.proofs.lemmas.List.Elements.{All-weaker}
-use Rattle.blz_entry.specs.RangeLists.{greatest}
+use Rattle.blz_entry.specs.RangeLists.{greatest, joined}
 use Rattle.blz_ranges.specs.Owned.{Owned, own_all}
 use Rattle.blz_ranges.specs.declared.span.Span.{Span}
 use Rattle.blz_functions.specs.BestOwned.{AnswersAs}
+use Rattle.blz_functions.specs.FrontLists.{IsFrontEntry, IsFrontList, based}
 use Rattle.blz_functions.specs.KeptLists.{pieces_cmp, AreKeptLists, IsContent, IsKeptContent, IsNamedList}
 use Rattle.blz_functions.specs.Leaves.{UnitParts}
 use Rattle.blz_functions.specs.Pieces.{or_none, spans_named, told}
 use Rattle.blz_functions.specs.ReadAlike.{ReadAlike}
-use Rattle.blz_functions.specs.ReadLists.{IsFreeIn, IsUseAt}
-use Rattle.blz_functions.specs.RelativeList.{IsRelativeEntry, IsRelativeIn}
+use Rattle.blz_functions.specs.ReadLists.{IsFreeIn}
+use Rattle.blz_functions.specs.RelativeList.{IsRelativeIn}
+use Rattle.blz_functions.specs.SharedList.{last_of}
 use Rattle.blz_functions.specs.WholeLists.{AreWithin, IsEntryIn, IsWhole}
+use Rattle.blz_functions.specs.declared.front_list.FrontList.{FrontList}
 use Rattle.blz_functions.specs.declared.reach.Reach.{Reach}
 use Rattle.blz_functions.specs.declared.kept_lists.KeptLists.{KeptLists}
 use Rattle.blz_functions.specs.declared.kept_lists.NamedList.{NamedList}
 use Rattle.blz_functions.specs.declared.pieces.Named.{Named}
 use Rattle.blz_functions.specs.declared.pieces.Named.TheVariants.{Range, Listed}
 use Rattle.blz_functions.specs.declared.pieces.Piece.{Piece}
-use Rattle.blz_functions.specs.declared.read_lists.BaseUse.{BaseUse}
-use Rattle.blz_functions.specs.declared.read_lists.BaseUse.TheVariants.{MayCount, AsBehind, Unused}
-use Rattle.blz_functions.specs.declared.read_lists.PassedEntry.{PassedEntry}
+use Rattle.blz_functions.specs.declared.whole_list.KeptEntry.{KeptEntry}
 use Rattle.blz_functions.specs.declared.whole_list.WholeList.{WholeList}
 use Rattle.blz_functions.proofs.ReadLists.{if_mapped}
 
-alike_back : (u v : UnitParts) → ReadAlike u v → ReadAlike v u
-alike_back u v alike = record { spans = λ t. sym (alike.spans t); size = sym alike.size }
-
 free_alike : (u v : UnitParts) → ReadAlike u v → (place : ℕ) → IsFreeIn u place → IsFreeIn v place
 free_alike u v alike place free = λ base other. alike.spans (record { place = place; base = base }) ∙ (free base other ∙ sym (alike.spans (record { place = place; base = other })))
-
-use_alike : (u v : UnitParts) → ReadAlike u v → (place behind : ℕ) (use_of : BaseUse) → IsUseAt u place behind use_of → IsUseAt v place behind use_of
-use_alike u v alike place behind MayCount is = tt
-use_alike u v alike place behind AsBehind is = λ free. free_alike u v alike place (is (free_alike v u (alike_back u v alike) behind free))
-use_alike u v alike place behind Unused is = free_alike u v alike place is
 
 -- ---- what pieces tell
 
@@ -57,29 +51,43 @@ told_alike u v alike (p ∷ rest) =
 -- ---- what is kept
 
 module _ (u v : UnitParts) (alike : ReadAlike u v) where
-  entry_alike : (spans : List Span) (p : PassedEntry) → IsEntryIn u spans p → IsEntryIn v spans p
-  entry_alike spans p is = record { begins = alike.spans p.tail ∙ is.begins; base = use_alike u v alike p.tail.place p.behind p.base is.base }
-
   relative_alike : (place : ℕ) (spans : List Span) → IsRelativeIn u place spans → IsRelativeIn v place spans
   relative_alike place spans is = record {
     from_zero = alike.spans (record { place = place; base = 0 }) ∙ is.from_zero;
     from_base = λ base most ends below. alike.spans (record { place = place; base = base }) ∙ is.from_base base most ends (rw alike.size at below);
   }
 
-  counted_alike : (spans : List Span) (p : PassedEntry) → IsRelativeEntry u spans p → IsRelativeEntry v spans p
-  counted_alike spans p is = record { zero = is.zero; counts = is.counts; ranges = relative_alike p.tail.place (drop p.before spans) is.ranges }
-
-  reach_alike : (spans : List Span) (entries : List PassedEntry) (reach : Reach) → AreWithin u spans entries reach → AreWithin v spans entries reach
-  reach_alike spans entries reach is = record {
-    each = All-weaker (IsRelativeEntry u spans) (IsRelativeEntry v spans) (counted_alike spans) entries is.each;
-    most = is.most;
-    top = is.top ∙ ap greatest (sym alike.size);
+  entry_alike : (turned : List Span) (counts : Bool) (p : KeptEntry) → IsEntryIn u turned counts p → IsEntryIn v turned counts p
+  entry_alike turned counts p is = record {
+    within = is.within;
+    begins = alike.spans p.tail ∙ is.begins;
+    free = λ free. free_alike u v alike p.tail.place (is.free free);
+    counted = λ known. relative_alike p.tail.place (last_of turned p.count) (is.counted known);
   }
 
+  reach_alike : (turned : List Span) (reach : Reach) → AreWithin u turned reach → AreWithin v turned reach
+  reach_alike turned reach is = record { most = is.most; top = is.top ∙ ap greatest (sym alike.size) }
+
   whole_alike : (list : WholeList) → IsWhole u list → IsWhole v list
-  whole_alike list whole = record {
-    entries = All-weaker (IsEntryIn u list.ranges) (IsEntryIn v list.ranges) (entry_alike list.ranges) list.entries.items whole.entries;
-    reach = if_mapped list.reach (AreWithin u list.ranges list.entries.items) (AreWithin v list.ranges list.entries.items) (reach_alike list.ranges list.entries.items) whole.reach;
+  whole_alike list whole =
+      let counts = is_some list.reach in
+      record {
+        entries = All-weaker (IsEntryIn u list.ranges counts) (IsEntryIn v list.ranges counts) (entry_alike list.ranges counts) list.entries.items whole.entries;
+        reach = if_mapped list.reach (AreWithin u list.ranges) (AreWithin v list.ranges) (reach_alike list.ranges) whole.reach;
+      }
+
+  front_alike : (turned : List Span) (end : ℕ) (p : KeptEntry) → IsFrontEntry u turned end p → IsFrontEntry v turned end p
+  front_alike turned end p is =
+      let front = last_of turned p.count in
+      record {
+        within = is.within;
+        leads = λ base. alike.spans (based p.tail.place base) ∙ (is.leads base ∙ ap (joined front) (sym (alike.spans (based end base))));
+      }
+
+  fronts_alike : (list : FrontList) → IsFrontList u list → IsFrontList v list
+  fronts_alike list is = record {
+    entries = All-weaker (IsFrontEntry u list.ranges list.end) (IsFrontEntry v list.ranges list.end) (front_alike list.ranges list.end) list.entries.items is.entries;
+    rest = whole_alike list.rest is.rest;
   }
 
   list_alike : (list : NamedList) → IsNamedList u list → IsNamedList v list
@@ -94,5 +102,6 @@ module _ (u v : UnitParts) (alike : ReadAlike u v) where
   pub kept_alike : (lists : KeptLists) → AreKeptLists u lists → AreKeptLists v lists
   kept_alike lists are = record {
     named = λ offset. if_mapped (get nat_cmp lists.named offset) (IsNamedList u) (IsNamedList v) list_alike (are.named offset);
+    fronts = λ end. if_mapped (get nat_cmp lists.fronts end) (IsFrontList u) (IsFrontList v) fronts_alike (are.fronts end);
     contents = λ key. if_mapped (get pieces_cmp lists.contents key) (IsKeptContent u key) (IsKeptContent v key) (kept_content_alike key) (are.contents key);
   }

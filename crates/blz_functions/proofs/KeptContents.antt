@@ -17,9 +17,10 @@ use Rattle.blz_functions.proofs.PieceOrder.{same_pieces}
 use Rattle.blz_functions.proofs.ReadLists.{more_alike}
 
 -- one content more
-pub content_kept : (u : UnitParts) (old new : KeptLists) (pieces : Vec Piece Global) (content : Option (Arc (List (Owned Span)) Global)) → new.named ≡ old.named → Updates pieces_cmp old.contents new.contents pieces (Some content) → IsKeptContent u pieces content → AreKeptLists u old → AreKeptLists u new
-content_kept u old new pieces content same put is told = record {
+pub content_kept : (u : UnitParts) (old new : KeptLists) (pieces : Vec Piece Global) (content : Option (Arc (List (Owned Span)) Global)) → new.named ≡ old.named → new.fronts ≡ old.fronts → Updates pieces_cmp old.contents new.contents pieces (Some content) → IsKeptContent u pieces content → AreKeptLists u old → AreKeptLists u new
+content_kept u old new pieces content same still put is told = record {
   named = rw same told.named;
+  fronts = rw still told.fronts;
   contents = more_alike pieces_cmp old.contents new.contents pieces content (IsKeptContent u) (λ at e h. rw (sym (same_pieces pieces at e)) h) put is told.contents;
 }
 

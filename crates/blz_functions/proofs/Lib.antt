@@ -25,10 +25,20 @@ pub mod IndexedTails
 pub mod Sharings
 pub mod PiecedTails
 pub mod MovedRanges
+pub mod OrderedTails
+pub mod RankedSearch
+pub mod RankOrder
+pub mod SearchedRanges
+pub mod ApartAnswers
+pub mod OneLists
+pub mod RankedLayers
 pub mod BetterFound
 pub mod FoundRanges
 pub mod LayersCost
+pub mod LayerRows
+pub mod MeetingLayers
 pub mod PartedPieces
+pub mod RisingTails
 pub mod SharedLists
 pub mod MergedLists
 pub mod MergedOrder
@@ -36,6 +46,7 @@ pub mod MergedTails
 pub mod Reaches
 pub mod RelativeLists
 pub mod WholeLists
+pub mod FrontLists
 pub mod PieceOrder
 pub mod KeptContents
 pub mod ToldPieces
@@ -46,4 +57,5 @@ pub mod SettledDepths
 pub mod RenamedRanges
 pub mod CallsRead
 pub mod SettledFunctions
+pub mod LayeredRows
 pub mod KeptAlike

@@ -124,13 +124,13 @@ one_call : (o : Option CalledTail) (m n : ℕ) (p q : Ranged) → ranged_in m o 
 one_call None m n p q h k = absurd cc
 one_call (Some t) m n p q h k = call_is t.call (slice_get t.tail m) p h ∙ sym (call_is t.call (slice_get t.tail n) q k)
 
-record IsBehind {A : Type 0} (xs ys : List A) (k : ℕ) (x : A) : Type 0 where
+pub record IsBehind {A : Type 0} (xs ys : List A) (k : ℕ) (x : A) : Type 0 where
   pub at : ℕ
   pub index : k ≡ length xs + at
   pub is : slice_get ys at ≡ Some x
 
 -- what stands in two lists stands in one of them
-front_or : {A : Type 0} (xs ys : List A) (k : ℕ) (x : A) → slice_get (xs ++ ys) k ≡ Some x → (slice_get xs k ≡ Some x) ⊎ IsBehind xs ys k x
+pub front_or : {A : Type 0} (xs ys : List A) (k : ℕ) (x : A) → slice_get (xs ++ ys) k ≡ Some x → (slice_get xs k ≡ Some x) ⊎ IsBehind xs ys k x
 front_or [] ys k x h = inr (record { at = k; index = omega arith; is = h })
 front_or (z ∷ xs) ys zero x h = inl h
 front_or (z ∷ xs) ys (suc k) x h = elim (front_or xs ys k x h) [ inl a ↦ inl a | inr b ↦ inr (record { at = b.at; index = omega (arith, b.index); is = b.is }) ]
@@ -169,7 +169,7 @@ owner_there [] p s h = absurd cc
 owner_there (o ∷ rest) zero s h = record { owner = o.owner; is = ap (λ (z : Span). Some (record { item = z; owner = o.owner })) (some_is o.item s h) }
 owner_there (o ∷ rest) (suc p) s h = let k = owner_there rest p s h in record { owner = k.owner; is = k.is }
 
-item_there : (list : List (Owned Span)) (p : ℕ) (o : Owned Span) → slice_get list p ≡ Some o → slice_get (items_of list) p ≡ Some o.item
+pub item_there : (list : List (Owned Span)) (p : ℕ) (o : Owned Span) → slice_get list p ≡ Some o → slice_get (items_of list) p ≡ Some o.item
 item_there [] p o h = absurd cc
 item_there (x ∷ rest) zero o h = ap (λ (z : Owned Span). Some z.item) (some_is x o h)
 item_there (x ∷ rest) (suc p) o h = item_there rest p o h

@@ -158,16 +158,20 @@ count_next pieces i p begin total lt is h =
     let cut = ap length (cut_at pieces i p lt is) in
     omega (arith, cut, h, length-append (arc_value p).spans (pieced (drop (i + 1) pieces)))
 
+-- of some ranges, and those behind them
+pub best_cut : (addr begin : ℕ) (here rest all : List Span) (found best : Option Placed) → all ≡ here ++ rest → better_of found (best_from addr begin all) ≡ best
+    → better_of (better_of found (best_from addr begin here)) (best_from addr (begin + length here) rest) ≡ best
+best_cut addr begin here rest all found best is h =
+    better_better found (best_from addr begin here) (best_from addr (begin + length here) rest)
+    ∙ (ap (better_of found) (sym (best_behind addr begin here rest))
+    ∙ (ap (λ (l : List Span). better_of found (best_from addr begin l)) (sym is) ∙ h))
+
 pub best_next : (pieces : List Handle) (i : ℕ) (p : Handle) (addr begin : ℕ) (found best : Option Placed) → i < length pieces → p ≡ get_or pieces i p → better_of found (best_from addr begin (pieced (drop i pieces))) ≡ best
     → better_of (better_of found (best_from addr begin (arc_value p).spans)) (best_from addr (begin + length (arc_value p).spans) (pieced (drop (i + 1) pieces))) ≡ best
 best_next pieces i p addr begin found best lt is h =
-    let rest = pieced (drop (i + 1) pieces) in
-    let here = (arc_value p).spans in
-    better_better found (best_from addr begin here) (best_from addr (begin + length here) rest)
-    ∙ (ap (better_of found) (sym (best_behind addr begin here rest))
-    ∙ (ap (λ (l : List Span). better_of found (best_from addr begin l)) (sym (cut_at pieces i p lt is)) ∙ h))
+    best_cut addr begin (arc_value p).spans (pieced (drop (i + 1) pieces)) (pieced (drop i pieces)) found best (cut_at pieces i p lt is) h
 
-no_best : (addr begin : ℕ) (found best : Option Placed) → better_of found (best_from addr begin []) ≡ best → found ≡ best
+pub no_best : (addr begin : ℕ) (found best : Option Placed) → better_of found (best_from addr begin []) ≡ best → found ≡ best
 unfolding best_by
 no_best addr begin found best h = sym (better_none found) ∙ h
 

@@ -2,19 +2,15 @@
 use Rattle.std.proofs.Common.{◌≡◌, ℕ, true, List, [], ◌∷◌, ◌++◌, append_assoc, drop, length, Option, Some, None, refl, subst, arith}
 use Rattle.std.specs.List.{All}
 use Rattle.std.specs.Option.{option_to_list}
-use Rattle.std.proofs.lemmas.List.{append-nil, drop-append-le, length-append}
+use Rattle.std.proofs.lemmas.List.{drop-append-le, length-append}
 use Rattle.std.proofs.lemmas.List.Elements.{All-push, All-weaker}
 use Rattle.std.proofs.Math.Seq.{drop-length}
 use Rattle.blz_entry.proofs.RelativeTails.{relative_end, relative_more}
 use Rattle.blz_entry.specs.declared.range_tail.RangeTail.{RangeTail}
 use Rattle.blz_ranges.specs.declared.span.Span.{Span}
 use Rattle.blz_functions.specs.Leaves.{UnitParts, counts_at, entry_behind, lying}
-use Rattle.blz_functions.specs.RelativeList.{IsRelativeEntry, IsRelativeIn, LeadsTo, counting_entry}
+use Rattle.blz_functions.specs.RelativeList.{HasPut, IsRelativeIn, LeadsTo, counting_entry}
 use Rattle.blz_functions.specs.declared.read_lists.PassedEntry.{PassedEntry}
-
--- What the list from a place on has, by what is put of it.
-abbrev pub HasPut : UnitParts → ℕ → List Span → ℕ → Type 0
-HasPut u place out at = (more : List Span) → IsRelativeIn u at more → IsRelativeIn u place (out ++ more)
 
 -- one entry more
 pub entry_more : (u : UnitParts) (tail next : RangeTail) (span : Option Span) (more : List Span) → tail.base ≡ 0 → entry_behind u tail ≡ Some (Some (span, next)) → counts_at u tail ≡ true → IsRelativeIn u next.place more → IsRelativeIn u tail.place (option_to_list span ++ more)
@@ -56,12 +52,3 @@ each_leads u out new tail next span passed more put one zero is counts h =
 -- at the end
 pub over_relative : (u : UnitParts) (tail : RangeTail) → entry_behind u tail ≡ Some None → IsRelativeIn u tail.place []
 over_relative u tail over = relative_end (lying u.sections) u.header u.root tail over
-
-pub all_put : (u : UnitParts) (place at : ℕ) (out : List Span) → HasPut u place out at → IsRelativeIn u at [] → IsRelativeIn u place out
-all_put u place at out has over = subst (IsRelativeIn u place) (append-nil out) (has [] over)
-
-pub each_put : (u : UnitParts) (at : ℕ) (out : List Span) (passed : List PassedEntry) → IsRelativeIn u at [] → All (LeadsTo u out at) passed → All (IsRelativeEntry u out) passed
-each_put u at out passed over h = All-weaker (LeadsTo u out at) (IsRelativeEntry u out) step passed h
-  where
-    step : (p : PassedEntry) → LeadsTo u out at p → IsRelativeEntry u out p
-    step p k = record { zero = k.zero; counts = k.counts; ranges = subst (IsRelativeIn u p.tail.place) (append-nil (drop p.before out)) (k.ranges [] over) }

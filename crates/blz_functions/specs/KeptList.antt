@@ -1,19 +1,23 @@
 -- A list of ranges that is kept with an index of it.
 use Rattle.std.specs.Prelude.{◌≡◌, ℕ, ◌+◌, ◌*◌, ◌^◌, ◌≤◌, Bool, true, List, length}
+use Rattle.blz_ranges.specs.declared.placed.Placed.{Placed}
 use Rattle.blz_ranges.specs.declared.span.Span.{Span}
 use Rattle.blz_ranges.specs.Groups.{AreApart}
 use Rattle.blz_ranges.specs.Ranges.{Ranges}
+use Rattle.blz_ranges.specs.Rising.{AreRising}
 
--- the ranges, and whether the order showed that they share no address
+-- the ranges, whether the order showed that they share no address, and the ranges in that order
 pub record KeptList : Type 0 where
   pub spans : List Span
   pub apart : Bool
+  pub order : List Placed
 
 -- what a list keeps beside its ranges
 pub record IsKept (index : Ranges) (count : ℕ) (shown : Bool) : Type 0 where
   pub ordered : index.ordered ≡ true
   pub len : count ≡ length index.spans
   pub apart : shown ≡ true → AreApart index.spans
+  pub rising : shown ≡ true → AreRising index.spans index.order
 
 -- how many looks at ranges that share no address show which of them covers one
 abbrev pub AreFewLooks : List Span → ℕ → Type 0

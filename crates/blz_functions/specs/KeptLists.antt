@@ -16,6 +16,7 @@ use Rattle.blz_entry.specs.declared.range_tail.RangeTail.{RangeTail}
 use Rattle.blz_ranges.specs.Owned.{Owned}
 use Rattle.blz_ranges.specs.declared.span.Span.{Span}
 use Rattle.blz_functions.specs.BestOwned.{AnswersAs}
+use Rattle.blz_functions.specs.FrontLists.{IsFrontList}
 use Rattle.blz_functions.specs.Leaves.{UnitParts, spans_behind}
 use Rattle.blz_functions.specs.Pieces.{HasCount, told}
 use Rattle.blz_functions.specs.WholeLists.{IsWhole}
@@ -28,6 +29,10 @@ use Rattle.blz_functions.specs.declared.whole_list.WholeList.{WholeList}
 -- A call tells whether a list has a value, and how many ranges it has, want of memory aside.
 abbrev pub Names : Option (List Span) → Result ℕ Fault → Type 0
 Names spans result = MatchResult result (HasCount spans) (λ e. Fails e.kind (or_invalid spans))
+
+-- A call may tell how many ranges a list has. Where it fails the list has no value, want of memory aside.
+abbrev pub ExtendsNamed : Option (List Span) → Result (Option ℕ) Fault → Type 0
+ExtendsNamed spans result = MatchResult result (λ o. IfSome o (HasCount spans)) (λ e. Fails e.kind (or_invalid spans))
 
 -- A call gives what something holds of, or nothing, want of memory aside.
 abbrev pub MayGiveAs : {S : Type 0} → (S → Type 0) → Result (Option S) Fault → Type 0
@@ -58,6 +63,7 @@ IsKeptContent u pieces kept = IfSome kept (IsContent u pieces.items)
 -- Each list that is kept is one of the unit, and each content is that of its pieces.
 pub record AreKeptLists (u : UnitParts) (lists : KeptLists) : Type 0 where
   pub named : (offset : ℕ) → IfSome (get nat_cmp lists.named offset) (IsNamedList u)
+  pub fronts : (end : ℕ) → IfSome (get nat_cmp lists.fronts end) (IsFrontList u)
   pub contents : (key : Vec Piece Global) → IfSome (get pieces_cmp lists.contents key) (IsKeptContent u key)
 
 -- They stay right, with more where it holds.

@@ -7,16 +7,16 @@ use Rattle.blz_ranges.specs.Owned.{Owned, owned, own_all}
 use Rattle.blz_functions.specs.BestOwned.{AnswersAs}
 use Rattle.blz_functions.specs.FunctionList.{Lists}
 use Rattle.blz_functions.specs.FunctionRanges.{FunctionsRead}
-use Rattle.blz_functions.specs.Layers.{ranges_of}
 use Rattle.blz_functions.specs.Leaves.{UnitParts}
 use Rattle.blz_functions.specs.Pieces.{AreNamed, told}
 use Rattle.blz_functions.specs.ReadLists.{AreRead}
 use Rattle.blz_functions.specs.Searching.{GivesAs}
 use Rattle.blz_functions.specs.SearchedFunctions.{asked_of}
-use Rattle.blz_functions.specs.declared.layer.Layer.{Layer}
 use Rattle.blz_functions.specs.declared.pieces.Piece.{Piece}
 use Rattle.blz_functions.specs.declared.read_lists.ReadLists.{ReadLists}
 use Rattle.blz_functions.specs.declared.read_ranges.ReadRanges.{ReadRanges}
+use Rattle.blz_functions.specs.UnitLayer.{layer_ranges}
+use Rattle.blz_functions.specs.declared.unit_layer.UnitLayer.{UnitLayer}
 use Rattle.blz_functions.specs.declared.unit_ranges.UnitRanges.{UnitRanges}
 
 -- the ranges that are put, each with the number of its function
@@ -57,9 +57,9 @@ pub record AreReadFunctions (u : UnitParts) (read : FunctionsRead) (lists : Read
 -- ---- once they are settled
 
 -- the ranges of a layer, if there is one, in place of others
-abbrev pub or_own : Option Layer → List (Owned Span) → List (Owned Span)
+abbrev pub or_own : Option UnitLayer → List (Owned Span) → List (Owned Span)
 or_own None own = own
-or_own (Some layer) own = ranges_of layer
+or_own (Some layer) own = layer_ranges layer
 
 abbrev pub unit_ranges : UnitRanges → List (Owned Span)
 unit_ranges r = or_own r.layer (owned r.spans.items r.owners.items)

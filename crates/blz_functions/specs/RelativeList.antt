@@ -1,12 +1,12 @@
 -- A list of ranges that all count from the base, read where they count from 0.
-use Rattle.std.specs.Prelude.{◌≡◌, ℕ, ◌≤◌, List, ◌++◌, length, drop}
+use Rattle.std.specs.Prelude.{◌≡◌, ℕ, ◌≤◌, true, List, [], ◌++◌, length, drop}
 use Rattle.std.specs.List.{All}
 use Rattle.blz_entry.specs.RangeTails.{IsRelative}
 use Rattle.blz_ranges.specs.declared.span.Span.{Span}
 use Rattle.blz_functions.specs.Leaves.{UnitParts, lying}
+use Rattle.blz_functions.specs.declared.list_front.ListFront.{ListFront}
 use Rattle.blz_functions.specs.declared.read_lists.BaseUse.TheVariants.{MayCount}
 use Rattle.blz_functions.specs.declared.read_lists.PassedEntry.{PassedEntry}
-use Rattle.blz_functions.specs.declared.relative_list.RelativeList.{RelativeList}
 
 -- The list from a place on has some ranges where they count from 0, and the same where they count from another base, moved.
 abbrev pub IsRelativeIn : UnitParts → ℕ → List Span → Type 0
@@ -22,13 +22,13 @@ pub record LeadsTo (u : UnitParts) (out : List Span) (place : ℕ) (p : PassedEn
   pub within : p.before ≤ length out
   pub ranges : (more : List Span) → IsRelativeIn u place more → IsRelativeIn u p.tail.place (drop p.before out ++ more)
 
--- The list from an entry on has the ranges of a list but for some at its front.
-pub record IsRelativeEntry (u : UnitParts) (spans : List Span) (p : PassedEntry) : Type 0 where
-  pub zero : p.tail.base ≡ 0
-  pub counts : p.base ≡ MayCount
-  pub ranges : IsRelativeIn u p.tail.place (drop p.before spans)
+-- What the list from a place on has, by what is put of it.
+abbrev pub HasPut : UnitParts → ℕ → List Span → ℕ → Type 0
+HasPut u place out at = (more : List Span) → IsRelativeIn u at more → IsRelativeIn u place (out ++ more)
 
--- It is the list from a place on.
-pub record IsRelativeList (u : UnitParts) (place : ℕ) (list : RelativeList) : Type 0 where
-  pub ranges : IsRelativeIn u place list.spans.items
-  pub entries : All (IsRelativeEntry u list.spans.items) list.entries.items
+-- They are the first entries of the list from a place on.
+pub record IsRelativeFront (u : UnitParts) (place : ℕ) (front : ListFront) : Type 0 where
+  pub zero : front.rest.base ≡ 0
+  pub put : HasPut u place front.spans.items front.rest.place
+  pub each : All (LeadsTo u front.spans.items front.rest.place) front.entries.items
+  pub over : front.ended ≡ true → IsRelativeIn u front.rest.place []

@@ -1,53 +1,48 @@
-//! A look ahead at the lists of ranges that the functions and the inlined calls of a unit name, where one after the other is
-//! read that begins before those that were named.
-ghost use Rattle.std.specs.Prelude.{◌≡◌, [], ◌≤◌, length, IfOk};
+//! A look ahead at the lists of ranges that the functions and the inlined calls of a unit name, where ever longer ones that
+//! end alike would each take an index of its own.
+ghost use Rattle.std.specs.Prelude.{◌≡◌, [], ◌≤◌, IfOk};
 ghost use Rattle.blz_functions.specs.KeptLists.{AreKeptLists};
-ghost use Rattle.blz_functions.specs.Leaves.{UnitParts};
 ghost use Rattle.blz_functions.specs.Opened.{open_view, CanBeOpened};
 
-use crate::kept_lists::{KeptLists, read_again};
+use crate::kept_lists::KeptLists;
 use crate::open_unit::OpenUnit;
-use crate::read_lists::FEW_ENTRIES;
-use crate::whole_list::WholeList;
+use crate::read_lists::has_many_entries;
 use blz_constants::dwarf;
 use blz_entry::{Entries, Passing, RangeAttributes};
-use blz_error::Result;
+use blz_error::{ErrorKind, Result};
 use std::alloc::{AllocError, Global};
 use std::collections::BTreeMap;
 
-/// How much of the lists of a unit was read again, and when to look ahead at those that are to come.
+/// How many ranges were put into indexes for one list alone while a unit was read, and when to look ahead at the lists that
+/// are to come.
 #[derive(Clone, Copy, Drop)]
 pub struct Foresight {
-    /// How many entries those lists have that were read though one had been named before that begins within them.
-    reread: usize,
+    /// How many ranges those indexes have.
+    spent: usize,
     /// At how many the next look ahead is due.
     due: usize,
 }
 
-/// To pass so many bytes of a unit's entries twice takes about as long as to read an entry of a list.
+/// To pass so many bytes of a unit's entries twice takes about as long as to put a range into an index.
 const BYTES_OF_UNIT: usize = 2;
 
-/// The same for each unit of which a list was read again, by where its entries begin.
+/// The same for each unit that such an index was built for, by where its entries begin.
 #[derive(Drop)]
 pub struct Foresights {
     units: BTreeMap<usize, Foresight>,
 }
 
-impl Foresight {
-    fn new() -> Foresight {
-        Foresight { reread: 0, due: 0 }
-    }
+/// Where the entries of a unit begin in all sections of its file.
+fn place_of(unit: &OpenUnit<'_, '_>) -> usize {
+    unit.sections.shift.wrapping_add(unit.header.entries)
+}
 
-    /// Counts the entries of one list more that was read again. Tells whether a look ahead is due, so seldom that all of
-    /// them together take about as long as what was read again.
-    fn is_due(&mut self, unit: &OpenUnit<'_, '_>, entries: usize) -> bool {
-        self.reread = self.reread.saturating_add(entries);
-        let bytes = unit.header.end.saturating_sub(unit.header.entries);
-        if self.reread < self.due.max(bytes / BYTES_OF_UNIT) {
-            return false;
+impl Foresight {
+    fn new(unit: &OpenUnit<'_, '_>) -> Foresight {
+        Foresight {
+            spent: 0,
+            due: unit.entry_bytes() / BYTES_OF_UNIT,
         }
-        self.due = self.reread.saturating_mul(2);
-        true
     }
 }
 
@@ -59,20 +54,39 @@ impl Foresights {
         }
     }
 
-    /// Counts the entries of one list of a unit more that was read again. Gives how many were, if a look ahead is due.
-    fn count(
+    /// What is known of a unit.
+    fn of(&self, unit: &OpenUnit<'_, '_>) -> Foresight {
+        match self.units.get(&place_of(unit)) {
+            Some(foresight) => *foresight,
+            None => Foresight::new(unit),
+        }
+    }
+
+    /// Counts the ranges of one index more that serves one list alone.
+    pub(crate) fn count(
         &mut self,
         unit: &OpenUnit<'_, '_>,
-        entries: usize,
-    ) -> std::result::Result<Option<usize>, AllocError> {
-        let place = unit.sections.shift.wrapping_add(unit.header.entries);
-        let mut foresight = match self.units.get(&place) {
-            Some(foresight) => *foresight,
-            None => Foresight::new(),
-        };
-        let due = foresight.is_due(unit, entries);
-        self.units.insert(place, foresight)?;
-        Ok(if due { Some(foresight.reread) } else { None })
+        ranges: usize,
+    ) -> std::result::Result<(), AllocError> {
+        if ranges > 0 {
+            let mut foresight = self.of(unit);
+            foresight.spent = foresight.spent.saturating_add(ranges);
+            self.units.insert(place_of(unit), foresight)?;
+        }
+        Ok(())
+    }
+
+    /// How many ranges were counted, if a look ahead is due: so seldom that all of them together take about as long as
+    /// those indexes did.
+    fn due(&mut self, unit: &OpenUnit<'_, '_>) -> std::result::Result<Option<usize>, AllocError> {
+        let mut foresight = self.of(unit);
+        let spent = foresight.spent;
+        if spent == 0 || spent < foresight.due {
+            return Ok(None);
+        }
+        foresight.due = spent.saturating_mul(2);
+        self.units.insert(place_of(unit), foresight)?;
+        Ok(Some(spent))
     }
 }
 
@@ -89,12 +103,6 @@ fn count_entries(unit: &OpenUnit<'_, '_>, offset: u64, most: usize) -> (usize, b
         }
     }
     (most, false)
-}
-
-/// Whether a list has many entries.
-pub(crate) fn has_many_entries(unit: &OpenUnit<'_, '_>, offset: u64) -> bool {
-    let (count, _) = count_entries(unit, offset, FEW_ENTRIES + 1);
-    count > FEW_ENTRIES
 }
 
 /// Where the list of ranges begins that attributes name which were not read. None where they name none.
@@ -189,51 +197,35 @@ fn lists_of_unit(
 }
 
 impl KeptLists {
-    /// Forgets the first of some lists as far as they begin within one, and tells how many these are.
-    fn forget_first(&mut self, unit: &OpenUnit<'_, '_>, list: &WholeList, offsets: &[u64]) -> usize
-        ensures first { result ≤ length offsets.now }
-        ensures kept { (u : UnitParts) → AreKeptLists u self.old → AreKeptLists u self.new }
-    {
-        for at in 0..offsets.len() {
-            if list.find(unit.ranges_at(offsets[at])).is_none() {
-                return at;
-            }
-            self.take(offsets[at]);
-        }
-        offsets.len()
-    }
-
-    /// Keeps the list at an offset whole where those behind it begin within it, which are forgotten, and tells how many these
-    /// are. Of its entries no more are read than are left.
-    fn keep_longest(
+    /// Names a list of a unit that no named one is around, if it has no more entries than are left. It may have no value:
+    /// that is told where it is asked for.
+    fn foresee_list(
         &mut self,
         alloc: Global,
         unit: &OpenUnit<'_, '_>,
         offset: u64,
-        behind: &[u64],
         left: &mut usize,
-    ) -> std::result::Result<usize, AllocError>
+    ) -> std::result::Result<(), AllocError>
         requires kept { AreKeptLists (open_view unit.now) self.old }
-        ensures first { IfOk result (λ count. count ≤ length behind.now) }
         ensures kept { AreKeptLists (open_view unit.now) self.new }
     {
+        if self.is_named(offset) {
+            return Ok(());
+        }
         let (count, ends) = count_entries(unit, offset, *left);
         *left -= count;
         if !ends {
-            return Ok(0);
+            return Ok(());
         }
-        let Some(list) = read_again(alloc, unit, offset)? else {
-            return Ok(0);
-        };
-        let within = self.forget_first(unit, &list, behind);
-        if within > 0 {
-            self.put_whole(offset, list)?;
+        match self.read(alloc, unit, offset) {
+            Err(fault) if fault.kind() == ErrorKind::OutOfMemory => Err(AllocError),
+            _ => Ok(()),
         }
-        Ok(within)
     }
 
-    /// Keeps of all lists that functions and calls of a unit name those whole that others begin within, so that these are found there
-    /// whichever is asked for first. Of their entries no more are read than a number.
+    /// Names all lists that functions and calls of a unit name, by rising offsets: so of those that begin within one another
+    /// the longest is named first, and the others are found in its indexes. No more of their entries are read than a
+    /// number.
     fn foresee(
         &mut self,
         alloc: Global,
@@ -246,28 +238,23 @@ impl KeptLists {
     {
         let offsets = lists_of_unit(alloc, unit)?;
         let mut left = most;
-        let mut at = 0;
-        while at < offsets.len() {
-            let offset = offsets[at];
-            at += 1;
-            let behind = &offsets.as_slice()[at..];
-            at += self.keep_longest(alloc, unit, offset, behind, &mut left)?;
+        for at in 0..offsets.len() {
+            self.foresee_list(alloc, unit, offsets[at], &mut left)?;
         }
         Ok(())
     }
 
-    /// Looks ahead, if that is due, once a list of some entries was read though one that begins within it had been named.
-    pub(crate) fn foresee_after(
+    /// Looks ahead, if that is due.
+    pub(crate) fn foresee_due(
         &mut self,
         alloc: Global,
         unit: &OpenUnit<'_, '_>,
-        entries: usize,
     ) -> std::result::Result<(), AllocError>
         requires opened { CanBeOpened unit.now }
         requires kept { AreKeptLists (open_view unit.now) self.old }
         ensures kept { AreKeptLists (open_view unit.now) self.new }
     {
-        match self.foresights.count(unit, entries)? {
+        match self.foresights.due(unit)? {
             Some(most) => self.foresee(alloc, unit, most),
             None => Ok(()),
         }

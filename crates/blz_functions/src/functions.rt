@@ -7,7 +7,7 @@ ghost use Rattle.blz_ranges.specs.Owned.{items_of, owner_at};
 ghost use Rattle.blz_functions.specs.ReadFunctions.{unit_ranges};
 ghost use Rattle.blz_ranges.specs.Ranges.{best_owner};
 
-use crate::layer::Layer;
+use crate::unit_layer::UnitLayer;
 use crate::unit_ranges::UnitRanges;
 use blz_bytes::{Orders, Steps};
 use blz_entry::{Span, StrPlace};
@@ -32,7 +32,7 @@ pub struct Function {
 pub struct Functions {
     functions: Vec<Function>,
     ranges: OwnedRanges,
-    layer: Option<Layer>,
+    layer: Option<UnitLayer>,
 }
 
 impl Model for Functions {

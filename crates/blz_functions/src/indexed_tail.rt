@@ -80,6 +80,17 @@ impl IndexedTail {
         Some(IndexedTail { list, skip })
     }
 
+    /// The list, where none of its ranges is left out.
+    pub(crate) fn whole(self) -> Option<Arc<KeptList>>
+        ensures { IfSome result (λ l. (arc_value l).spans ≡ self) }
+    {
+        let IndexedTail { list, skip } = self;
+        if skip > 0 {
+            return None;
+        }
+        Some(list)
+    }
+
     /// The place of the best range that covers an address.
     pub(crate) fn best_at<L: Ledger>(&self, addr: u64, steps: &mut Steps<L>) -> Option<usize>
         ensures best { result ≡ best self.now addr }

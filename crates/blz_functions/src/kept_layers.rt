@@ -43,7 +43,7 @@ fn number(
 }
 
 /// The list that the one call of a depth names, if it is kept.
-fn tail_layer(
+pub(crate) fn tail_layer(
     alloc: Global,
     unit: &OpenUnit<'_, '_>,
     kept: &mut KeptLists,

@@ -3,10 +3,11 @@ ghost use Rattle.std.specs.Prelude.{◌≡◌, ◌+◌, ◌-◌, ◌≤◌, leng
 ghost use Rattle.std.specs.List.{slice_get};
 ghost use Rattle.blz_ranges.specs.Best.{best};
 ghost use Rattle.blz_ranges.specs.Groups.{AreApart};
+ghost use Rattle.blz_ranges.specs.Rising.{AreRising};
 ghost use Rattle.blz_functions.specs.KeptList.{AreFewLooks};
 
 use blz_bytes::{ByStdSort, Steps};
-use blz_ranges::{RangeIndex, Span};
+use blz_ranges::{Placed, RangeIndex, Span};
 use std::alloc::{AllocError, Global};
 use std::marker::Model;
 use std::sync::ledger::Ledger;
@@ -25,7 +26,7 @@ impl Model for KeptList {
 
     ghost Value = { KeptList };
 
-    ghost view = { λ l. record { spans = l.index.spans; apart = l.apart } };
+    ghost view = { λ l. record { spans = l.index.spans; apart = l.apart; order = l.index.order } };
 
     ghost invariant = { λ l. IsKept l.index l.len l.apart };
 }
@@ -51,10 +52,19 @@ impl KeptList {
         self.len
     }
 
-    /// Whether the order showed that the ranges are not empty and no two share an address.
+    /// The range at a place of the order, with its place in the list, for one look.
+    pub(crate) fn ordered<L: Ledger>(&self, at: usize, steps: &mut Steps<L>) -> Option<Placed>
+        ensures range { result ≡ slice_get self.now.order at }
+        ensures cost { steps.new ≡ steps.old + 1 }
+    {
+        self.index.ordered(at, steps)
+    }
+
+    /// Whether the order showed that the ranges are not empty and no two share an address: then they rise in it.
     pub(crate) fn is_apart(&self) -> bool
         ensures is { result ≡ self.now.apart }
         ensures apart { result ≡ true → AreApart self.now.spans }
+        ensures rising { result ≡ true → AreRising self.now.spans self.now.order }
     {
         self.apart
     }

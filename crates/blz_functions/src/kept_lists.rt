@@ -1,17 +1,18 @@
 //! Lists of ranges that inlined calls name again and again, kept once for all functions of units that read lists alike.
 ghost use Rattle.std.specs.Prelude.{IfSome};
-ghost use Rattle.blz_functions.specs.KeptLists.{AreKeptLists, GivesContent, IsKeptContent, IsNamedList, KeepsLists, MayGiveWhole, Names, TellsWithin};
+ghost use Rattle.blz_functions.specs.KeptLists.{AreKeptLists, ExtendsNamed, GivesContent, IsKeptContent, IsNamedList, KeepsLists, MayGiveWhole, Names, TellsWithin};
 ghost use Rattle.blz_functions.specs.Leaves.{UnitParts};
 ghost use Rattle.blz_functions.specs.Opened.{open_view, CanBeOpened};
 ghost use Rattle.blz_functions.specs.Pieces.{AreNamed, list_at};
 ghost use Rattle.blz_functions.specs.WholeLists.{IsWhole, MayGiveTail};
 
 use crate::foreseen_lists::Foresights;
+use crate::front_list::FrontList;
 use crate::kept_ranges::KeptRanges;
 use crate::moved_tail::MovedTail;
 use crate::open_unit::OpenUnit;
 use crate::pieces::{Piece, gathered};
-use crate::read_lists::first_telling;
+use crate::read_lists::{ReadLists, first_telling};
 use crate::whole_list::WholeList;
 use blz_entry::RangeTail;
 use blz_error::{ErrorKind, Result};
@@ -31,12 +32,14 @@ pub(crate) struct NamedList {
 #[derive(Drop)]
 pub struct KeptLists {
     named: BTreeMap<u64, NamedList>,
+    /// Those whose last ranges count from bases of their own, by where these ranges begin.
+    pub(crate) fronts: BTreeMap<usize, FrontList>,
     contents: BTreeMap<Vec<Piece>, Option<Arc<KeptRanges>>>,
     pub(crate) foresights: Foresights,
 }
 
 /// Reads a list. None where it has no value.
-pub(crate) fn read_again(
+fn read_again(
     alloc: Global,
     unit: &OpenUnit<'_, '_>,
     offset: u64,
@@ -47,6 +50,26 @@ pub(crate) fn read_again(
         Ok(list) => Ok(Some(list)),
         Err(fault) if fault.kind() == ErrorKind::OutOfMemory => Err(AllocError),
         Err(_) => Ok(None),
+    }
+}
+
+/// Whether an entry of a list lies at a place behind its first one.
+fn runs_into(unit: &OpenUnit<'_, '_>, offset: u64, place: usize) -> bool {
+    let mut tail = unit.ranges_at(offset);
+    while tail.place < place {
+        match unit.next_range(tail) {
+            Ok(Some((_, behind))) => tail = behind,
+            _ => return false,
+        }
+    }
+    tail.place == place
+}
+
+/// Whether a named list has its last entry at a place.
+fn ends_at(named: Option<(&u64, &NamedList)>, last: usize) -> bool {
+    match named {
+        Some((_, list)) => list.last == last,
+        None => false,
     }
 }
 
@@ -73,6 +96,7 @@ impl KeptLists {
     {
         KeptLists {
             named: BTreeMap::new(alloc),
+            fronts: BTreeMap::new(alloc),
             contents: BTreeMap::new(alloc),
             foresights: Foresights::new(alloc),
         }
@@ -80,7 +104,7 @@ impl KeptLists {
 
     /// Whether nothing is kept.
     pub fn is_empty(&self) -> bool {
-        self.named.is_empty() && self.contents.is_empty()
+        self.named.is_empty() && self.fronts.is_empty() && self.contents.is_empty()
     }
 
     /// Where the named list begins that an offset may lie in, and whether it is kept whole.
@@ -101,6 +125,13 @@ impl KeptLists {
         }
     }
 
+    /// Whether the list before an offset, or that behind it, has its last entry at a place.
+    fn ends_alike(&self, offset: u64, last: usize) -> bool {
+        let before = self.named.range(..=offset).next_back();
+        let behind = self.named.range(offset.saturating_add(1)..).next();
+        ends_at(before, last) || ends_at(behind, last)
+    }
+
     fn put(&mut self, start: u64, list: NamedList) -> std::result::Result<(), AllocError>
         ensures { KeepsLists self.old self.new (λ u. IsNamedList u list) }
     {
@@ -109,7 +140,7 @@ impl KeptLists {
     }
 
     /// Takes out a named list.
-    pub(crate) fn take(&mut self, start: u64) -> Option<NamedList>
+    fn take(&mut self, start: u64) -> Option<NamedList>
         ensures taken { (u : UnitParts) → AreKeptLists u self.old → IfSome result (IsNamedList u) }
         ensures kept { (u : UnitParts) → AreKeptLists u self.old → AreKeptLists u self.new }
     {
@@ -137,11 +168,7 @@ impl KeptLists {
     }
 
     /// Keeps a named list whole.
-    pub(crate) fn put_whole(
-        &mut self,
-        start: u64,
-        list: WholeList,
-    ) -> std::result::Result<(), AllocError>
+    fn put_whole(&mut self, start: u64, list: WholeList) -> std::result::Result<(), AllocError>
         ensures { KeepsLists self.old self.new (λ u. IsWhole u list) }
     {
         let last = list.last();
@@ -174,34 +201,67 @@ impl KeptLists {
         Ok(count)
     }
 
-    /// Forgets the next list behind an offset where it begins within the list there, so that it is found as its tail; tells
-    /// whether it does.
-    fn forget_within(&mut self, unit: &OpenUnit<'_, '_>, offset: u64, list: &WholeList) -> bool
+    /// Forgets the next list behind an offset where it begins within the list there, so that it is found as its tail.
+    fn forget_within(&mut self, unit: &OpenUnit<'_, '_>, offset: u64, list: &WholeList)
         ensures { (u : UnitParts) → AreKeptLists u self.old → AreKeptLists u self.new }
     {
         if let Some(next) = self.next_above(offset) {
             if list.find(unit.ranges_at(next)).is_some() {
                 self.take(next);
-                return true;
             }
         }
-        false
+    }
+
+    /// Makes the named list at a place that at an offset before it, which runs into it. Gives how many ranges it has then,
+    /// or nothing where it stays as it is.
+    fn extend(
+        &mut self,
+        alloc: Global,
+        unit: &OpenUnit<'_, '_>,
+        offset: u64,
+        next: u64,
+    ) -> Result<Option<usize>>
+        requires { AreKeptLists (open_view unit.now) self.old }
+        ensures value { ExtendsNamed (list_at (open_view unit.now) offset) result }
+        ensures kept { AreKeptLists (open_view unit.now) self.new }
+    {
+        let Some(mut list) = self.take_whole(alloc, unit, next)? else {
+            return Ok(None);
+        };
+        if list.extend(alloc, unit, offset, next as usize)? {
+            let count = list.len();
+            self.put_whole(offset, list)?;
+            return Ok(Some(count));
+        }
+        self.put_whole(next, list)?;
+        Ok(None)
     }
 
     /// Reads a list that was not named before, and notes that it was. Gives how many ranges it has.
-    fn read(&mut self, alloc: Global, unit: &OpenUnit<'_, '_>, offset: u64) -> Result<usize>
-        requires opened { CanBeOpened unit.now }
+    pub(crate) fn read(
+        &mut self,
+        alloc: Global,
+        unit: &OpenUnit<'_, '_>,
+        offset: u64,
+    ) -> Result<usize>
         requires kept { AreKeptLists (open_view unit.now) self.old }
         ensures value { Names (list_at (open_view unit.now) offset) result }
         ensures kept { AreKeptLists (open_view unit.now) self.new }
     {
-        let list = WholeList::read(alloc, unit, offset)?;
-        let within = self.forget_within(unit, offset, &list);
-        let last = list.last();
-        self.put(offset, NamedList { last, whole: None })?;
-        if within {
-            self.foresee_after(alloc, unit, list.entry_count())?;
+        if let Some(next) = self.next_above(offset) {
+            if runs_into(unit, offset, next as usize) {
+                if let Some(count) = self.extend(alloc, unit, offset, next)? {
+                    return Ok(count);
+                }
+            }
         }
+        let list = WholeList::read(alloc, unit, offset)?;
+        self.forget_within(unit, offset, &list);
+        let last = list.last();
+        if self.ends_alike(offset, last) {
+            self.keep_front(alloc, unit, offset)?;
+        }
+        self.put(offset, NamedList { last, whole: None })?;
         Ok(list.len())
     }
 
@@ -218,11 +278,15 @@ impl KeptLists {
         ensures value { Names (list_at (open_view unit.now) offset) result }
         ensures kept { AreKeptLists (open_view unit.now) self.new }
     {
+        self.foresee_due(alloc, unit)?;
+        let tail = first_telling(unit, unit.ranges_at(offset));
         if let Some((start, _)) = self.around(offset) {
-            let tail = first_telling(unit, unit.ranges_at(offset));
             if let Some(count) = self.count_within(alloc, unit, start, tail)? {
                 return Ok(count);
             }
+        }
+        if let Some(count) = self.count_with_rest(alloc, unit, tail)? {
+            return Ok(count);
         }
         self.read(alloc, unit, offset)
     }
@@ -265,6 +329,7 @@ impl KeptLists {
             return Ok(None);
         };
         let found = list.tail_at(alloc, unit, tail)?;
+        self.foresights.count(unit, list.take_surplus())?;
         self.put_whole(start, list)?;
         Ok(found)
     }
@@ -280,6 +345,17 @@ impl KeptLists {
     /// Whether a list is around an offset.
     pub(crate) fn is_named(&self, offset: u64) -> bool {
         self.around(offset).is_some()
+    }
+
+    /// Whether a named list is around an offset, or is one that the list there runs into before one that was read.
+    pub(crate) fn is_met(&self, unit: &OpenUnit<'_, '_>, lists: &ReadLists, offset: u64) -> bool {
+        if self.is_named(offset) {
+            return true;
+        }
+        match self.next_above(offset) {
+            Some(next) => lists.runs_into(unit, offset, next as usize),
+            None => false,
+        }
     }
 
     /// Notes that a list was named whose last entry lies at a place, and forgets the next one if it begins within it.

@@ -68,6 +68,14 @@ impl KeptRanges {
         self.list.best_at(addr, steps)
     }
 
+    /// The range at a place, for one look.
+    pub(crate) fn span<L: Ledger>(&self, place: usize, steps: &mut Steps<L>) -> Option<Span>
+        ensures span { result ≡ slice_get (items_of self.now) place }
+        ensures cost { steps.new ≡ steps.old + 1 }
+    {
+        self.list.span(place, steps)
+    }
+
     /// The call of the range at a place.
     pub(crate) fn owner(&self, place: usize) -> Option<usize>
         ensures { result ≡ owner_at self.now place }

@@ -1,5 +1,6 @@
 //! Ranges of a depth that are kept with an index of their own.
 ghost use Rattle.std.specs.Prelude.{◌≡◌, ◌+◌, ◌*◌, ◌^◌, ◌-◌, ◌<◌, ◌≤◌, length, slice_index_or};
+ghost use Rattle.std.specs.List.{slice_get};
 ghost use Rattle.blz_functions.specs.Found.{found_in};
 ghost use Rattle.blz_functions.specs.Layers.{call_by, ranges_of};
 ghost use Rattle.blz_ranges.specs.Best.{best};
@@ -11,7 +12,7 @@ use crate::found::Found;
 use crate::kept_ranges::KeptRanges;
 use crate::moved_tail::MovedTail;
 use blz_bytes::Steps;
-use blz_ranges::number_at;
+use blz_ranges::{Span, number_at};
 use std::marker::{Brand, Model};
 use std::ops::Deref;
 use std::sync::Arc;
@@ -70,6 +71,14 @@ impl SharedContent {
         ensures later { steps.old ≤ steps.new }
     {
         self.ranges.deref().best_at(addr, steps)
+    }
+
+    /// The range at a place, for one look.
+    fn span<L: Ledger>(&self, place: usize, steps: &mut Steps<L>) -> Option<Span>
+        ensures span { result ≡ slice_get (items_of self.now) place }
+        ensures cost { steps.new ≡ steps.old + 1 }
+    {
+        self.ranges.deref().span(place, steps)
     }
 
     /// The call of the range at a place.
@@ -134,6 +143,17 @@ impl Layer {
         match self {
             Layer::Tail(_, tail) => tail.best_at(addr, steps),
             Layer::Content(content) => content.best_at(addr, steps),
+        }
+    }
+
+    /// The range at a place, for one look.
+    pub(crate) fn span<L: Ledger>(&self, place: usize, steps: &mut Steps<L>) -> Option<Span>
+        ensures span { result ≡ slice_get (items_of (ranges_of self.now)) place }
+        ensures cost { steps.new ≡ steps.old + 1 }
+    {
+        match self {
+            Layer::Tail(_, tail) => tail.span(place, steps),
+            Layer::Content(content) => content.span(place, steps),
         }
     }
 

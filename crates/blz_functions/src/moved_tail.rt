@@ -1,5 +1,5 @@
 //! The ranges of a list that counts from a base, found in an index where they count from 0.
-ghost use Rattle.std.specs.Prelude.{◌≡◌, ◌+◌, ◌*◌, ◌^◌, ◌-◌, ◌<◌, ◌≤◌, is_some, length, map, option_map};
+ghost use Rattle.std.specs.Prelude.{◌≡◌, ◌+◌, ◌*◌, ◌^◌, ◌-◌, ◌<◌, ◌≤◌, is_some, length, map, option_map, IfSome};
 ghost use Rattle.std.specs.List.{slice_get};
 ghost use Rattle.blz_entry.specs.RangeTails.{moved};
 ghost use Rattle.blz_ranges.specs.Best.{best};
@@ -8,6 +8,7 @@ ghost use Rattle.blz_functions.specs.Found.{begin_in};
 ghost use Rattle.blz_functions.specs.KeptList.{AreFewLooks};
 ghost use Rattle.blz_functions.specs.MovedTail.{CanBeMoved};
 
+use crate::ordered_tail::OrderedTail;
 use crate::shared_tail::SharedTail;
 use blz_bytes::Steps;
 use blz_ranges::Span;
@@ -40,6 +41,17 @@ impl MovedTail {
         ensures { result ≡ map (moved by) tail }
     {
         MovedTail { tail, by }
+    }
+
+    /// The same ranges in their order. None where they are found among others or in pieces, or may share an address.
+    pub(crate) fn in_order(self) -> Option<OrderedTail>
+        ensures { IfSome result (λ t. t.spans ≡ self) }
+    {
+        let MovedTail { tail, by } = self;
+        match tail.whole() {
+            Some(list) => OrderedTail::new(list, by),
+            None => None,
+        }
     }
 
     /// How many ranges there are.

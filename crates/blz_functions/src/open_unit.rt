@@ -1,5 +1,5 @@
 //! A unit whose entries are read.
-ghost use Rattle.std.specs.Prelude.{◌≡◌, ◌≤◌, ◌<◌, ◌+◌, ◌^◌, ◌&&◌, length, nat_le, if◌then◌else◌};
+ghost use Rattle.std.specs.Prelude.{◌≡◌, ◌≤◌, ◌<◌, ◌+◌, ◌-◌, ◌^◌, ◌&&◌, length, nat_le, if◌then◌else◌};
 ghost use Rattle.blz_error.specs.declared.kind.ErrorKind.TheVariants.{InvalidDwarf};
 ghost use Rattle.blz_model.specs.Part.{Exactly, Good, Broken};
 ghost use Rattle.blz_info.specs.Marks.{or_invalid};
@@ -51,6 +51,13 @@ impl<'s, 'b> OpenUnit<'s, 'b> {
         ensures { Exactly (λ e. e) result (if nat_le self.now.header.entries at && nat_le at self.now.header.end then Good (walk_from (source_in (open_view self.now)) at) else Broken InvalidDwarf) }
     {
         Entries::new(self.sections, self.header, self.abbreviations, at)
+    }
+
+    /// How many bytes its entries take.
+    pub(crate) fn entry_bytes(&self) -> usize
+        ensures { result ≡ self.now.header.end - self.now.header.entries }
+    {
+        self.header.end.saturating_sub(self.header.entries)
     }
 
     /// Appends the ranges that attributes tell, and says whether there was one.

@@ -5,6 +5,7 @@ ghost use Rattle.blz_ranges.specs.Best.{best};
 ghost use Rattle.blz_functions.specs.KeptList.{AreFewLooks};
 ghost use Rattle.blz_functions.specs.PiecedTail.{IsPieced, best_from, better_of, pieced, placed_at};
 
+use crate::joined_lists::span_of;
 use crate::kept_list::KeptList;
 use blz_bytes::Steps;
 use blz_ranges::{Placed, Span};
@@ -34,7 +35,7 @@ impl Model for PiecedTail {
 }
 
 /// A range with its place.
-fn placed_at(place: usize, span: Option<Span>) -> Option<Placed>
+pub(crate) fn placed_at(place: usize, span: Option<Span>) -> Option<Placed>
     ensures { result ≡ placed_at place span }
 {
     match span {
@@ -61,7 +62,7 @@ fn best_in<L: Ledger>(
 }
 
 /// The better of the best of some ranges and of those behind them.
-fn better_of(found: Option<Placed>, behind: Option<Placed>) -> Option<Placed>
+pub(crate) fn better_of(found: Option<Placed>, behind: Option<Placed>) -> Option<Placed>
     ensures { result ≡ better_of found behind }
 {
     match found {
@@ -84,21 +85,6 @@ fn best_of<L: Ledger>(pieces: &[Arc<KeptList>], addr: u64, steps: &mut Steps<L>)
         begin += list.len();
     }
     found
-}
-
-/// The range at a place of some pieces, for one look.
-fn span_of<L: Ledger>(pieces: &[Arc<KeptList>], place: usize, steps: &mut Steps<L>) -> Option<Span>
-    requires { 0 < length pieces.now }
-    ensures span { result ≡ slice_get (pieced pieces.now) place }
-    ensures cost { steps.new ≡ steps.old + 1 }
-{
-    let mut at = 0;
-    let mut left = place;
-    while at + 1 < pieces.len() && pieces[at].deref().len() <= left {
-        left -= pieces[at].deref().len();
-        at += 1;
-    }
-    pieces[at].deref().span(left, steps)
 }
 
 impl PiecedTail {

@@ -20,11 +20,12 @@ fn further(one: u64, other: u64) -> u64
     if one < other { other } else { one }
 }
 
-/// An address that no range reaches past.
-fn most_of(spans: &[Span]) -> u64
-    ensures { ReachUpTo result spans.now }
+/// An address that no range reaches past, nor is it before another one.
+fn most_of(start: u64, spans: &[Span]) -> u64
+    ensures spans { ReachUpTo result spans.now }
+    ensures start { start ≤ result }
 {
-    let mut most = 0;
+    let mut most = start;
     for span in spans {
         most = further(further(most, span.begin), span.end);
     }
@@ -32,13 +33,25 @@ fn most_of(spans: &[Span]) -> u64
 }
 
 impl Reach {
-    pub(crate) fn of(spans: &[Span], address_size: u8) -> Reach
-        ensures most { ReachUpTo result.most spans.now }
+    /// That of no ranges.
+    pub(crate) fn new(address_size: u8) -> Reach
         ensures greatest { result.greatest ≡ greatest address_size }
     {
         Reach {
-            most: most_of(spans),
+            most: 0,
             greatest: greatest(address_size),
+        }
+    }
+
+    /// That of more ranges.
+    pub(crate) fn with(self, spans: &[Span]) -> Reach
+        ensures most { ReachUpTo result.most spans.now }
+        ensures further { self.most ≤ result.most }
+        ensures greatest { result.greatest ≡ self.greatest }
+    {
+        Reach {
+            most: most_of(self.most, spans),
+            greatest: self.greatest,
         }
     }
 

@@ -64,12 +64,22 @@ pub struct ReadLists {
     free: BTreeMap<usize, bool>,
     /// Where those with many entries begin whose ranges were appended.
     pub(crate) begins: Vec<u64>,
+    /// How many entries those have that were read to where another one ends, with another base.
+    again: usize,
+}
+
+/// Whether a list of a map is another one with another base.
+fn is_other_base(list: Option<(&(usize, u64), &bool)>, tail: RangeTail) -> bool {
+    match list {
+        Some((key, _)) => key.0 == tail.place && key.1 != tail.base,
+        None => false,
+    }
 }
 
 /// A list of no more entries is read anew each time: that takes less than to keep it.
 pub(crate) const FEW_ENTRIES: usize = 8;
 
-fn put(out: &mut Vec<Span>, span: Option<Span>) -> std::result::Result<(), AllocError>
+pub(crate) fn put(out: &mut Vec<Span>, span: Option<Span>) -> std::result::Result<(), AllocError>
     ensures { OnOk result (out.new.items ≡ out.old.items ++ option_to_list span) }
 {
     if let Some(span) = span {
@@ -101,6 +111,18 @@ pub(crate) fn append_few(
         tail = behind;
     }
     Ok(None)
+}
+
+/// Whether a list has many entries.
+pub(crate) fn has_many_entries(unit: &OpenUnit<'_, '_>, offset: u64) -> bool {
+    let mut tail = unit.ranges_at(offset);
+    for _ in 0..=FEW_ENTRIES {
+        match unit.next_range(tail) {
+            Ok(Some((_, behind))) => tail = behind,
+            _ => return false,
+        }
+    }
+    true
 }
 
 /// A list from its first entry on that tells a range, as far as that stands near: the entries before it only tell a base,
@@ -147,7 +169,7 @@ fn is_free(entry: PassedEntry, place: usize, free: bool) -> bool
 
 /// Tells of each entry that was passed whether its list is the same whatever offsets are added to, where that is known
 /// of the list behind them all, which begins at a place.
-fn settle_bases(passed: &mut Vec<PassedEntry>, place: usize, free: bool)
+pub(crate) fn settle_bases(passed: &mut Vec<PassedEntry>, place: usize, free: bool)
     ensures passed { KeepsPassed passed.old.items passed.new.items }
     ensures uses { KeepsUses free place passed.old.items passed.new.items }
 {
@@ -167,7 +189,7 @@ fn settle_bases(passed: &mut Vec<PassedEntry>, place: usize, free: bool)
 }
 
 /// Notes an entry of a list that leads to another one.
-fn pass_entry(
+pub(crate) fn pass_entry(
     unit: &OpenUnit<'_, '_>,
     passed: &mut Vec<PassedEntry>,
     tail: RangeTail,
@@ -197,6 +219,7 @@ impl ReadLists {
             based: BTreeMap::new(alloc),
             free: BTreeMap::new(alloc),
             begins: Vec::new(alloc),
+            again: 0,
         }
     }
 
@@ -228,6 +251,51 @@ impl ReadLists {
             Some(some) => Some(KnownList { some, free: false }),
             None => None,
         }
+    }
+
+    /// Whether a list was read with another base too.
+    fn has_other_base(&self, tail: RangeTail) -> bool {
+        let first = self.based.range((tail.place, 0)..).next();
+        let last = self.based.range(..=(tail.place, u64::MAX)).next_back();
+        is_other_base(first, tail) || is_other_base(last, tail)
+    }
+
+    /// Counts some entries where they lead to the end of a list, and the list from the last one on was read with another base
+    /// too.
+    fn note_end(&mut self, passed: &[PassedEntry])
+        ensures { (u : UnitParts) (ranges : List (Owned Span)) → AreRead u ranges self.old
+            → AreRead u ranges self.new }
+    {
+        let Some(entry) = passed.last() else {
+            return;
+        };
+        let behind = RangeTail {
+            place: entry.behind,
+            ..entry.tail
+        };
+        if self.find(behind).is_none() && self.has_other_base(entry.tail) {
+            self.again = self.again.saturating_add(passed.len());
+        }
+    }
+
+    /// Whether so many of its lists end alike with different bases that to read them takes longer than to read its entries.
+    pub(crate) fn are_read_again(&self, unit: &OpenUnit<'_, '_>) -> bool {
+        self.again > unit.entry_bytes()
+    }
+
+    /// Whether a list has an entry at a place behind its first one, before any that was read. So no entry is passed twice.
+    pub(crate) fn runs_into(&self, unit: &OpenUnit<'_, '_>, offset: u64, place: usize) -> bool {
+        let mut tail = unit.ranges_at(offset);
+        while tail.place < place {
+            if self.find(tail).is_some() {
+                return false;
+            }
+            match unit.next_range(tail) {
+                Ok(Some((_, behind))) => tail = behind,
+                _ => return false,
+            }
+        }
+        tail.place == place
     }
 
     fn keep_free(&mut self, place: usize, some: bool) -> std::result::Result<(), AllocError>
@@ -320,6 +388,7 @@ impl ReadLists {
         let mut passed = Vec::new(self.alloc);
         let some = self.pass(unit, list, &mut passed, out)?;
         self.keep_passed(&passed, out.len(), some)?;
+        self.note_end(&passed);
         Ok(some || before < out.len())
     }
 

@@ -7,11 +7,10 @@ ghost use Rattle.blz_functions.specs.ReadFunctions.{AddsFunction};
 ghost use Rattle.blz_functions.specs.declared.read_lists.ReadLists.{ReadLists};
 
 use crate::depth_ranges::push_ranges;
-use crate::foreseen_lists::has_many_entries;
 use crate::kept_lists::KeptLists;
 use crate::open_unit::OpenUnit;
 use crate::pieces::{Named, Piece};
-use crate::read_lists::{ReadLists, append_few};
+use crate::read_lists::{ReadLists, append_few, has_many_entries};
 use blz_entry::{RangeAttributes, Span};
 use blz_error::Result;
 use blz_ranges::own;
@@ -19,7 +18,8 @@ use std::alloc::Global;
 
 /// Ranges, each with the number of its function. What several lists share is read once, and its ranges stand here for the
 /// first function that names one, which is the one that their addresses have. From the first function on that names a list
-/// with many entries which another unit named, what functions name is kept in place of its ranges.
+/// with many entries which another unit named, or which runs into one that it did, or behind many of this unit that end
+/// alike with different bases, what functions name is kept in place of its ranges.
 #[derive(Drop)]
 pub struct ReadRanges {
     pub alloc: Global,
@@ -28,12 +28,19 @@ pub struct ReadRanges {
     pub pieces: Vec<Piece>,
 }
 
-/// Whether attributes name a list with many entries that was named before.
-fn names_known(unit: &OpenUnit<'_, '_>, kept: &KeptLists, attributes: &RangeAttributes) -> bool {
-    match attributes.ranges_offset {
-        Some(offset) => kept.is_named(offset) && has_many_entries(unit, offset),
-        None => false,
-    }
+/// Whether attributes name a list with many entries, where another unit named it or one that it runs into, or many others are
+/// the same but for a base.
+fn names_known(
+    unit: &OpenUnit<'_, '_>,
+    lists: &ReadLists,
+    kept: &KeptLists,
+    attributes: &RangeAttributes,
+) -> bool {
+    let Some(offset) = attributes.ranges_offset else {
+        return false;
+    };
+    has_many_entries(unit, offset)
+        && (lists.are_read_again(unit) || kept.is_met(unit, lists, offset))
 }
 
 impl ReadRanges {
@@ -123,7 +130,7 @@ impl ReadRanges {
         ensures fits { OnOk result (length self.new.spans.items ≡ length self.new.owners.items) }
         ensures kept { AreKeptLists (open_view unit.now) kept.new }
     {
-        if self.pieces.is_empty() && !names_known(unit, kept, attributes) {
+        if self.pieces.is_empty() && !names_known(unit, lists, kept, attributes) {
             return self.put(unit, lists, function, attributes);
         }
         self.name(unit, kept, function, attributes)

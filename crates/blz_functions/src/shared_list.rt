@@ -1,27 +1,35 @@
-//! A list of ranges, and indexes of parts of it, which the lists share that end alike.
-ghost use Rattle.std.specs.Prelude.{◌≡◌, ◌+◌, ◌<◌, ◌≤◌, List, drop, length, IfOk, IfSome};
+//! The ranges of a list from the last to the first, and indexes of parts of it, which the lists share that end alike.
+ghost use Rattle.std.specs.Prelude.{◌≡◌, ◌++◌, ◌<◌, ◌≤◌, List, [], length, reverse, true, IfOk, IfSome, OnOk};
 ghost use Rattle.blz_ranges.specs.declared.span.Span.{Span};
 ghost use Rattle.blz_functions.specs.PiecedTail.{pieced};
-ghost use Rattle.blz_functions.specs.SharedList.{MayGive, MayIndex, MayShare, part_of};
-ghost use Rattle.blz_functions.specs.Sharing.{IsSharing};
+ghost use Rattle.blz_functions.specs.Rising.{DoRise};
+ghost use Rattle.blz_functions.specs.SharedList.{MayGive, MayIndex, last_of, part_of};
+ghost use Rattle.blz_functions.specs.Sharing.{IsSharing, MayShare};
 
 use crate::kept_list::KeptList;
 use crate::pieced_tail::PiecedTail;
+use crate::rising::Rising;
+use crate::rising_tail::RisingTail;
 use crate::shared_tail::SharedTail;
-use crate::sharing::Sharing;
+use crate::sharing::{Search, Sharing};
 use blz_entry::Span;
 use std::alloc::{AllocError, Global};
 use std::collections::BTreeMap;
 use std::marker::Model;
 use std::sync::Arc;
 
-/// A list of ranges, and indexes of parts of it, each built once it is asked for.
+/// A list of ranges, and indexes of parts of it, each built once it is asked for. The ranges are kept from the last to the
+/// first, and places are counted from the end, so that all that is kept stays right where others are put in front.
 #[derive(Drop)]
 pub struct SharedList {
     spans: Vec<Span>,
-    /// Two ranges that share an address, once they were sought.
-    sharing: Option<Option<Sharing>>,
-    /// By the places that they begin and end at.
+    search: Search,
+    rising: Rising,
+    /// How many ranges the greatest index has that was built since they were twice as many as in the last such one.
+    whole: usize,
+    /// How many ranges those indexes have that were built though they were not, since this was asked last.
+    surplus: usize,
+    /// By how many ranges there are from their begin on, and behind their end.
     parts: BTreeMap<(usize, usize), Option<Arc<KeptList>>>,
 }
 
@@ -34,7 +42,7 @@ impl Model for SharedList {
 
     ghost view = { λ l. l.spans.items };
 
-    ghost invariant = { λ l. AreKept l.spans.items l.sharing l.parts };
+    ghost invariant = { λ l. AreKept l.spans.items l.search l.rising l.parts };
 }
 
 /// How many of its last ranges are indexed where some number of them is asked for: of the numbers 0, 1, 3, 7 and so on
@@ -69,11 +77,12 @@ fn piece_size(count: usize) -> usize
     size
 }
 
-/// An index of ranges, where their order was accepted.
+/// An index of ranges that stand from the last to the first, where their order was accepted.
 fn index_of(alloc: Global, spans: &[Span]) -> Result<Option<Arc<KeptList>>, AllocError>
-    ensures { IfOk result (MayIndex spans.now) }
+    ensures { IfOk result (MayIndex (reverse spans.now)) }
 {
-    let spans = Vec::from_slice(alloc, spans)?;
+    let mut spans = Vec::from_slice(alloc, spans)?;
+    spans.reverse();
     match KeptList::build(alloc, spans)? {
         Some(list) => Ok(Some(Arc::new(alloc, list)?)),
         None => Ok(None),
@@ -91,13 +100,16 @@ fn second(list: &Option<Arc<KeptList>>) -> Result<Option<Arc<KeptList>>, AllocEr
 }
 
 impl SharedList {
-    /// A list of which nothing is kept yet.
-    pub(crate) fn new(alloc: Global, spans: Vec<Span>) -> SharedList
-        ensures { result ≡ spans.items }
+    /// A list of no ranges; takes no memory.
+    pub(crate) fn new(alloc: Global) -> SharedList
+        ensures { result ≡ [] }
     {
         SharedList {
-            spans,
-            sharing: None,
+            spans: Vec::new(alloc),
+            search: Search::new(alloc),
+            rising: Rising::new(),
+            whole: 0,
+            surplus: 0,
             parts: BTreeMap::new(alloc),
         }
     }
@@ -109,137 +121,213 @@ impl SharedList {
         self.spans.len()
     }
 
+    /// Puts ranges before the first one.
+    pub(crate) fn extend(&mut self, front: Vec<Span>) -> Result<(), AllocError>
+        ensures { OnOk result (self.new ≡ self.old ++ reverse front.items) }
+    {
+        let mut front = front;
+        front.reverse();
+        self.spans.extend_from_slice(&front)?;
+        Ok(())
+    }
+
     /// Two ranges that share an address.
-    fn sought(&mut self, alloc: Global) -> Result<Option<Sharing>, AllocError>
+    fn sought(&mut self) -> Result<Option<Sharing>, AllocError>
         ensures value { IfOk result (MayShare self.old) }
         ensures kept { self.new ≡ self.old }
     {
-        if let Some(known) = self.sharing {
-            return Ok(known);
+        self.search.go_on(&self.spans)
+    }
+
+    /// Whether so many of the last ranges rise.
+    fn do_rise(&mut self, count: usize) -> bool
+        requires { count ≤ length self.old }
+        ensures value { result ≡ true → DoRise (last_of self.old count) }
+        ensures kept { self.new ≡ self.old }
+    {
+        count <= self.rising.go_on(&self.spans)
+    }
+
+    /// Whether an index of so many of the last ranges is kept, or may be where no greater one serves: only once they are twice
+    /// as many as in the last such index. So all of these together have fewer than twice the ranges of the greatest, however
+    /// often ranges are put in front.
+    fn may_index(&mut self, count: usize) -> bool
+        ensures { self.new ≡ self.old }
+    {
+        if self.parts.get(&(count, 0)).is_some() {
+            return true;
         }
-        let found = Sharing::find(alloc, &self.spans)?;
-        self.sharing = Some(found);
-        Ok(found)
+        if count / 2 < self.whole {
+            return false;
+        }
+        self.whole = count;
+        true
+    }
+
+    /// How many ranges those indexes have that had to be built all the same, since this was asked last.
+    pub(crate) fn take_surplus(&mut self) -> usize
+        ensures { self.new ≡ self.old }
+    {
+        let surplus = self.surplus;
+        self.surplus = 0;
+        surplus
     }
 
     /// Keeps an index of a part.
     fn keep(
         &mut self,
-        begin: usize,
-        end: usize,
+        from: usize,
+        behind: usize,
         list: Option<Arc<KeptList>>,
     ) -> Result<(), AllocError>
-        requires { MayIndex (part_of self.old (begin, end)) list }
+        requires falling { behind ≤ from }
+        requires within { from ≤ length self.old }
+        requires index { MayIndex (part_of self.old (from, behind)) list }
         ensures { self.new ≡ self.old }
     {
-        self.parts.insert((begin, end), list)?;
+        self.parts.insert((from, behind), list)?;
         Ok(())
     }
 
-    /// An index of the ranges from a place up to another one. None where their order was not accepted.
+    /// An index of so many of the last ranges but for those behind them. None where their order was not accepted.
     fn part(
         &mut self,
         alloc: Global,
-        begin: usize,
-        end: usize,
+        from: usize,
+        behind: usize,
     ) -> Result<Option<Arc<KeptList>>, AllocError>
-        requires rising { begin ≤ end }
-        requires within { end ≤ length self.old }
-        ensures value { IfOk result (MayIndex (part_of self.old (begin, end))) }
+        requires falling { behind ≤ from }
+        requires within { from ≤ length self.old }
+        ensures value { IfOk result (MayIndex (part_of self.old (from, behind))) }
         ensures kept { self.new ≡ self.old }
     {
-        if let Some(known) = self.parts.get(&(begin, end)) {
+        if let Some(known) = self.parts.get(&(from, behind)) {
             return second(known);
         }
-        let list = index_of(alloc, &self.spans.as_slice()[begin..end])?;
+        let list = index_of(alloc, &self.spans.as_slice()[behind..from])?;
         let kept = second(&list)?;
-        self.keep(begin, end, kept)?;
+        self.keep(from, behind, kept)?;
         Ok(list)
     }
 
-    /// The ranges from one of them on, in an index of at most so many of the last ones.
+    /// So many of the last ranges, in an index of more of them.
     fn indexed_tail(
         &mut self,
         alloc: Global,
-        before: usize,
-        most: usize,
+        count: usize,
+        size: usize,
     ) -> Result<Option<SharedTail>, AllocError>
-        requires enough { length self.old ≤ before + most }
-        requires within { most ≤ length self.old }
-        ensures value { MayGive (drop before self.old) result }
+        requires enough { count ≤ size }
+        requires within { size ≤ length self.old }
+        ensures value { MayGive (last_of self.old count) result }
         ensures kept { self.new ≡ self.old }
     {
-        let len = self.len();
-        let begin = len - indexed(len.saturating_sub(before), most);
-        match self.part(alloc, begin, len)? {
-            Some(list) => Ok(SharedTail::indexed(list, before - begin)),
+        match self.part(alloc, size, 0)? {
+            Some(list) => Ok(SharedTail::indexed(list, size - count)),
             None => Ok(None),
         }
     }
 
-    /// The pieces of the ranges from one of them on. None where the order of one was not accepted.
+    /// The pieces of so many of the last ranges. None where the order of one was not accepted.
     fn pieces(
         &mut self,
         alloc: Global,
-        before: usize,
+        count: usize,
     ) -> Result<Option<Vec<Arc<KeptList>>>, AllocError>
-        requires { before ≤ length self.old }
-        ensures value { IfOk result (λ o. IfSome o (λ p. pieced p.items ≡ drop before self.old)) }
+        requires { count ≤ length self.old }
+        ensures value { IfOk result (λ o. IfSome o (λ p. pieced p.items ≡ last_of self.old count)) }
         ensures kept { self.new ≡ self.old }
     {
-        let len = self.len();
         let mut pieces = Vec::new(alloc);
-        let mut begin = before;
-        while begin < len {
-            let end = begin + piece_size(len - begin);
-            let Some(piece) = self.part(alloc, begin, end)? else {
+        let mut left = count;
+        while left > 0 {
+            let behind = left - piece_size(left);
+            let Some(piece) = self.part(alloc, left, behind)? else {
                 return Ok(None);
             };
             pieces.push(piece)?;
-            begin = end;
+            left = behind;
         }
         Ok(Some(pieces))
     }
 
-    /// The ranges from one of them on, of which two share an address, in pieces.
+    /// So many of the last ranges, of which two share an address, in pieces.
     fn pieced_tail(
         &mut self,
         alloc: Global,
-        before: usize,
+        count: usize,
         sharing: Sharing,
     ) -> Result<Option<SharedTail>, AllocError>
         requires shared { IsSharing self.old sharing }
-        requires within { before ≤ sharing.first }
-        ensures value { MayGive (drop before self.old) result }
+        requires shares { sharing.first < count }
+        requires within { count ≤ length self.old }
+        ensures value { MayGive (last_of self.old count) result }
         ensures kept { self.new ≡ self.old }
     {
-        let len = self.len().saturating_sub(before);
-        match self.pieces(alloc, before)? {
-            Some(pieces) => Ok(Some(SharedTail::pieced(PiecedTail::new(pieces, len)))),
+        match self.pieces(alloc, count)? {
+            Some(pieces) => Ok(Some(SharedTail::pieced(PiecedTail::new(pieces, count)))),
             None => Ok(None),
         }
     }
 
-    /// The ranges from one of them on. None where no index serves.
+    /// So many of the last ranges, which rise, in pieces.
+    fn rising_tail(&mut self, alloc: Global, count: usize) -> Result<Option<SharedTail>, AllocError>
+        requires rise { DoRise (last_of self.old count) }
+        requires some { 0 < count }
+        requires within { count ≤ length self.old }
+        ensures value { MayGive (last_of self.old count) result }
+        ensures kept { self.new ≡ self.old }
+    {
+        match self.pieces(alloc, count)? {
+            Some(pieces) => Ok(Some(SharedTail::rising(RisingTail::new(pieces, count)))),
+            None => Ok(None),
+        }
+    }
+
+    /// So many of the last ranges, in an index of at most another number of them, or in pieces where they rise and such
+    /// indexes would be too many.
+    fn tail_within(
+        &mut self,
+        alloc: Global,
+        count: usize,
+        most: usize,
+    ) -> Result<Option<SharedTail>, AllocError>
+        requires enough { count ≤ most }
+        requires within { most ≤ length self.old }
+        ensures value { MayGive (last_of self.old count) result }
+        ensures kept { self.new ≡ self.old }
+    {
+        let size = indexed(count, most);
+        if size == most && count > 0 && !self.may_index(size) {
+            if self.do_rise(count) {
+                return self.rising_tail(alloc, count);
+            }
+            self.surplus = self.surplus.saturating_add(size);
+        }
+        self.indexed_tail(alloc, count, size)
+    }
+
+    /// So many of the last ranges. None where no index serves.
     pub(crate) fn tail(
         &mut self,
         alloc: Global,
-        before: usize,
+        count: usize,
     ) -> Result<Option<SharedTail>, AllocError>
-        ensures value { MayGive (drop before self.old) result }
+        requires { count ≤ length self.old }
+        ensures value { MayGive (last_of self.old count) result }
         ensures kept { self.new ≡ self.old }
     {
         let len = self.len();
-        if before == 0 {
-            return self.indexed_tail(alloc, before, len);
+        if count == len && self.may_index(len) {
+            return self.indexed_tail(alloc, count, len);
         }
-        match self.sought(alloc)? {
-            Some(sharing) => if before <= sharing.first {
-                self.pieced_tail(alloc, before, sharing)
+        match self.sought()? {
+            Some(sharing) => if sharing.first < count {
+                self.pieced_tail(alloc, count, sharing)
             } else {
-                self.indexed_tail(alloc, before, len.saturating_sub(sharing.first + 1))
+                self.tail_within(alloc, count, sharing.first)
             },
-            None => self.indexed_tail(alloc, before, len),
+            None => self.tail_within(alloc, count, len),
         }
     }
 }

@@ -1,16 +1,14 @@
 //! The ranges of a list from one of them on, found in indexes that other lists share which end alike.
-ghost use Rattle.std.specs.Prelude.{◌≡◌, ◌+◌, ◌*◌, ◌^◌, ◌-◌, ◌≤◌, drop, is_some, length, option_map, IfSome};
+ghost use Rattle.std.specs.Prelude.{◌≡◌, ◌+◌, ◌-◌, ◌≤◌, drop, length, IfSome};
 ghost use Rattle.std.specs.Arc.{arc_value};
 ghost use Rattle.std.specs.List.{slice_get};
 ghost use Rattle.blz_ranges.specs.Best.{best};
-ghost use Rattle.blz_ranges.specs.Groups.{AreApart};
-ghost use Rattle.blz_ranges.specs.declared.span.Span.{Span};
-ghost use Rattle.blz_functions.specs.Found.{begin_in};
 ghost use Rattle.blz_functions.specs.KeptList.{AreFewLooks};
 
 use crate::indexed_tail::IndexedTail;
 use crate::kept_list::KeptList;
 use crate::pieced_tail::PiecedTail;
+use crate::rising_tail::RisingTail;
 use blz_bytes::Steps;
 use blz_ranges::Span;
 use std::marker::Model;
@@ -24,6 +22,8 @@ pub(crate) enum Form {
     Indexed(IndexedTail),
     /// In an index of each of some pieces.
     Pieced(PiecedTail),
+    /// In one search over some pieces.
+    Rising(RisingTail),
 }
 
 /// The ranges of a list from one of them on, found in indexes that other lists share which end alike.
@@ -64,6 +64,26 @@ impl SharedTail {
         }
     }
 
+    /// The same where they rise.
+    pub(crate) fn rising(tail: RisingTail) -> SharedTail
+        ensures { result ≡ tail }
+    {
+        SharedTail {
+            form: Form::Rising(tail),
+        }
+    }
+
+    /// The list that has the ranges and an index of all of them, if there is one.
+    pub(crate) fn whole(self) -> Option<Arc<KeptList>>
+        ensures { IfSome result (λ l. (arc_value l).spans ≡ self) }
+    {
+        let SharedTail { form } = self;
+        match form {
+            Form::Indexed(tail) => tail.whole(),
+            Form::Pieced(_) | Form::Rising(_) => None,
+        }
+    }
+
     /// The place of the best range that covers an address.
     pub(crate) fn best_at<L: Ledger>(&self, addr: u64, steps: &mut Steps<L>) -> Option<usize>
         ensures best { result ≡ best self.now addr }
@@ -73,6 +93,7 @@ impl SharedTail {
         match &self.form {
             Form::Indexed(tail) => tail.best_at(addr, steps),
             Form::Pieced(tail) => tail.best_at(addr, steps),
+            Form::Rising(tail) => tail.best_at(addr, steps),
         }
     }
 
@@ -84,6 +105,7 @@ impl SharedTail {
         match &self.form {
             Form::Indexed(tail) => tail.span(place, steps),
             Form::Pieced(tail) => tail.span(place, steps),
+            Form::Rising(tail) => tail.span(place, steps),
         }
     }
 
@@ -94,34 +116,7 @@ impl SharedTail {
         match &self.form {
             Form::Indexed(tail) => tail.len(),
             Form::Pieced(tail) => tail.len(),
+            Form::Rising(tail) => tail.len(),
         }
     }
-
-    /// Whether a range covers an address.
-    pub(crate) fn covers<L: Ledger>(&self, addr: u64, steps: &mut Steps<L>) -> bool
-        ensures is { result ≡ is_some (best self.now addr) }
-        ensures cost { AreFewLooks self.now (steps.new - steps.old) }
-        ensures later { steps.old ≤ steps.new }
-    {
-        self.best_at(addr, steps).is_some()
-    }
-
-    /// Where the best range that covers an address begins, for a look more.
-    pub(crate) fn begin_at<L: Ledger>(&self, addr: u64, steps: &mut Steps<L>) -> Option<u64>
-        ensures begin { result ≡ begin_in self.now addr }
-        ensures cost { AreApart self.now
-            → 2 ^ (steps.new - steps.old) ≤ 8 * (2 * length self.now + 1) }
-        ensures later { steps.old ≤ steps.new }
-    {
-        match self.best_at(addr, steps) {
-            Some(place) => begin_of(self.span(place, steps)),
-            None => None,
-        }
-    }
-}
-
-fn begin_of(span: Option<Span>) -> Option<u64>
-    ensures { result ≡ option_map (λ (s : Span). s.begin) span }
-{
-    Some(span?.begin)
 }

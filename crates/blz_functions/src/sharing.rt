@@ -1,13 +1,13 @@
-//! Two ranges of a list that share an address.
-ghost use Rattle.std.specs.Prelude.{◌≡◌, ◌<◌, true, IfOk, IfSome};
-ghost use Rattle.blz_functions.specs.Sharing.{DoMeet, IsSharing};
+//! Two ranges of a list that share an address, where the list stands from the last range to the first.
+ghost use Rattle.std.specs.Prelude.{◌≡◌, ◌<◌, true, IfOk, IfSome, None};
+ghost use Rattle.blz_functions.specs.Sharing.{DoMeet, IsSharing, MayShare};
 
 use blz_ranges::Span;
 use std::alloc::{AllocError, Global};
 use std::collections::BTreeMap;
 
-/// The places of two ranges of a list that share an address, or twice the place of one that is empty. The second is not
-/// before the first.
+/// How many ranges stand behind each of two that share an address, or twice behind one that is empty. The second does not
+/// stand before the first.
 #[derive(Clone, Copy, Drop)]
 pub(crate) struct Sharing {
     pub first: usize,
@@ -58,7 +58,7 @@ impl Sharing {
         match (spans.get(self.first), spans.get(self.second)) {
             (Some(one), Some(other)) => {
                 let empty = one.end <= one.begin && self.first == self.second;
-                empty || (self.first < self.second && meet(*one, *other))
+                empty || (self.second < self.first && meet(*one, *other))
             }
             _ => false,
         }
@@ -75,28 +75,49 @@ impl Sharing {
             None
         }
     }
+}
+
+/// A search for two ranges that share an address, from the last to the first. It goes on where it ended once others are
+/// put in front.
+#[derive(Drop)]
+pub(crate) struct Search {
+    /// Those that were passed, by where they begin. They share no address.
+    known: BTreeMap<u64, Known>,
+    passed: usize,
+    pub found: Option<Sharing>,
+}
+
+impl Search {
+    /// One that has passed no range; takes no memory.
+    pub(crate) fn new(alloc: Global) -> Search
+        ensures { result.found ≡ None }
+    {
+        Search {
+            known: BTreeMap::new(alloc),
+            passed: 0,
+            found: None,
+        }
+    }
 
     /// Two ranges of a list that share an address, or an empty one. The first of them is the last one that shares an
     /// address with a range behind it, or is empty: so those behind it do not.
-    pub(crate) fn find(alloc: Global, spans: &[Span]) -> Result<Option<Sharing>, AllocError>
-        ensures { IfOk result (λ o. IfSome o (IsSharing spans.now)) }
+    pub(crate) fn go_on(&mut self, spans: &[Span]) -> Result<Option<Sharing>, AllocError>
+        requires { MayShare spans.now self.old.found }
+        ensures value { IfOk result (MayShare spans.now) }
+        ensures kept { MayShare spans.now self.new.found }
     {
-        let mut known = BTreeMap::new(alloc);
-        let mut place = spans.len();
-        while place > 0 {
-            place -= 1;
+        while self.found.is_none() && self.passed < spans.len() {
+            let place = self.passed;
             let span = spans[place];
-            if let Some(second) = second_of(&known, span, place) {
-                return Ok(Sharing::checked(spans, place, second));
-            }
-            known.insert(
-                span.begin,
-                Known {
-                    end: span.end,
-                    place,
+            match second_of(&self.known, span, place) {
+                Some(second) => self.found = Sharing::checked(spans, place, second),
+                None => {
+                    let end = span.end;
+                    self.known.insert(span.begin, Known { end, place })?;
                 },
-            )?;
+            }
+            self.passed = place + 1;
         }
-        Ok(None)
+        Ok(self.found)
     }
 }

@@ -3,14 +3,17 @@ ghost use Rattle.std.specs.Prelude.{◌≡◌, ◌++◌, length, IfOk};
 ghost use Rattle.blz_functions.specs.KeptLists.{AreKeptLists};
 ghost use Rattle.blz_functions.specs.Opened.{open_view};
 ghost use Rattle.blz_functions.specs.Pieces.{AreNamed};
-ghost use Rattle.blz_functions.specs.ReadFunctions.{GivesRanges, SettlesRanges};
+ghost use Rattle.blz_functions.specs.ReadFunctions.{GivesRanges, SettlesRanges, unit_ranges};
+ghost use Rattle.blz_functions.specs.UnitLayer.{layer_ranges};
 
 use crate::kept_layers::kept_layer;
 use crate::kept_lists::KeptLists;
-use crate::layer::Layer;
+use crate::layered_row::row_of;
 use crate::open_unit::OpenUnit;
 use crate::pieces::{Piece, gathered, owned_pieces};
+use crate::ranked_layer::ranked_of;
 use crate::read_ranges::ReadRanges;
+use crate::unit_layer::UnitLayer;
 use blz_entry::Span;
 use blz_error::Result;
 use std::alloc::Global;
@@ -21,10 +24,22 @@ pub struct UnitRanges {
     pub spans: Vec<Span>,
     pub owners: Vec<usize>,
     /// Ranges that other units share.
-    pub layer: Option<Layer>,
+    pub layer: Option<UnitLayer>,
 }
 
 impl UnitRanges {
+    /// Ranges that other units share.
+    fn shared(alloc: Global, layer: UnitLayer) -> UnitRanges
+        ensures ranges { unit_ranges result ≡ layer_ranges layer }
+        ensures fits { length result.spans.items ≡ length result.owners.items }
+    {
+        UnitRanges {
+            spans: Vec::new(alloc),
+            owners: Vec::new(alloc),
+            layer: Some(layer),
+        }
+    }
+
     /// Settles ranges that were read. Only want of memory is refused.
     pub(crate) fn settle(
         alloc: Global,
@@ -56,8 +71,8 @@ impl UnitRanges {
         UnitRanges::of_pieces(alloc, unit, kept, own, pieces)
     }
 
-    /// The ranges of some pieces and more, of which the first names a list: those of a layer that other units share, or with
-    /// an index to come for them alone.
+    /// The ranges of some pieces and more, of which the first names a list: those of a layer that other units share, all or
+    /// beside others, or with an index to come for them alone.
     fn of_pieces(
         alloc: Global,
         unit: &OpenUnit<'_, '_>,
@@ -71,16 +86,17 @@ impl UnitRanges {
         ensures fits { IfOk result (λ r. length r.spans.items ≡ length r.owners.items) }
         ensures kept { AreKeptLists (open_view unit.now) kept.new }
     {
-        let layer = kept_layer(alloc, unit, kept, own.as_slice(), pieces.as_slice())?;
-        if layer.is_some() {
-            return Ok(UnitRanges {
-                spans: Vec::new(alloc),
-                owners: Vec::new(alloc),
-                layer,
-            });
+        if let Some(layer) = kept_layer(alloc, unit, kept, own.as_slice(), pieces.as_slice())? {
+            return Ok(UnitRanges::shared(alloc, UnitLayer::Shared(layer)));
         }
         let mut all = own;
         all.extend_from_slice(pieces.as_slice())?;
+        if let Some(ranges) = ranked_of(alloc, unit, kept, all.as_slice())? {
+            return Ok(UnitRanges::shared(alloc, UnitLayer::Ranked(ranges)));
+        }
+        if let Some(row) = row_of(alloc, unit, kept, all.as_slice())? {
+            return Ok(UnitRanges::shared(alloc, UnitLayer::Row(row)));
+        }
         let (spans, owners) = gathered(alloc, unit, all.as_slice())?;
         Ok(UnitRanges {
             spans,

@@ -8,4 +8,7 @@ loop-span-preserved c =
     let d : Span = record { begin = 0; end = 0 } in
     let inner = c.further.ensures in
     let outer = c.further-most.ensures in
-    reach_more c.loop-span.most c.further-most.result c.loop-span.span-index c.args.spans.now d c.loop-span-test.true (omega (arith, inner.one, outer.one)) (record { begin = omega (arith, inner.other, outer.one); end = outer.other }) c.loop-span.invariant
+    record {
+      spans = reach_more c.loop-span.most c.further-most.result c.loop-span.span-index c.args.spans.now d c.loop-span-test.true (omega (arith, inner.one, outer.one)) (record { begin = omega (arith, inner.other, outer.one); end = outer.other }) c.loop-span.invariant.spans;
+      start = omega (arith, c.loop-span.invariant.start, inner.one, outer.one);
+    }

@@ -6,7 +6,8 @@ pub returns-in_err-put_whole-clause-kept : goal.returns-in_err-put_whole-clause-
 returns-in_err-put_whole-clause-kept c =
     let u = open_view c.args.unit.now in
     let whole : IsWhole u c.in-Some.list = rw c.in-Some.is at c.in_ok-list.ensures.value in
-    c.put_whole.ensures u (c.in_ok-found.ensures.kept u whole) c.in_ok-list.ensures.kept
+    let kept = c.in_ok-list.ensures.kept in
+    c.put_whole.ensures u (c.take_surplus.ensures u (c.in_ok-found.ensures.kept u whole)) (record { named = kept.named; fronts = kept.fronts; contents = kept.contents })
 
 pub tail_at-requires : goal.tail_at-requires
 tail_at-requires c = rw c.in-Some.is at c.in_ok-list.ensures.value
@@ -18,4 +19,5 @@ pub returns-clause-kept : goal.returns-clause-kept
 returns-clause-kept c =
     let u = open_view c.args.unit.now in
     let whole : IsWhole u c.in-Some.list = rw c.in-Some.is at c.in_ok-list.ensures.value in
-    c.put_whole.ensures u (c.in_ok-found.ensures.kept u whole) c.in_ok-list.ensures.kept
+    let kept = c.in_ok-list.ensures.kept in
+    c.put_whole.ensures u (c.take_surplus.ensures u (c.in_ok-found.ensures.kept u whole)) (record { named = kept.named; fronts = kept.fronts; contents = kept.contents })

@@ -34,5 +34,5 @@ returns-clause-value c = λ ranges told.
     let u = open_view c.args.unit.now in
     let spans = spans_behind u (list_tail c.args.unit.now.root c.in-Some.offset) in
     let back : c.truncate.new.self.items ≡ c.args.out.now.items = c.truncate.ensures.items ∙ rw c.len-before.ensures c.in_ok-some.ensures.front in
-    let read = subst (λ (l : List Span). AppendedTo u ranges c.read.new.self spans l c.read.new.out.items c.read.result) back (rw c.ranges_at.ensures at (c.read.ensures.value ranges (same_lists u ranges c.args.self.now (record { alloc = c.args.self.now.alloc; based = c.args.self.now.based; free = c.args.self.now.free; begins = c.push.new.self }) refl refl told))) in
+    let read = subst (λ (l : List Span). AppendedTo u ranges c.read.new.self spans l c.read.new.out.items c.read.result) back (rw c.ranges_at.ensures at (c.read.ensures.value ranges (same_lists u ranges c.args.self.now (record { alloc = c.args.self.now.alloc; based = c.args.self.now.based; free = c.args.self.now.free; begins = c.push.new.self; again = c.args.self.now.again }) refl refl told))) in
     rw (list_in u c.args.ranges.now c.in-Some.offset c.in-Some.is) read

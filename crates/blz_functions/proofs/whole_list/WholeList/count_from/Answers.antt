@@ -1,7 +1,6 @@
-use Rattle.std.proofs.Common.{ℕ, ◌-◌, ap, ◌∙◌}
 use Rattle.blz_functions.proofs.WholeLists.{found_spans}
 use Rattle.blz_functions.proofs.whole_list.WholeList.count_from.Goals as goal
 
 pub returns-in-Some : goal.returns-in-Some
 returns-in-Some c = λ u whole.
-    found_spans u c.args.self.now.ranges c.args.tail c.in-Some.found c.saturating_sub.result (rw c.in-Some.is at (c.find.ensures u whole)) (c.saturating_sub.ensures ∙ ap (λ (n : ℕ). n - c.in-Some.found.before) c.len.ensures)
+    found_spans u c.args.self.now.ranges c.args.tail c.in-Some.found (rw c.in-Some.is at (c.find.ensures u whole))

@@ -1,18 +1,23 @@
-use Rattle.std.proofs.Common.{[], refl}
+use Rattle.std.proofs.Common.{◌≡◌, true, inl, inr}
+use Rattle.std.proofs.lemmas.Bool.{cases_Bool}
 use Rattle.std.proofs.lemmas.Result.{err_from_is_err_and}
+use Rattle.blz_entry.specs.RangeTails.{list_tail}
+use Rattle.blz_functions.specs.ListFront.{IsFront}
 use Rattle.blz_functions.specs.Opened.{open_view}
-use Rattle.blz_functions.proofs.WholeLists.{whole_read}
+use Rattle.blz_functions.proofs.WholeLists.{ended_front, nothing_whole}
 use Rattle.blz_functions.proofs.whole_list.WholeList.read.Goals as goal
 
 pub returns : goal.returns
 returns c =
     let u = open_view c.args.unit.now in
-    let passed = rw c.ranges_at.ensures at (c.in_ok-pass.ensures.value [] (c.new-nothing.ensures.read u [])) in
-    let none = c.in_ok-pass.ensures.none c.new-nothing.ensures.nothing in
-    whole_read u c.args.offset _ c.new-spans.result.items _ c.in_ok-pass.field-0 passed c.new-spans.ensures.items none c.new-ranges.ensures refl
+    let list = list_tail u.root c.args.offset in
+    let front = c.in_ok-front.front in
+    let is : IsFront u list front = rw c.ranges_at.ensures at c.in_ok-front.ensures.value in
+    let ended : front.ended ≡ true = elim (cases_Bool front.ended) [ inl t ↦ t | inr f ↦ absurd (let k = c.in_ok-front.ensures.open f in cc) ] in
+    let new = c.new-list.ensures in
+    c.in_ok-put_front.ensures u c.args.offset (ended_front u list front c.new-list.result is ended new.ranges new.reach) (nothing_whole u c.new-list.result new.entries new.reach)
 
-pub returns-in_err-pass : goal.returns-in_err-pass
-returns-in_err-pass c =
-    let u = open_view c.args.unit.now in
-    let p = err_from_is_err_and c.from_residual-in_err-pass.result c.from_residual-in_err-pass.ensures.1 in
-    rw (p.1, p.2, ← c.ranges_at.ensures) (c.in_err-pass.ensures.value [] (c.new-nothing.ensures.read u []))
+pub returns-in_err-front : goal.returns-in_err-front
+returns-in_err-front c =
+    let p = err_from_is_err_and c.from_residual-in_err-front.result c.from_residual-in_err-front.ensures.1 in
+    rw (p.1, p.2, ← c.ranges_at.ensures) c.in_err-front.ensures.value

@@ -1,0 +1,18 @@
+use Rattle.std.proofs.Common.{◌≡◌, ◌-◌, false}
+use Rattle.std.specs.List.{All}
+use Rattle.blz_entry.specs.RangeLists.{list_length}
+use Rattle.blz_functions.specs.Leaves.{lying}
+use Rattle.blz_functions.specs.Opened.{open_view}
+use Rattle.blz_functions.specs.RelativeList.{HasPut, LeadsTo}
+use Rattle.blz_functions.proofs.list_front.ListFront.read_relative.Given as goal
+
+abbrev pub invariant-loop-end : goal.invariant-loop-end
+invariant-loop-end l = record {
+  zero : l.front.rest.base ≡ 0;
+  put : HasPut (open_view l.unit) l.place l.front.spans.items l.front.rest.place;
+  each : All (LeadsTo (open_view l.unit) l.front.spans.items l.front.rest.place) l.front.entries.items;
+  ended : l.front.ended ≡ false;
+}
+
+abbrev pub decreases-loop-end : goal.decreases-loop-end
+decreases-loop-end l = list_length (lying (open_view l.unit).sections) l.unit.header - l.front.rest.place

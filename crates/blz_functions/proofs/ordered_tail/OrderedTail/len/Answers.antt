@@ -1,0 +1,8 @@
+use Rattle.std.specs.Arc.{arc_value}
+use Rattle.blz_functions.proofs.OrderedTails.{in_turn}
+use Rattle.blz_functions.proofs.ordered_tail.OrderedTail.len.Goals as goal
+
+pub returns-clause-turn : goal.returns-clause-turn
+returns-clause-turn c =
+    let s = c.self.inside in
+    rw (← c.self.view_is) (in_turn s.by (arc_value s.list) c.self.invariant)
