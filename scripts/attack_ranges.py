@@ -4,8 +4,8 @@ import struct
 from attack_parts import *  # noqa: F403
 
 
-def pairs(count):
-    return b"".join(offset_pair(4 * k, 4 * k + 1) for k in range(count))
+def pairs(count, first=0):
+    return b"".join(offset_pair(first + 4 * k, first + 4 * k + 1) for k in range(count))
 
 
 def with_list(shapes, functions, lists):
@@ -263,6 +263,17 @@ def tails_of_a_range_list_with_bases(n):
 
 
 @shape
+def tails_of_a_range_list_of_some_bases_the_shortest_first(n):
+    # a base before every twentieth range
+    lists = []
+    for k in range(n):
+        if k % 20 == 0:
+            lists.append(based(BASE + 4 * k))
+        lists.append(offset_pair(4 * (k % 20), 4 * (k % 20) + 1))
+    return functions_of_tails(b"".join(lists), reversed(begins_of(lists)))
+
+
+@shape
 def tails_of_a_range_list_behind_bases(n):
     # a list is read behind each of two bases in turn, from one entry earlier each time
     bases, lists = [based(BASE + k) for k in range(n)], pairs_of_a_size(n)
@@ -306,6 +317,29 @@ def one_list_of_offsets_of_functions_each_behind_its_base(n):
     # the offsets are added to another base for each function, so all their ranges differ
     bases, begins = ranges_that_end_with_bases(alike(n))
     return functions_of_tails(bases + pairs(4 * n), begins)
+
+
+@shape
+def one_list_of_offsets_of_functions_each_behind_its_base_the_shortest_first(n):
+    bases, begins = ranges_that_end_with_bases(alike(n))
+    return functions_of_tails(bases + pairs(4 * n), reversed(begins))
+
+
+@shape
+def one_list_of_offsets_of_functions_each_behind_a_range_and_its_base(n):
+    # the ranges with addresses before the offsets share none
+    bases, begins = ranges_that_end_with_bases(apart(n))
+    return functions_of_tails(bases + pairs(4 * n), begins)
+
+
+@shape
+def one_list_of_offsets_of_functions_of_two_units_each_behind_its_base(n):
+    shapes = {ROOT: root(), FUNCTION: subprogram(RANGES)}
+    bases, begins = ranges_that_end_with_bases(alike(n))
+    data, first = range_lists(bases + pairs(4 * n) + b"\0")
+    functions = b"".join(entry(shapes, FUNCTION, first + begin) for begin in begins)
+    units = unit(entry(shapes, ROOT, BASE, 0x10000) + functions + b"\0") * 2
+    return Attack(dwarf(shapes, units, rnglists=data), [BASE + 1])
 
 
 @shape
@@ -399,7 +433,7 @@ def asked_units(n, below, lists, based=False):
 
 @shape
 def one_range_list_of_a_function_of_each_unit_without_a_base(n):
-    return asked_units(n, lambda shapes, first, begin, k: entry(shapes, FUNCTION, first), pairs(n))
+    return asked_units(n, lambda shapes, first, begin, k: entry(shapes, FUNCTION, first), pairs(n, BASE))
 
 
 def one_call(shapes, first, begin, k):
@@ -408,7 +442,7 @@ def one_call(shapes, first, begin, k):
 
 @shape
 def one_range_list_of_a_call_of_each_unit_without_a_base(n):
-    return asked_units(n, one_call, pairs(n))
+    return asked_units(n, one_call, pairs(n, BASE))
 
 
 @shape
@@ -433,12 +467,12 @@ def tails_of_a_range_list_of_a_function_of_each_unit_without_a_base(n):
 
 @shape
 def two_range_lists_of_functions_of_each_unit_without_a_base(n):
-    one = pairs(n) + b"\0"
+    one = pairs(n, BASE) + b"\0"
 
     def below(shapes, first, begin, k):
         return entry(shapes, FUNCTION, first) + entry(shapes, FUNCTION, first + len(one))
 
-    return asked_units(n, below, one + pairs(n))
+    return asked_units(n, below, one + pairs(n, BASE))
 
 
 @shape
@@ -446,7 +480,15 @@ def one_range_list_beside_a_range_of_each_unit_without_a_base(n):
     def below(shapes, first, begin, k):
         return entry(shapes, OUTER, begin, 1) + b"\0" + entry(shapes, FUNCTION, first)
 
-    return asked_units(n, below, pairs(n))
+    return asked_units(n, below, pairs(n, BASE))
+
+
+@shape
+def one_range_list_beside_a_range_of_each_unit_without_a_base_all_apart(n):
+    def below(shapes, first, begin, k):
+        return entry(shapes, OUTER, begin, 1) + b"\0" + entry(shapes, FUNCTION, first)
+
+    return asked_units(n, below, based(1 << 32) + pairs(n))
 
 
 @shape
