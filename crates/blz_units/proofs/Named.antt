@@ -1,17 +1,19 @@
--- The sets that name the start of a unit stand together where the sets rise.
-use Rattle.std.proofs.Common.{◌≡◌, ℕ, zero, suc, ◌+◌, ◌-◌, ◌≤◌, ◌<◌, Bool, true, false, ltb, leb, List, [], ◌∷◌, ◌++◌, length, get_or, take, drop, Some, refl, sym, ap, ◌∙◌, append_assoc, drop-cons, arith, inl, inr}
+-- The sets that name the start of a unit stand together where the sets rise, and a stable sort keeps their order.
+use Rattle.std.proofs.Common.{◌≡◌, ℕ, zero, suc, ◌+◌, ◌-◌, ◌≤◌, ◌<◌, Bool, true, false, ltb, leb, List, [], ◌∷◌, ◌++◌, length, get_or, take, drop, filter, nat_cmp, is_lt, Some, refl, sym, ap, ◌∙◌, append_assoc, drop-cons, arith, inl, inr}
 use Rattle.std.specs.List.{slice_get}
-use Rattle.std.specs.List.Sorted.{IsPartitionPoint}
+use Rattle.std.specs.List.Sorted.{ties, IsPartitionPoint, IsSortedByKey, IsStableByKey}
 use Rattle.std.specs.Prelude.{if◌then◌else◌}
 use Rattle.std.proofs.lemmas.Bool.{cases_Bool, ltb-true, ltb-false, leb-false, ne_eqb}
+use Rattle.std.proofs.lemmas.Bool.Decides.{nat_tests}
 use Rattle.std.proofs.Math.ListN.{drop_of_length-le}
 use Rattle.std.proofs.lemmas.List.{append-nil}
+use Rattle.std.proofs.lemmas.List.Sorted.{IsNonDecreasingBy-from_sort}
 use Rattle.std.proofs.lemmas.Option.{get_or_from_slice_get, slice_get_within}
 use Rattle.blz_entry.specs.AddressSets.{pairs_of}
 use Rattle.blz_info.specs.Contents.{Contents}
 use Rattle.blz_entry.specs.declared.aranges.ArangeSet.{ArangeSet}
 use Rattle.blz_ranges.specs.declared.span.Span.{Span}
-use Rattle.blz_units.specs.Sets.{ranges_for, named, IsExtent}
+use Rattle.blz_units.specs.Sets.{ranges_for, named, IsByUnit, IsExtent}
 
 no_ranges : (s : Contents) (start : ℕ) (set : ArangeSet) → (set.unit ≡ start → ⊥) → ranges_for s start set ≡ []
 no_ranges s start set other = let f = ne_eqb set.unit start other in ap (λ (b : Bool). if b then pairs_of s set else []) f
@@ -108,10 +110,33 @@ extent_made start sets from to from_in to_in below up_to = record {
       omega arith;
 }
 
-pub whole_extent : (start : ℕ) (sets : List ArangeSet) → IsExtent start sets 0 (length sets)
-whole_extent start sets = record {
-  ordered = omega arith;
-  within = omega arith;
-  before = λ i set lt is same. absurd (omega arith);
-  behind = λ i set le is same. let in_list = slice_get_within sets i set is in omega arith;
+-- ---- a stable sort by the unit
+
+abbrev unit_of : ArangeSet → ℕ
+unit_of set = set.unit
+
+abbrev unit_tie : ArangeSet → ArangeSet → Bool
+unit_tie = ties (λ (x y : ArangeSet). is_lt (nat_cmp x.unit y.unit))
+
+equal_units_tie : (m n : ℕ) → m ≡ n → ties (λ x y. is_lt (nat_cmp x y)) m n ≡ true
+equal_units_tie m n e = grind (arith, nat_tests)
+
+-- the sets that tie with one of a unit are all that name the unit
+named_among_ties : (s : Contents) (x : ArangeSet) (sets : List ArangeSet) → named s x.unit (filter (unit_tie x) sets) ≡ named s x.unit sets
+unfolding named
+named_among_ties s x [] = refl
+named_among_ties s x (set ∷ rest) = elim (cases_Bool (unit_tie x set)) [
+  | inl t ↦ rw t (ap (λ (l : List Span). ranges_for s x.unit set ++ l) (named_among_ties s x rest))
+  | inr f ↦ rw f (named_among_ties s x rest ∙ ap (λ (l : List Span). l ++ named s x.unit rest) (sym (no_ranges s x.unit set (λ same. let t = equal_units_tie x.unit set.unit (sym same) in cc))))
+]
+
+named_after_sort : (s : Contents) (start : ℕ) (sets sorted : List ArangeSet) → IsStableByKey unit_of nat_cmp sets sorted → named s start sorted ≡ named s start sets
+named_after_sort s start sets sorted stable =
+    let x : ArangeSet = record { unit = start; at = 0; end = 0; address_size = 0 } in
+    sym (named_among_ties s x sorted) ∙ (ap (λ (l : List ArangeSet). named s start l) (stable x) ∙ named_among_ties s x sets)
+
+pub by_unit_from_sort : (sets sorted : List ArangeSet) → IsSortedByKey unit_of nat_cmp sorted → IsStableByKey unit_of nat_cmp sets sorted → IsByUnit sets sorted
+by_unit_from_sort sets sorted up stable = record {
+  rising = IsNonDecreasingBy-from_sort unit_of sorted up;
+  same = λ s start. named_after_sort s start sets sorted stable;
 }

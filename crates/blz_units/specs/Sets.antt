@@ -1,6 +1,7 @@
 -- The sets of address ranges of a file (DWARF 5 section 6.1.2).
 use Rattle.std.specs.Prelude.{◌≡◌, ℕ, zero, suc, ◌-◌, ◌<◌, ◌≤◌, List, [], ◌∷◌, ◌++◌, length, Option, Some, None, nat_lt, ◌==◌, if◌then◌else◌}
 use Rattle.std.specs.List.{slice_get}
+use Rattle.std.specs.List.Sorted.{IsNonDecreasingBy}
 use Rattle.blz_model.specs.Reads.{◌>>=◌}
 use Rattle.blz_entry.specs.AddressSets.{set_at, pairs_of}
 use Rattle.blz_info.specs.Contents.{Contents}
@@ -34,6 +35,11 @@ ranges_for s start set = if set.unit == start then pairs_of s set else []
 unfoldable pub named : Contents → ℕ → List ArangeSet → List Span
 named s start [] = []
 named s start (set ∷ rest) = ranges_for s start set ++ named s start rest
+
+-- The same sets by the units that they name: each unit finds what it finds in the order of the section.
+pub record IsByUnit (sets sorted : List ArangeSet) : Type 0 where
+  pub rising : IsNonDecreasingBy (λ (set : ArangeSet). set.unit) sorted
+  pub same : (s : Contents) (start : ℕ) → named s start sorted ≡ named s start sets
 
 -- No set before a place, and none from another place on, names the start of a unit.
 pub record IsExtent (start : ℕ) (sets : List ArangeSet) (from to : ℕ) : Type 0 where

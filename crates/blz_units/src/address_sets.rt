@@ -1,5 +1,5 @@
 //! The sets of address ranges of a file.
-ghost use Rattle.std.specs.Prelude.{◌≡◌, ◌<◌, ◌++◌, true, List, OnOk};
+ghost use Rattle.std.specs.Prelude.{◌≡◌, ◌<◌, ◌++◌, List, OnOk, IfOk, option_map, unwrap_or};
 ghost use Rattle.std.specs.Bool.{OnTrue};
 ghost use Rattle.std.specs.List.Sorted.{IsNonDecreasingBy};
 ghost use Rattle.blz_model.specs.Part.{Gives};
@@ -7,7 +7,7 @@ ghost use Rattle.blz_entry.specs.AddressSets.{pairs_of};
 ghost use Rattle.blz_info.specs.Contents.{section_view};
 ghost use Rattle.blz_info.specs.Marks.{or_invalid};
 ghost use Rattle.blz_entry.specs.declared.aranges.ArangeSet.{ArangeSet};
-ghost use Rattle.blz_units.specs.Sets.{sets_from, ranges_for, named, IsExtent};
+ghost use Rattle.blz_units.specs.Sets.{sets_from, ranges_for, named, IsByUnit, IsExtent};
 
 use blz_entry::{ArangeSet, Aranges, Section, Span};
 use blz_error::Result;
@@ -18,7 +18,8 @@ use std::marker::Model;
 #[derive(Drop)]
 pub struct AddressSets {
     sets: Vec<ArangeSet>,
-    rising: bool,
+    /// Where the sets do not rise: by the units that they name, those of one unit in the order of the section.
+    by_unit: Option<Vec<ArangeSet>>,
 }
 
 impl Model for AddressSets {
@@ -26,7 +27,7 @@ impl Model for AddressSets {
 
     ghost view = { λ s. s.sets.items };
 
-    ghost invariant = { λ s. s.rising ≡ true → IsNonDecreasingBy (λ (set : ArangeSet). set.unit) s.sets.items };
+    ghost invariant = { λ s. IsByUnit s.sets.items (unwrap_or (option_map (λ sorted. sorted.items) s.by_unit) s.sets.items) };
 }
 
 /// Whether the sets stand in the order of the units that they name, as compilers write them.
@@ -39,6 +40,22 @@ fn are_rising(sets: &[ArangeSet]) -> bool
         }
     }
     true
+}
+
+/// The sets by the units that they name, those of one unit in the order of the section, where they do not stand so.
+fn sorted_by_unit(
+    alloc: Global,
+    sets: &[ArangeSet],
+) -> std::result::Result<Option<Vec<ArangeSet>>, AllocError>
+    ensures { IfOk result (λ r. IsByUnit sets.now (unwrap_or (option_map (λ sorted. sorted.items) r) sets.now)) }
+{
+    if are_rising(sets) {
+        return Ok(None);
+    }
+    let mut sorted = Vec::new(alloc);
+    sorted.extend_from_slice(sets)?;
+    sorted.sort_by_key(|set| set.unit)?;
+    Ok(Some(sorted))
 }
 
 /// All sets of a section.
@@ -130,18 +147,18 @@ impl AddressSets {
         ensures { Gives (λ s. s) result (or_invalid (sets_from (section_view aranges.entry) 0)) }
     {
         let sets = sets_of(alloc, aranges)?;
-        let rising = are_rising(sets.as_slice());
-        Ok(AddressSets { sets, rising })
+        let by_unit = sorted_by_unit(alloc, sets.as_slice())?;
+        Ok(AddressSets { sets, by_unit })
     }
 
-    /// Where the sets that name the start of a unit stand: where the sets rise, by halving, and else anywhere.
-    fn extent(&self, start: u64) -> (usize, usize)
-        ensures { IsExtent start self.now result.0 result.1 }
+    /// The sets by the units that they name, those of one unit in the order of the section.
+    fn by_unit(&self) -> &[ArangeSet]
+        ensures { IsByUnit self.now result.now }
     {
-        if !self.rising {
-            return (0, self.sets.len());
+        match &self.by_unit {
+            Some(sorted) => sorted.as_slice(),
+            None => self.sets.as_slice(),
         }
-        extent_of(self.sets.as_slice(), start)
     }
 
     /// Appends the ranges of the sets that name the start of a unit, in the order of the section.
@@ -154,7 +171,8 @@ impl AddressSets {
         ensures { OnOk result (out.new.items ≡ out.old.items ++ named (section_view aranges.now) start self.now) }
     {
         let start = start as u64;
-        let extent = self.extent(start);
-        append_within(self.sets.as_slice(), extent, aranges, start, out)
+        let sets = self.by_unit();
+        let extent = extent_of(sets, start);
+        append_within(sets, extent, aranges, start, out)
     }
 }
