@@ -21,6 +21,11 @@ const ABBREV: &[u8] = b"\x01\x11\0\0\0\0";
 const ARANGES: &[u8] = b"\x1c\0\0\0\x02\0\0\0\0\0\x08\0\0\0\0\0\x10\0\0\0\0\0\0\0\x10\0\0\0\0\0\0\0\
       \x1c\0\0\0\x02\0\x0c\0\0\0\x08\0\0\0\0\0\x18\0\0\0\0\0\0\0\x18\0\0\0\0\0\0\0";
 
+// the same sets, that of the unit at 12 first
+const FALLING: &[u8] =
+    b"\x1c\0\0\0\x02\0\x0c\0\0\0\x08\0\0\0\0\0\x18\0\0\0\0\0\0\0\x18\0\0\0\0\0\0\0\
+      \x1c\0\0\0\x02\0\0\0\0\0\x08\0\0\0\0\0\x10\0\0\0\0\0\0\0\x10\0\0\0\0\0\0\0";
+
 const UNITS: Parts<'static> = Parts {
     info: INFO,
     abbrev: ABBREV,
@@ -36,6 +41,20 @@ fn a_unit_of_a_set_is_built_when_an_address_reaches_it(
     checks.gives(count_of_units(rt.alloc(), UNITS), 2);
     checks.gives(
         functions_at(rt.alloc(), UNITS, [0x10, 0x30, 0x28]),
+        [Ok(None), Ok(None), Err(ErrorKind::InvalidDwarf)],
+    );
+    checks.result()
+}
+
+#[test]
+fn units_are_found_by_sets_in_any_order(rt: HostRuntime) -> std::result::Result<(), Fail> {
+    let mut checks = Checks::new();
+    let falling = Parts {
+        aranges: FALLING,
+        ..UNITS
+    };
+    checks.gives(
+        functions_at(rt.alloc(), falling, [0x10, 0x30, 0x28]),
         [Ok(None), Ok(None), Err(ErrorKind::InvalidDwarf)],
     );
     checks.result()
