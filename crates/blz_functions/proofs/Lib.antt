@@ -25,7 +25,8 @@ pub mod IndexedTails
 pub mod Sharings
 pub mod PiecedTails
 pub mod MovedRanges
-pub mod OrderedTails
+pub mod OrderedLists
+pub mod PlainTails
 pub mod RankedSearch
 pub mod RankOrder
 pub mod SearchedRanges

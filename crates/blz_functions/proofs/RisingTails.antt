@@ -1,11 +1,12 @@
 -- Ranges that rise: how many of the last ones of a list do, and which of them covers an address.
-use Rattle.std.proofs.Common.{◌≡◌, ℕ, true, ◌+◌, ◌-◌, ◌^◌, ◌<◌, ◌≤◌, List, ◌++◌, Some, None, length, take, get_or, reverse, refl, arith, ap, subst, sym, ◌∙◌, inl, inr}
+use Rattle.std.proofs.Common.{◌≡◌, ℕ, true, ◌+◌, ◌-◌, ◌^◌, ◌<◌, ◌≤◌, List, [], ◌∷◌, ◌++◌, Some, None, length, take, drop, get_or, reverse, refl, arith, ap, subst, sym, ◌∙◌, inl, inr}
 use Rattle.std.specs.List.{slice_get}
 use Rattle.std.proofs.lemmas.Bool.{and_from, and_parts, cases_lt, leb-true, le-leb, ltb-true, lt-ltb}
 use Rattle.std.proofs.lemmas.List.{get_or-reverse, get_or-take, get_or_append_left, length-append, length-reverse, length-take-le}
 use Rattle.std.proofs.lemmas.Option.{get_or_from_slice_get, slice_get-get_or, slice_get_within}
 use Rattle.blz_ranges.proofs.BestOf.{best_is}
 use Rattle.blz_ranges.proofs.Halving.{looked}
+use Rattle.blz_ranges.proofs.ListEnds.{last_or}
 use Rattle.blz_ranges.specs.Best.{best, covers}
 use Rattle.blz_ranges.specs.Search.{Halved}
 use Rattle.blz_ranges.specs.declared.span.Span.{Span}
@@ -13,6 +14,7 @@ use Rattle.blz_functions.specs.KeptList.{AreFewLooks}
 use Rattle.blz_functions.specs.Rising.{DoLastRise, DoRise}
 use Rattle.blz_functions.specs.SharedList.{last_of}
 use Rattle.blz_functions.specs.declared.rising.Rising.{Rising}
+use Rattle.blz_functions.proofs.IndexedTails.{get_dropped}
 
 same_span : (spans : List Span) (i j : ℕ) (s t : Span) → i ≡ j → slice_get spans i ≡ Some s → slice_get spans j ≡ Some t → s ≡ t
 same_span spans i j s t e h k = cc
@@ -66,6 +68,45 @@ last_rise turned rising count h le =
           let at_t = stands_at turned count q t within is_t in
           h.ordered (count - 1 - q) (count - 1 - p) t s (omega (arith, at_s.within, at_t.within)) (omega (arith, at_s.within)) at_t.there at_s.there;
     }
+
+-- ---- all of them
+
+pub none_rise : DoRise []
+none_rise = record {
+  nonempty = λ p s is. absurd cc;
+  ordered = λ p q s t lt is_s is_t. absurd cc;
+}
+
+-- one more behind them
+pub rise_more : (spans : List Span) (s : Span) (end : ℕ) → DoRise spans → end ≤ s.begin
+    → s.begin < s.end → ((i : ℕ) (t : Span) → slice_get spans i ≡ Some t → t.end ≤ end)
+    → DoRise (spans ++ s ∷ [])
+rise_more spans s end h from some ends = record {
+  nonempty = λ p t is. elim (last_or spans s p t is) [
+    | inl x ↦ h.nonempty p t x
+    | inr x ↦ subst (λ (z : Span). z.begin < z.end) x.1 some
+  ];
+  ordered = λ p q t v lt is_t is_v. elim (last_or spans s p t is_t) [
+    | inl x ↦ elim (last_or spans s q v is_v) [
+      | inl y ↦ h.ordered p q t v lt x y
+      | inr y ↦ let le = ends p t x in subst (λ (z : Span). t.end ≤ z.begin) y.1 (omega arith)
+    ]
+    | inr x ↦ absurd (elim (last_or spans s q v is_v) [
+      | inl y ↦ let within = slice_get_within spans q v y in omega (arith, x.0)
+      | inr y ↦ omega (arith, x.0, y.0)
+    ])
+  ];
+}
+
+-- the last ones
+pub dropped_rise : (skip : ℕ) (spans : List Span) → DoRise spans → DoRise (drop skip spans)
+dropped_rise skip spans h = record {
+  nonempty = λ p s is. h.nonempty (skip + p) s (sym (get_dropped spans skip p) ∙ is);
+  ordered = λ p q s t lt is_s is_t.
+      let get_s = sym (get_dropped spans skip p) ∙ is_s in
+      let get_t = sym (get_dropped spans skip q) ∙ is_t in
+      h.ordered (skip + p) (skip + q) s t (omega arith) get_s get_t;
+}
 
 -- ---- which of them covers an address
 

@@ -26,6 +26,7 @@ pub mod SharedTail
 pub mod SharedList
 pub mod MovedTail
 pub mod OrderedTail
+pub mod Turns
 pub mod RankedRanges
 pub mod UnitLayer
 pub mod OneList

@@ -1,5 +1,5 @@
 -- The ranges of a list that share no address, in their order.
-use Rattle.std.specs.Prelude.{◌≡◌, ℕ, ◌<◌, ◌≤◌, List, length, Some}
+use Rattle.std.specs.Prelude.{◌≡◌, ℕ, ◌+◌, ◌<◌, ◌≤◌, List, [], ◌∷◌, length, Some}
 use Rattle.std.specs.List.{slice_get}
 use Rattle.blz_entry.specs.RangeTails.{moved}
 use Rattle.blz_ranges.specs.Groups.{AreApart}
@@ -16,6 +16,11 @@ pub record OrderedRanges : Type 0 where
 
 abbrev pub moved_placed : ℕ → Placed → Placed
 moved_placed by p = record { place = p.place; span = moved by p.span }
+
+-- the ranges of a list as they stand there, of which the place of the first is given
+unfoldable pub placed_from : ℕ → List Span → List Placed
+placed_from at [] = []
+placed_from at (s ∷ rest) = record { place = at; span = s } ∷ placed_from (at + 1) rest
 
 -- They are not empty, and each ends where or before those behind it begin.
 pub record AreInTurn (spans : List Span) (order : List Placed) : Type 0 where

@@ -6,6 +6,7 @@ ghost use Rattle.blz_ranges.specs.Best.{best};
 ghost use Rattle.blz_ranges.specs.declared.span.Span.{Span};
 ghost use Rattle.blz_functions.specs.IndexedTail.{IsNear, IsTail};
 ghost use Rattle.blz_functions.specs.KeptList.{AreFewLooks};
+ghost use Rattle.blz_functions.specs.Rising.{DoRise};
 
 use crate::kept_list::KeptList;
 use blz_bytes::Steps;
@@ -89,6 +90,13 @@ impl IndexedTail {
             return None;
         }
         Some(list)
+    }
+
+    /// Whether all ranges of the list are known to rise: so do the last ones.
+    pub(crate) fn do_rise(&self) -> bool
+        ensures { result ≡ true → DoRise self.now }
+    {
+        self.list.deref().do_rise()
     }
 
     /// The place of the best range that covers an address.

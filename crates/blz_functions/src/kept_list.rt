@@ -5,7 +5,9 @@ ghost use Rattle.blz_ranges.specs.Best.{best};
 ghost use Rattle.blz_ranges.specs.Groups.{AreApart};
 ghost use Rattle.blz_ranges.specs.Rising.{AreRising};
 ghost use Rattle.blz_functions.specs.KeptList.{AreFewLooks};
+ghost use Rattle.blz_functions.specs.Rising.{DoRise};
 
+use crate::rising::do_rise;
 use blz_bytes::{ByStdSort, Steps};
 use blz_ranges::{Placed, RangeIndex, Span};
 use std::alloc::{AllocError, Global};
@@ -19,6 +21,8 @@ pub struct KeptList {
     len: usize,
     /// Whether the order showed that no two ranges share an address.
     apart: bool,
+    /// Whether they rise as the list tells them.
+    rises: bool,
 }
 
 impl Model for KeptList {
@@ -28,7 +32,7 @@ impl Model for KeptList {
 
     ghost view = { λ l. record { spans = l.index.spans; apart = l.apart; order = l.index.order } };
 
-    ghost invariant = { λ l. IsKept l.index l.len l.apart };
+    ghost invariant = { λ l. IsKept l.index l.len l.apart l.rises };
 }
 
 impl KeptList {
@@ -37,12 +41,18 @@ impl KeptList {
         ensures { IfOk result (λ o. IfSome o (λ l. l.spans ≡ spans.items)) }
     {
         let len = spans.len();
+        let rises = do_rise(spans.as_slice());
         let index = RangeIndex::build(alloc, &mut ByStdSort, spans)?;
         if !index.is_ordered() {
             return Ok(None);
         }
         let apart = index.is_apart();
-        Ok(Some(KeptList { index, len, apart }))
+        Ok(Some(KeptList {
+            index,
+            len,
+            apart,
+            rises,
+        }))
     }
 
     /// How many ranges the list has.
@@ -67,6 +77,13 @@ impl KeptList {
         ensures rising { result ≡ true → AreRising self.now.spans self.now.order }
     {
         self.apart
+    }
+
+    /// Whether the ranges rise as the list tells them: then their order is that of the list.
+    pub(crate) fn do_rise(&self) -> bool
+        ensures { result ≡ true → DoRise self.now.spans }
+    {
+        self.rises
     }
 
     /// The place of the best range that covers an address.

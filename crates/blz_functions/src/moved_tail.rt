@@ -1,5 +1,5 @@
 //! The ranges of a list that counts from a base, found in an index where they count from 0.
-ghost use Rattle.std.specs.Prelude.{◌≡◌, ◌+◌, ◌*◌, ◌^◌, ◌-◌, ◌<◌, ◌≤◌, is_some, length, map, option_map, IfSome};
+ghost use Rattle.std.specs.Prelude.{◌≡◌, ◌+◌, ◌*◌, ◌^◌, ◌-◌, ◌<◌, ◌≤◌, is_some, length, map, option_map, true, IfSome};
 ghost use Rattle.std.specs.List.{slice_get};
 ghost use Rattle.blz_entry.specs.RangeTails.{moved};
 ghost use Rattle.blz_ranges.specs.Best.{best};
@@ -7,6 +7,7 @@ ghost use Rattle.blz_ranges.specs.Groups.{AreApart};
 ghost use Rattle.blz_functions.specs.Found.{begin_in};
 ghost use Rattle.blz_functions.specs.KeptList.{AreFewLooks};
 ghost use Rattle.blz_functions.specs.MovedTail.{CanBeMoved};
+ghost use Rattle.blz_functions.specs.Rising.{DoRise};
 
 use crate::ordered_tail::OrderedTail;
 use crate::shared_tail::SharedTail;
@@ -43,13 +44,24 @@ impl MovedTail {
         MovedTail { tail, by }
     }
 
-    /// The same ranges in their order. None where they are found among others or in pieces, or may share an address.
+    /// Whether they are known to rise.
+    fn do_rise(&self) -> bool
+        ensures { result ≡ true → DoRise self.now }
+    {
+        self.tail.do_rise()
+    }
+
+    /// The same ranges in their order. None where they may share an address, or are found among others or in pieces and
+    /// are not known to rise.
     pub(crate) fn in_order(self) -> Option<OrderedTail>
         ensures { IfSome result (λ t. t.spans ≡ self) }
     {
+        if self.do_rise() {
+            return Some(OrderedTail::plain(self));
+        }
         let MovedTail { tail, by } = self;
         match tail.whole() {
-            Some(list) => OrderedTail::new(list, by),
+            Some(list) => OrderedTail::listed(list, by),
             None => None,
         }
     }

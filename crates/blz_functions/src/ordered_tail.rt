@@ -1,52 +1,68 @@
-//! The ranges of a list that share no address, in their order.
+//! The last ranges of a list that share no address, in their order.
 ghost use Rattle.std.specs.Prelude.{◌≡◌, ◌+◌, ◌<◌, length, map, IfSome};
 ghost use Rattle.std.specs.Arc.{arc_value};
 ghost use Rattle.std.specs.List.{slice_get};
 ghost use Rattle.blz_entry.specs.RangeTails.{moved};
 ghost use Rattle.blz_functions.specs.MovedTail.{CanBeMoved};
 ghost use Rattle.blz_functions.specs.OrderedTail.{AreInTurn};
+ghost use Rattle.blz_functions.specs.Rising.{DoRise};
 
 use crate::kept_list::KeptList;
+use crate::moved_tail::MovedTail;
+use crate::ordered_list::OrderedList;
+use crate::plain_tail::PlainTail;
 use blz_bytes::Steps;
-use blz_ranges::{Placed, Span};
+use blz_ranges::Placed;
 use std::marker::Model;
-use std::ops::Deref;
 use std::sync::Arc;
 use std::sync::ledger::Ledger;
 
-/// The ranges of a list, each so much greater than there, that are not empty and share no address.
+/// What their order is.
+#[derive(Drop)]
+pub(crate) enum Turn {
+    /// That of an index of the whole list.
+    Listed(OrderedList),
+    /// That of the list.
+    Plain(PlainTail),
+}
+
+/// The last ranges of a list, or all of them, that are not empty and share no address.
 #[derive(Drop)]
 pub struct OrderedTail {
-    list: Arc<KeptList>,
-    by: u64,
+    turn: Turn,
 }
 
 impl Model for OrderedTail {
-    ghost use Rattle.std.specs.Prelude.{map};
-    ghost use Rattle.std.specs.Arc.{arc_value};
-    ghost use Rattle.blz_entry.specs.RangeTails.{moved};
-    ghost use Rattle.blz_functions.specs.OrderedTail.{moved_placed, IsMovedList, OrderedRanges};
+    ghost use Rattle.blz_functions.specs.OrderedTail.{OrderedRanges};
+    ghost use Rattle.blz_functions.specs.Turns.{ranges_in_turn};
 
     ghost Value = { OrderedRanges };
 
-    ghost view = { λ t. record {
-      spans = map (moved t.by) (arc_value t.list).spans;
-      order = map (moved_placed t.by) (arc_value t.list).order;
-    } };
-
-    ghost invariant = { λ t. IsMovedList t.by (arc_value t.list) };
+    ghost view = { λ t. ranges_in_turn t.turn };
 }
 
 impl OrderedTail {
-    /// None where a range may be empty, or two may share an address.
-    pub(crate) fn new(list: Arc<KeptList>, by: u64) -> Option<OrderedTail>
+    /// All ranges of a list. None where one may be empty, or two may share an address.
+    pub(crate) fn listed(list: Arc<KeptList>, by: u64) -> Option<OrderedTail>
         requires { 0 < by → CanBeMoved by (arc_value list).spans }
         ensures { IfSome result (λ t. t.spans ≡ map (moved by) (arc_value list).spans) }
     {
-        if !list.deref().is_apart() {
-            return None;
+        match OrderedList::new(list, by) {
+            Some(list) => Some(OrderedTail {
+                turn: Turn::Listed(list),
+            }),
+            None => None,
         }
-        Some(OrderedTail { list, by })
+    }
+
+    /// Ranges that rise.
+    pub(crate) fn plain(tail: MovedTail) -> OrderedTail
+        requires { DoRise tail }
+        ensures { result.spans ≡ tail }
+    {
+        OrderedTail {
+            turn: Turn::Plain(PlainTail::new(tail)),
+        }
     }
 
     /// How many ranges there are.
@@ -54,7 +70,10 @@ impl OrderedTail {
         ensures len { result ≡ length self.now.spans }
         ensures turn { AreInTurn self.now.spans self.now.order }
     {
-        self.list.deref().len()
+        match &self.turn {
+            Turn::Listed(list) => list.len(),
+            Turn::Plain(tail) => tail.len(),
+        }
     }
 
     /// The range at a place of the order by rising begins, with its place in the list, for one look.
@@ -62,14 +81,9 @@ impl OrderedTail {
         ensures range { result ≡ slice_get self.now.order at }
         ensures cost { steps.new ≡ steps.old + 1 }
     {
-        let range = self.list.deref().ordered(at, steps)?;
-        let place = range.place;
-        if self.by == 0 {
-            return Some(range);
+        match &self.turn {
+            Turn::Listed(list) => list.ordered(at, steps),
+            Turn::Plain(tail) => tail.ordered(at, steps),
         }
-        let begin = self.by + range.span.begin;
-        let end = self.by + range.span.end;
-        let span = Span { begin, end };
-        Some(Placed { place, span })
     }
 }

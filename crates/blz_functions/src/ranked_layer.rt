@@ -13,8 +13,8 @@ use crate::ranked_ranges::RankedRanges;
 use blz_entry::RangeTail;
 use std::alloc::{AllocError, Global};
 
-/// The ranges of pieces, of which one names a list that is kept. None where two name a list, where the list has no index
-/// of its own, or where two ranges share an address.
+/// The ranges of pieces, of which one names a list that is kept. None where two name a list, where its ranges are found
+/// among others and are not known to rise, or where two ranges share an address.
 pub(crate) fn ranked_of(
     alloc: Global,
     unit: &OpenUnit<'_, '_>,

@@ -1,7 +1,7 @@
 //! How many of the last ranges of a list rise, where the list stands from the last range to the first.
-ghost use Rattle.std.specs.Prelude.{◌≡◌, List};
+ghost use Rattle.std.specs.Prelude.{◌≡◌, List, true};
 ghost use Rattle.blz_ranges.specs.declared.span.Span.{Span};
-ghost use Rattle.blz_functions.specs.Rising.{DoLastRise};
+ghost use Rattle.blz_functions.specs.Rising.{DoLastRise, DoRise};
 
 use blz_ranges::Span;
 
@@ -40,4 +40,18 @@ impl Rising {
         }
         self.count
     }
+}
+
+/// Whether the ranges of a list rise, none empty and each ending where or before those behind it begin.
+pub(crate) fn do_rise(spans: &[Span]) -> bool
+    ensures { result ≡ true → DoRise spans.now }
+{
+    let mut end = 0;
+    for span in spans {
+        if span.begin < end || span.end <= span.begin {
+            return false;
+        }
+        end = span.end;
+    }
+    true
 }

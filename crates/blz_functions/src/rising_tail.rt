@@ -1,9 +1,10 @@
 //! The ranges of a list from one of them on, which rise, found in pieces that stand one after the other.
-ghost use Rattle.std.specs.Prelude.{◌≡◌, ◌+◌, ◌-◌, ◌≤◌, length};
+ghost use Rattle.std.specs.Prelude.{◌≡◌, ◌+◌, ◌-◌, ◌≤◌, length, true};
 ghost use Rattle.std.specs.List.{slice_get};
 ghost use Rattle.blz_ranges.specs.Best.{best};
 ghost use Rattle.blz_functions.specs.KeptList.{AreFewLooks};
 ghost use Rattle.blz_functions.specs.PiecedTail.{pieced};
+ghost use Rattle.blz_functions.specs.Rising.{DoRise};
 ghost use Rattle.blz_functions.specs.RisingTail.{IsRisingTail};
 
 use crate::joined_lists::span_of;
@@ -49,6 +50,13 @@ impl RisingTail {
         ensures { result ≡ length self.now }
     {
         self.len
+    }
+
+    /// Whether they are known to rise: they always are, as there is one.
+    pub(crate) fn do_rise(&self) -> bool
+        ensures { result ≡ true → DoRise self.now }
+    {
+        self.len > 0
     }
 
     /// The place of the best range that covers an address: the only one.

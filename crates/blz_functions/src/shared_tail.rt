@@ -1,9 +1,10 @@
 //! The ranges of a list from one of them on, found in indexes that other lists share which end alike.
-ghost use Rattle.std.specs.Prelude.{◌≡◌, ◌+◌, ◌-◌, ◌≤◌, drop, length, IfSome};
+ghost use Rattle.std.specs.Prelude.{◌≡◌, ◌+◌, ◌-◌, ◌≤◌, drop, length, true, IfSome};
 ghost use Rattle.std.specs.Arc.{arc_value};
 ghost use Rattle.std.specs.List.{slice_get};
 ghost use Rattle.blz_ranges.specs.Best.{best};
 ghost use Rattle.blz_functions.specs.KeptList.{AreFewLooks};
+ghost use Rattle.blz_functions.specs.Rising.{DoRise};
 
 use crate::indexed_tail::IndexedTail;
 use crate::kept_list::KeptList;
@@ -81,6 +82,17 @@ impl SharedTail {
         match form {
             Form::Indexed(tail) => tail.whole(),
             Form::Pieced(_) | Form::Rising(_) => None,
+        }
+    }
+
+    /// Whether they are known to rise.
+    pub(crate) fn do_rise(&self) -> bool
+        ensures { result ≡ true → DoRise self.now }
+    {
+        match &self.form {
+            Form::Indexed(tail) => tail.do_rise(),
+            Form::Pieced(_) => false,
+            Form::Rising(tail) => tail.do_rise(),
         }
     }
 

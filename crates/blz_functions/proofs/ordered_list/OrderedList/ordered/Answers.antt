@@ -3,8 +3,8 @@ use Rattle.std.specs.Arc.{arc_value}
 use Rattle.std.specs.List.{slice_get}
 use Rattle.blz_functions.specs.KeptList.{KeptList}
 use Rattle.blz_functions.specs.OrderedTail.{moved_placed}
-use Rattle.blz_functions.proofs.OrderedTails.{get_image, placed_stays}
-use Rattle.blz_functions.proofs.ordered_tail.OrderedTail.ordered.Goals as goal
+use Rattle.blz_functions.proofs.OrderedLists.{get_image, placed_stays}
+use Rattle.blz_functions.proofs.ordered_list.OrderedList.ordered.Goals as goal
 
 pub overflow_add-begin : goal.overflow_add-begin
 overflow_add-begin g c =

@@ -1,6 +1,6 @@
 use Rattle.std.specs.Arc.{arc_value}
-use Rattle.blz_functions.proofs.OrderedTails.{in_turn}
-use Rattle.blz_functions.proofs.ordered_tail.OrderedTail.len.Goals as goal
+use Rattle.blz_functions.proofs.OrderedLists.{in_turn}
+use Rattle.blz_functions.proofs.ordered_list.OrderedList.len.Goals as goal
 
 pub returns-clause-turn : goal.returns-clause-turn
 returns-clause-turn c =
