@@ -20,7 +20,7 @@ module _ (spans : List Span) (owners : List ℕ) (owner : ℕ) (listed : List Sp
   pub items_searched : items_of (all_ranges spans owners owner listed) ≡ spans ++ listed
   items_searched = items_both (owned spans owners) (own_all owner listed) ∙ (λ i. items_owned spans owners fits i ++ items_all owner listed i)
 
-  length_searched : length (all_ranges spans owners owner listed) ≡ length (spans ++ listed)
+  pub length_searched : length (all_ranges spans owners owner listed) ≡ length (spans ++ listed)
   length_searched =
       let a = length-append (owned spans owners) (own_all owner listed) in
       let b = length-append spans listed in

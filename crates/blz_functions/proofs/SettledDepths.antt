@@ -21,7 +21,7 @@ use Rattle.blz_functions.specs.SharedDepths.{call_of, CountsUpTo}
 use Rattle.blz_functions.specs.declared.pieces.Named.TheVariants.{Range}
 use Rattle.blz_functions.specs.declared.pieces.Piece.{Piece}
 use Rattle.blz_functions.specs.declared.shared_depth.SharedDepth.{SharedDepth}
-use Rattle.blz_functions.specs.declared.shared_depth.SharedDepth.TheVariants.{One, Two, Merged}
+use Rattle.blz_functions.specs.declared.shared_depth.SharedDepth.TheVariants.{One, Two, Ranked, Merged}
 use Rattle.blz_functions.proofs.DepthRanges.{depth_appended}
 use Rattle.blz_functions.proofs.FoundCalls.{call_of_depth, same_at_depth}
 use Rattle.blz_functions.proofs.GatheredPieces.{take_next}
@@ -156,6 +156,7 @@ counts_more : (count more : ℕ) (o : Option SharedDepth) → count ≤ more →
 counts_more count more None le h = tt
 counts_more count more (Some (One layer)) le h = tt
 counts_more count more (Some (Two layers)) le h = omega arith
+counts_more count more (Some (Ranked ranges)) le h = omega arith
 counts_more count more (Some (Merged ranges)) le h = omega arith
 
 pub settled_to_end : (u : UnitParts) (own pieces : List (Vec Piece Global)) (r : SearchedRanges) (all : List (Owned Grouped)) (count k : ℕ) → length pieces ≤ k → count ≤ length all → AreSettledTo u own pieces r all count k → AnswerAsAll r all

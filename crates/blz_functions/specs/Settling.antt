@@ -63,6 +63,12 @@ pub record AreLayersAs (u : UnitParts) (pieces : List Piece) (count : ℕ) (l : 
   pub calls : (addr : ℕ) → best_owner (told u pieces) addr ≡ call_in_layers l addr
   pub counts : l.count ≤ count
 
+-- Ranges have the same best ones as those of some pieces, and are no more than so many.
+pub record AreRankedAs (u : UnitParts) (pieces : List Piece) (count : ℕ)
+    (ranges : List (Owned Span)) : Type 0 where
+  pub answers : AnswersAs ranges (told u pieces)
+  pub counts : length ranges ≤ count
+
 -- Ranges in one order are those of some pieces, and no more than so many.
 pub record AreMergedAs (u : UnitParts) (pieces : List Piece) (count : ℕ) (ranges : List (Owned Span)) : Type 0 where
   pub told : told u pieces ≡ ranges

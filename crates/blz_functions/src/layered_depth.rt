@@ -12,6 +12,7 @@ use crate::merged_depth::merged_of;
 use crate::open_unit::OpenUnit;
 use crate::parts::Parts;
 use crate::pieces::Piece;
+use crate::ranked_depth::ranked_within;
 use crate::shared_depth::SharedDepth;
 use blz_error::Result;
 use std::alloc::Global;
@@ -72,6 +73,9 @@ pub(crate) fn shared_of(
     }
     if let Some(layers) = layers_of(alloc, unit, kept, own, pieces, count)? {
         return Ok(Some(SharedDepth::Two(layers)));
+    }
+    if let Some(ranges) = ranked_within(alloc, unit, kept, own, pieces, count)? {
+        return Ok(Some(SharedDepth::Ranked(ranges)));
     }
     if !own.is_empty() {
         return Ok(None);

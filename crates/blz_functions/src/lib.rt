@@ -42,6 +42,7 @@ mod parts;
 mod pieced_tail;
 mod pieces;
 mod plain_tail;
+mod ranked_depth;
 mod ranked_layer;
 mod ranked_ranges;
 mod ranked_search;

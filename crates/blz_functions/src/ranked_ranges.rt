@@ -70,6 +70,13 @@ impl RankedRanges {
         }
     }
 
+    /// How many ranges there are.
+    pub(crate) fn len(&self) -> usize
+        ensures { result ≡ length self.now }
+    {
+        self.own.len() + self.tail.len()
+    }
+
     /// The place of the best range that covers an address.
     pub(crate) fn best_at<L: Ledger>(&self, addr: u64, steps: &mut Steps<L>) -> Option<usize>
         ensures best { result ≡ best (items_of self.now) addr }
@@ -94,6 +101,18 @@ impl RankedRanges {
         }
     }
 
+    /// The owner of the best range that covers an address.
+    pub(crate) fn call_of<L: Ledger>(&self, addr: u64, steps: &mut Steps<L>) -> Option<usize>
+        ensures call { result ≡ best_owner self.now addr }
+        ensures cost { 2 ^ (steps.new - steps.old) ≤ 4 * (2 * length self.now + 1) }
+        ensures later { steps.old ≤ steps.new }
+    {
+        match self.best_at(addr, steps) {
+            Some(place) => self.owner(place),
+            None => None,
+        }
+    }
+
     fn find_from<L: Ledger>(&self, addr: u64, blank: Blank) -> Option<usize>
         requires name { blank.name ≡ L.name }
         requires parts { blank.parts ≡ L.parts }
@@ -101,10 +120,7 @@ impl RankedRanges {
         ensures { result ≡ best_owner self.now addr }
     {
         let mut steps: Steps<L> = Steps::new(blank);
-        match self.best_at(addr, &mut steps) {
-            Some(place) => self.owner(place),
-            None => None,
-        }
+        self.call_of(addr, &mut steps)
     }
 
     /// The owner of the best range that covers an address, for a caller that counts no looks.

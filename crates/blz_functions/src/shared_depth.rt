@@ -7,6 +7,7 @@ ghost use Rattle.blz_ranges.specs.Owned.{items_of};
 use crate::layer::Layer;
 use crate::layers::Layers;
 use crate::merged_lists::MergedLists;
+use crate::ranked_ranges::RankedRanges;
 use blz_bytes::Steps;
 use std::sync::ledger::Ledger;
 
@@ -17,6 +18,8 @@ pub enum SharedDepth {
     One(Layer),
     /// Those of lists, beside others that are the depth's own.
     Two(Layers),
+    /// Those of a list, in one order with others that are the depth's own.
+    Ranked(RankedRanges),
     /// All of them, in several lists.
     Merged(MergedLists),
 }
@@ -32,6 +35,7 @@ impl SharedDepth {
         match self {
             SharedDepth::One(layer) => layer.call_of(addr, steps),
             SharedDepth::Two(layers) => layers.call_of(addr, steps),
+            SharedDepth::Ranked(ranges) => ranges.call_of(addr, steps),
             SharedDepth::Merged(lists) => lists.call_of(addr, steps),
         }
     }
