@@ -25,6 +25,7 @@ pub mod IndexedTails
 pub mod Sharings
 pub mod PiecedTails
 pub mod MovedRanges
+pub mod NamedParts
 pub mod OrderedLists
 pub mod PlainTails
 pub mod RankedSearch

@@ -4,7 +4,7 @@ use Rattle.std.specs.Prelude.{Ok, is_some}
 use Rattle.std.specs.declared.alloc.Global.{Global}
 use Rattle.std.specs.declared.vec.Vec.{Vec}
 use Rattle.std.proofs.lemmas.Bool.{cases_Bool, cases_eq, eqb-true}
-use Rattle.std.proofs.lemmas.List.{append-nil, length-append, length-map}
+use Rattle.std.proofs.lemmas.List.{append-nil, length-append, length-map, map-append}
 use Rattle.blz_ranges.specs.declared.grouped.Grouped.{Grouped}
 use Rattle.blz_ranges.specs.declared.span.Span.{Span}
 use Rattle.blz_ranges.specs.Owned.{Owned, own_all}
@@ -79,6 +79,13 @@ module _ (u : UnitParts) (old new : DepthRanges) (all : List (Owned Grouped)) (a
   of_list list count named le adds =
       let p : Piece = record { call = at.call; named = Listed list.place list.base } in
       of_pieces named.spans (p ∷ []) (omega (arith, le, named.counted)) adds (append-nil (own_all at.call (or_none (spans_behind u list))) ∙ ap (λ (o : Option (List Span)). own_all at.call (or_none o)) named.is) (record { spans = named.spans; is = named.is }, tt)
+
+-- a list behind ranges of the same call
+pub of_parts : (u : UnitParts) (old new : DepthRanges) (all : List (Owned Grouped)) (at : DepthCall) (front : List Span) → AreOfCalls u (ranges_view old) (all ++ map (call_range at.depth at.call) front) → (list : RangeTail) (count : ℕ) (rest : HasCount (spans_behind u list) count) → new.count ≤ old.count + count → AddsPieces old new at.depth (record { call = at.call; named = Listed list.place list.base } ∷ []) → AreOfCalls u (ranges_view new) (all ++ map (call_range at.depth at.call) (front ++ rest.spans))
+of_parts u old new all at front h list count rest le adds =
+    let f = call_range at.depth at.call in
+    let both = append_assoc all (map f front) (map f rest.spans) ∙ ap (λ (l : List (Owned Grouped)). all ++ l) (sym (map-append f front rest.spans)) in
+    subst (AreOfCalls u (ranges_view new)) both (of_list u old new (all ++ map f front) at h list count rest le adds)
 
 -- a list of few entries
 pub record FewTold (o : Option (List Span)) (old new : List Span) : Type 0 where

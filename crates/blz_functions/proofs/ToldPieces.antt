@@ -14,6 +14,7 @@ use Rattle.blz_functions.specs.Pieces.{AreNamed, AreOwned, or_none, range_piece,
 use Rattle.blz_functions.specs.declared.pieces.Named.{Named}
 use Rattle.blz_functions.specs.declared.pieces.Named.TheVariants.{Listed}
 use Rattle.blz_functions.specs.declared.pieces.Piece.{Piece}
+use Rattle.blz_functions.proofs.BestOwned.{own_appended}
 
 -- ---- what pieces tell
 
@@ -33,6 +34,11 @@ pub told_list : (u : UnitParts) (p : Piece) (place base : ℕ) (spans : List Spa
 unfolding told
 told_list u p place base spans named is =
     append-nil (told_by u p) ∙ (ap (λ (n : Named). own_all p.call (or_none (spans_named u n))) named ∙ ap (λ (o : Option (List Span)). own_all p.call (or_none o)) is)
+
+-- ranges and a list of one call
+pub told_parts : (u : UnitParts) (call : ℕ) (front : List Span) (p : Piece) (rest : List Span) → told u (p ∷ []) ≡ own_all call rest → told u (ranges_of_call call front ++ p ∷ []) ≡ own_all call (front ++ rest)
+told_parts u call front p rest tells =
+    told_appended u (ranges_of_call call front) (p ∷ []) ∙ ((λ i. told_ranges u call front i ++ tells i) ∙ sym (own_appended call front rest))
 
 pub ranges_named : (u : UnitParts) (call : ℕ) (spans : List Span) → AreNamed u (ranges_of_call call spans)
 ranges_named u call [] = tt

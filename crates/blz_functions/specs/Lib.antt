@@ -25,6 +25,7 @@ pub mod RisingTail
 pub mod SharedTail
 pub mod SharedList
 pub mod MovedTail
+pub mod NamedParts
 pub mod OrderedTail
 pub mod Turns
 pub mod RankedRanges

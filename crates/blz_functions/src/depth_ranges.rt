@@ -166,8 +166,9 @@ impl DepthRanges {
             self.put(at, spans.as_slice())?;
             return Ok(());
         }
-        let count = kept.name(self.alloc, unit, offset)?;
-        self.put_list(at, unit.ranges_at(offset), count)?;
+        let parts = kept.name(self.alloc, unit, offset)?;
+        self.put(at, parts.front.as_slice())?;
+        self.put_list(at, parts.list, parts.count)?;
         Ok(())
     }
 }

@@ -2,7 +2,7 @@
 ghost use Rattle.std.specs.Prelude.{IfSome};
 ghost use Rattle.blz_functions.specs.KeptLists.{AreKeptLists, ExtendsNamed, GivesContent, IsKeptContent, IsNamedList, KeepsLists, MayGiveWhole, Names, TellsWithin};
 ghost use Rattle.blz_functions.specs.Leaves.{UnitParts};
-ghost use Rattle.blz_functions.specs.Opened.{open_view, CanBeOpened};
+ghost use Rattle.blz_functions.specs.Opened.{open_view};
 ghost use Rattle.blz_functions.specs.Pieces.{AreNamed, list_at};
 ghost use Rattle.blz_functions.specs.WholeLists.{IsWhole, MayGiveTail};
 
@@ -265,30 +265,24 @@ impl KeptLists {
         Ok(list.len())
     }
 
-    /// Notes that a list is named, and gives how many ranges it has. It is kept from the second time on that it is, or that
-    /// another one is which begins within it.
-    pub(crate) fn name(
+    /// How many ranges a list has, if it lies within one that was named.
+    pub(crate) fn find(
         &mut self,
         alloc: Global,
         unit: &OpenUnit<'_, '_>,
-        offset: u64,
-    ) -> Result<usize>
-        requires opened { CanBeOpened unit.now }
+        list: RangeTail,
+    ) -> std::result::Result<Option<usize>, AllocError>
         requires kept { AreKeptLists (open_view unit.now) self.old }
-        ensures value { Names (list_at (open_view unit.now) offset) result }
+        ensures value { TellsWithin (open_view unit.now) list result }
         ensures kept { AreKeptLists (open_view unit.now) self.new }
     {
-        self.foresee_due(alloc, unit)?;
-        let tail = first_telling(unit, unit.ranges_at(offset));
-        if let Some((start, _)) = self.around(offset) {
+        let tail = first_telling(unit, list);
+        if let Some((start, _)) = self.around(list.place as u64) {
             if let Some(count) = self.count_within(alloc, unit, start, tail)? {
-                return Ok(count);
+                return Ok(Some(count));
             }
         }
-        if let Some(count) = self.count_with_rest(alloc, unit, tail)? {
-            return Ok(count);
-        }
-        self.read(alloc, unit, offset)
+        self.count_with_rest(alloc, unit, tail)
     }
 
     /// The ranges of a list from an index of the named one around it. None where that was named once alone, or has no

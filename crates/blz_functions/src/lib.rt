@@ -33,6 +33,7 @@ mod merged_depth;
 mod merged_lists;
 mod merged_order;
 mod moved_tail;
+mod named_parts;
 mod noted_lists;
 mod one_list;
 mod open_unit;

@@ -102,14 +102,14 @@ impl ReadRanges {
             push_ranges(&mut self.pieces, function, spans.as_slice())?;
             return Ok(some);
         }
-        let count = kept.name(self.alloc, unit, offset)?;
-        let list = unit.ranges_at(offset);
-        let named = Named::Listed(list.place, list.base);
+        let parts = kept.name(self.alloc, unit, offset)?;
+        push_ranges(&mut self.pieces, function, parts.front.as_slice())?;
+        let named = Named::Listed(parts.list.place, parts.list.base);
         self.pieces.push(Piece {
             call: function,
             named,
         })?;
-        Ok(count > 0)
+        Ok(parts.has_range())
     }
 
     /// Adds the ranges that attributes of a function tell, and says whether there is one. InvalidDwarf exactly where they have

@@ -1,6 +1,5 @@
 use Rattle.std.proofs.Common.{◌≡◌, List, ◌++◌, sym, ap, subst, ◌∙◌}
 use Rattle.std.proofs.lemmas.Result.{err_from_is_err_and}
-use Rattle.blz_entry.specs.RangeTails.{list_tail}
 use Rattle.blz_info.proofs.Marked.{marks_on}
 use Rattle.blz_ranges.specs.declared.span.Span.{Span}
 use Rattle.blz_functions.specs.DepthRanges.{PutsRanges}
@@ -8,7 +7,7 @@ use Rattle.blz_functions.specs.Leaves.{ranges_in}
 use Rattle.blz_functions.specs.Opened.{open_view}
 use Rattle.blz_functions.specs.Pieces.{list_at}
 use Rattle.blz_functions.proofs.ListAdds.{appended_by}
-use Rattle.blz_functions.proofs.PiecedRanges.{few_told, of_list, of_one_more}
+use Rattle.blz_functions.proofs.PiecedRanges.{few_told, of_one_more, of_parts}
 use Rattle.blz_functions.proofs.ReadLists.{list_in}
 use Rattle.blz_functions.proofs.depth_ranges.DepthRanges.add.Goals as goal
 
@@ -42,19 +41,25 @@ returns-then-is_some-clause-value c = λ all h.
       fits = of_one_more u c.args.self.now c.put-then-is_some.new.self all c.args.at h few.spans (rw (← spans) c.in_ok-put-2.ensures.count) (subst (PutsRanges c.args.self.now c.put-then-is_some.new.self c.args.at) spans c.in_ok-put-2.ensures.put);
     }
 
-pub returns-in_err-count-clause-value : goal.returns-in_err-count-clause-value
-returns-in_err-count-clause-value c = λ all h.
+pub returns-in_err-parts-clause-value : goal.returns-in_err-parts-clause-value
+returns-in_err-parts-clause-value c = λ all h.
     let u = open_view c.args.unit.now in
-    let p = err_from_is_err_and c.from_residual-in_err-count.result c.from_residual-in_err-count.ensures.1 in
+    let p = err_from_is_err_and c.from_residual-in_err-parts.result c.from_residual-in_err-parts.ensures.1 in
     let same = list_in u c.args.attributes.now c.in-Some.offset c.in-Some.is in
-    rw (p.1, p.2) (marks_on _ (list_at u c.in-Some.offset) (ranges_in u c.args.attributes.now) c.in_err-count.ensures.value (λ none. same ∙ none))
+    rw (p.1, p.2) (marks_on _ (list_at u c.in-Some.offset) (ranges_in u c.args.attributes.now) c.in_err-parts.ensures.value (λ none. same ∙ none))
 
 pub returns-clause-value : goal.returns-clause-value
 returns-clause-value c = λ all h.
     let u = open_view c.args.unit.now in
-    let named = c.in_ok-count.ensures.value in
+    let at = c.args.at in
+    let named = c.in_ok-parts.ensures.value in
+    let parts = c.in_ok-parts.parts in
+    let front = parts.front.items in
+    let spans : c.as_slice-2.result.now ≡ front = c.as_slice-2.ensures.value in
+    let put = c.put-2.new.self in
+    let before = of_one_more u c.args.self.now put all at h front (rw (← spans) c.in_ok-put-3.ensures.count) (subst (PutsRanges c.args.self.now put at) spans c.in_ok-put-3.ensures.put) in
     record {
-      value = named.spans;
+      value = front ++ named.rest.spans;
       is = list_in u c.args.attributes.now c.in-Some.offset c.in-Some.is ∙ named.is;
-      fits = of_list u c.args.self.now c.put_list.new.self all c.args.at h (list_tail c.args.unit.now.root c.in-Some.offset) c.in_ok-count.count named c.in_ok-put_list.ensures.count (rw c.ranges_at.ensures at c.in_ok-put_list.ensures.pieces);
+      fits = of_parts u put c.put_list.new.self all at front before parts.list parts.count named.rest c.in_ok-put_list.ensures.count c.in_ok-put_list.ensures.pieces;
     }

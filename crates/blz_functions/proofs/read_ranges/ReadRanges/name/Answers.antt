@@ -1,5 +1,6 @@
-use Rattle.std.proofs.Common.{◌≡◌, ℕ, ◌++◌, ◌∷◌, [], List, Some, ap, refl, ◌∙◌}
+use Rattle.std.proofs.Common.{◌≡◌, ℕ, ◌+◌, ◌++◌, ◌∷◌, [], List, Some, append_assoc, length, ap, refl, ◌∙◌, arith}
 use Rattle.std.specs.Prelude.{nat_lt}
+use Rattle.std.proofs.lemmas.List.{length-append}
 use Rattle.std.proofs.lemmas.Result.{err_from_is_err_and}
 use Rattle.blz_info.proofs.Marked.{marks_on}
 use Rattle.blz_model.specs.Reads.{◌>>=◌}
@@ -13,7 +14,7 @@ use Rattle.blz_functions.specs.declared.pieces.Piece.{Piece}
 use Rattle.blz_functions.proofs.FunctionsRead.{stand_named}
 use Rattle.blz_functions.proofs.ListAdds.{appended_by}
 use Rattle.blz_functions.proofs.ReadLists.{list_in}
-use Rattle.blz_functions.proofs.ToldPieces.{ranges_named, told_list, told_ranges}
+use Rattle.blz_functions.proofs.ToldPieces.{named_appended, ranges_named, told_list, told_parts, told_ranges}
 use Rattle.blz_functions.proofs.read_ranges.ReadRanges.name.Goals as goal
 
 pub returns-in_default-clause-value : goal.returns-in_default-clause-value
@@ -51,22 +52,31 @@ returns-in-Some-2-clause-value c = λ lists all h from.
       fits = stand_named u c.args.self.now lists c.push_ranges-in-Some-2.new.pieces all n (ranges_of_call n a.spans) _ a.spans a.flag pieces (told_ranges u n a.spans) (ranges_named u n a.spans) h from;
     }
 
-pub returns-in_err-count-clause-value : goal.returns-in_err-count-clause-value
-returns-in_err-count-clause-value c = λ lists all h from.
+pub returns-in_err-parts-clause-value : goal.returns-in_err-parts-clause-value
+returns-in_err-parts-clause-value c = λ lists all h from.
     let u = open_view c.args.unit.now in
-    let p = err_from_is_err_and c.from_residual-in_err-count.result c.from_residual-in_err-count.ensures.1 in
+    let p = err_from_is_err_and c.from_residual-in_err-parts.result c.from_residual-in_err-parts.ensures.1 in
     let same = list_in u c.args.attributes.now c.in-Some.offset c.in-Some.is in
-    rw (p.1, p.2) (marks_on _ (list_at u c.in-Some.offset) (ranges_in u c.args.attributes.now) c.in_err-count.ensures.value (λ none. same ∙ none))
+    rw (p.1, p.2) (marks_on _ (list_at u c.in-Some.offset) (ranges_in u c.args.attributes.now) c.in_err-parts.ensures.value (λ none. same ∙ none))
 
 pub returns-clause-value : goal.returns-clause-value
 returns-clause-value c = λ lists all h from.
     let u = open_view c.args.unit.now in
     let n = c.args.function in
-    let named = c.in_ok-count.ensures.value in
-    let low = c.args.unit.now.root.low_pc in
-    let p : Piece = record { call = n; named = Listed c.in-Some.offset low } in
+    let old = c.args.self.now.pieces.items in
+    let named = c.in_ok-parts.ensures.value in
+    let parts = c.in_ok-parts.parts in
+    let front = parts.front.items in
+    let p : Piece = record { call = n; named = Listed parts.list.place parts.list.base } in
+    let spans : c.as_slice-2.result.now ≡ front = c.as_slice-2.ensures.value in
+    let ranges : c.push_ranges-2.new.pieces.items ≡ old ++ ranges_of_call n front = c.in_ok-push_ranges-3.ensures ∙ ap (λ (l : List Span). old ++ ranges_of_call n l) spans in
+    let pieces : c.push.new.self.items ≡ old ++ (ranges_of_call n front ++ p ∷ []) = c.in_ok-push.ensures.items ∙ (ap (λ (l : List Piece). l ++ p ∷ []) ranges ∙ append_assoc old (ranges_of_call n front) (p ∷ [])) in
+    let told = told_parts u n front p named.rest.spans (told_list u p parts.list.place parts.list.base named.rest.spans refl named.rest.is) in
+    let are = named_appended u (ranges_of_call n front) (p ∷ []) (ranges_named u n front) (record { spans = named.rest.spans; is = named.rest.is }, tt) in
+    let size : length front + parts.count ≡ length (front ++ named.rest.spans) = omega (arith, named.rest.counted, length-append front named.rest.spans) in
+    let flag = c.has_range.ensures ∙ ap (λ (k : ℕ). nat_lt 0 k) size in
     record {
-      value = named.spans;
+      value = front ++ named.rest.spans;
       is = list_in u c.args.attributes.now c.in-Some.offset c.in-Some.is ∙ named.is;
-      fits = stand_named u c.args.self.now lists c.push.new.self all n (p ∷ []) _ named.spans (ap (λ (k : ℕ). nat_lt 0 k) named.counted) (rw c.ranges_at-list.ensures at c.in_ok-push.ensures.items) (told_list u p c.in-Some.offset low named.spans refl named.is) (record { spans = named.spans; is = named.is }, tt) h from;
+      fits = stand_named u c.args.self.now lists c.push.new.self all n (ranges_of_call n front ++ p ∷ []) _ (front ++ named.rest.spans) flag pieces told are h from;
     }
