@@ -148,6 +148,22 @@ impl SharedList {
         count <= self.rising.go_on(&self.spans)
     }
 
+    /// How many of the last ranges an index may have for so many of them, where it may have some other number: no more than
+    /// rise, if those do, so that the order of their addresses is known.
+    fn most_for(&mut self, count: usize, most: usize) -> usize
+        requires { count ≤ most }
+        ensures enough { count ≤ result }
+        ensures within { result ≤ most }
+        ensures kept { self.new ≡ self.old }
+    {
+        let rising = self.rising.go_on(&self.spans);
+        if count <= rising && rising < most {
+            rising
+        } else {
+            most
+        }
+    }
+
     /// Whether an index of so many of the last ranges is kept, or may be where no greater one serves: only once they are twice
     /// as many as in the last such index. So all of these together have fewer than twice the ranges of the greatest, however
     /// often ranges are put in front.
@@ -297,6 +313,7 @@ impl SharedList {
         ensures value { MayGive (last_of self.old count) result }
         ensures kept { self.new ≡ self.old }
     {
+        let most = self.most_for(count, most);
         let size = indexed(count, most);
         if size == most && count > 0 && !self.may_index(size) {
             if self.do_rise(count) {
