@@ -1,13 +1,12 @@
 -- The pieces of a list are the list.
-use Rattle.std.proofs.Common.{◌≡◌, ℕ, ◌+◌, ◌-◌, ◌<◌, ◌≤◌, List, [], ◌∷◌, ◌++◌, length, take, drop, map, Option, Some, None, refl, sym, ap, subst, ◌∙◌, append_assoc, arith}
+use Rattle.std.proofs.Common.{◌≡◌, ℕ, ◌+◌, ◌≤◌, List, [], ◌++◌, length, take, drop, Option, Some, None, refl, sym, ap, subst, ◌∙◌, append_assoc, arith}
 use Rattle.std.specs.Prelude.{IfSome, reverse}
 use Rattle.std.specs.BTreeMap.{get, Updates}
-use Rattle.std.specs.List.{slice_get}
 use Rattle.std.proofs.lemmas.List.{append-nil, drop-take, map-append, reverse-append, take-append-drop, take-take}
 use Rattle.blz_announced.specs.Units.{all_kept, KeptRanges, IsListOf, IsWithKeptPart, IsWithPart, IsWithUnit, ListsStay}
 use Rattle.blz_ranges.specs.Owned.{Owned, own_all}
 use Rattle.blz_ranges.specs.declared.span.Span.{Span}
-use Rattle.blz_units.specs.RangeChains.{chain_at, list_in, piece_cmp, piece_in, ArePieces, IsKeptPiece}
+use Rattle.blz_units.specs.RangeChains.{chain_at, piece_cmp, piece_in, ArePieces, IsKeptPiece}
 use Rattle.blz_units.specs.declared.range_chains.ChainPiece.{ChainPiece}
 use Rattle.blz_units.specs.declared.range_chains.RangeChains.{RangeChains}
 use Rattle.blz_units.proofs.Chained.{if_mapped}

@@ -1,15 +1,19 @@
 -- Lists of ranges that run into one another.
-use Rattle.std.proofs.Common.{◌≡◌, ℕ, zero, suc, ◌+◌, ◌-◌, ◌<◌, ◌≤◌, Bool, true, false, List, [], ◌∷◌, ◌++◌, length, take, drop, drop-cons, get_or, set, Option, Some, None, refl, sym, ap, subst, ◌∙◌, append_assoc, arith}
+use Rattle.std.proofs.Common.{◌≡◌, ℕ, zero, suc, ◌+◌, ◌-◌, ◌<◌, ◌≤◌, true, List, [], ◌∷◌, ◌++◌, length, take, drop, drop-cons, get_or, set, Option, Some, None, refl, sym, ap, subst, ◌∙◌, append_assoc, arith}
 use Rattle.std.specs.Prelude.{IfSome, reverse}
 use Rattle.std.specs.BTreeMap.{get}
 use Rattle.std.specs.List.{slice_get, All}
 use Rattle.std.specs.Option.{option_to_list}
 use Rattle.std.specs.declared.alloc.Global.{Global}
 use Rattle.std.specs.declared.vec.Vec.{Vec}
-use Rattle.std.proofs.lemmas.List.{drop-append-le, drop-take, length-append, length-drop, length-reverse, length-take, reverse-append, reverse-reverse, take-append-drop, take-append-le, take-take, take_all, take_at}
+use Rattle.std.proofs.lemmas.List.{append-nil, drop-append-le, drop-take, length-append, length-drop, length-reverse, length-take, reverse-append, reverse-reverse, take-append-drop, take-append-le, take-take, take_all, take_at}
 use Rattle.std.proofs.lemmas.List.Elements.{All-push, All-weaker}
 use Rattle.std.proofs.Math.Seq.{drop-length}
+use Rattle.blz_error.specs.declared.kind.ErrorKind.{ErrorKind}
 use Rattle.blz_info.specs.FileSections.{FileSections}
+use Rattle.blz_info.specs.Marks.{or_invalid}
+use Rattle.blz_info.proofs.Marked.{marks_on}
+use Rattle.blz_model.specs.Part.{Fails}
 use Rattle.blz_entry.specs.RangeLists.{joined, ranges_of}
 use Rattle.blz_entry.specs.RangeTails.{list_tail}
 use Rattle.blz_entry.specs.declared.ranges.RangeAttributes.{RangeAttributes}
@@ -18,12 +22,13 @@ use Rattle.blz_entry.proofs.RangeSteps.{joined_more, list_is_tail, tail_more, ta
 use Rattle.blz_ranges.specs.declared.span.Span.{Span}
 use Rattle.blz_functions.specs.Leaves.{UnitParts, entry_behind, lying, ranges_in, spans_behind}
 use Rattle.blz_announced.specs.Units.{KeptRanges, IsListOf}
-use Rattle.blz_units.specs.RangeChains.{chain_at, items_or_none, list_in, piece_cmp, piece_in, HasRest, IsChainOf, IsInChain, IsKeptPiece, IsLastIn, IsPassed, IsPassedEntry, IsPlaced, IsWholeChain, KeepsChains}
+use Rattle.blz_units.specs.RangeChains.{chain_at, items_or_none, last_in, list_in, piece_cmp, piece_in, Grow, HasLast, IsChainOf, IsInChain, IsKeptPiece, IsLastIn, IsPassed, IsPassedEntry, IsPlaced, IsReadTo, IsWholeChain, KeepsChains}
 use Rattle.blz_units.specs.RootKeys.{list_cmp, tail_key}
 use Rattle.blz_units.specs.declared.passed_list.PassedEntry.{PassedEntry}
 use Rattle.blz_units.specs.declared.passed_list.PassedList.{PassedList}
 use Rattle.blz_units.specs.declared.range_chains.ChainPiece.{ChainPiece}
 use Rattle.blz_units.specs.declared.range_chains.ChainPlace.{ChainPlace}
+use Rattle.blz_units.specs.declared.range_chains.ListPlace.{ListPlace}
 use Rattle.blz_units.specs.declared.range_chains.RangeChains.{RangeChains}
 use Rattle.blz_units.specs.declared.root_key.ListKey.{ListKey}
 use Rattle.blz_units.proofs.RootKeys.{tails_same}
@@ -75,10 +80,6 @@ passed_over u list known h is = h.whole ∙ ap (λ (o : Option (List Span)). joi
 
 -- ---- chains that have ranges more
 
--- Each chain begins as it did.
-abbrev pub Grow : List (Vec Span Global) → List (Vec Span Global) → Type 0
-Grow old new = (n : ℕ) → take (length (chain_at old n)) (chain_at new n) ≡ chain_at old n
-
 grown_length : (xs ys : List Span) → take (length xs) ys ≡ xs → length xs ≤ length ys
 grown_length xs ys e = let k = length-take (length xs) ys in let l = ap length e in omega arith
 
@@ -89,14 +90,19 @@ same_front xs ys n e le = sym (take-take n (length xs) ys le) ∙ ap (take n) e
 cut_out : (xs : List Span) (start n : ℕ) → take n (drop start xs) ≡ drop start (take (start + n) xs)
 cut_out xs start n = sym (drop-take start n xs)
 
-pub in_chain_stays : (s : FileSections) (old new : List (Vec Span Global)) → Grow old new → (key : ListKey) (place : ChainPlace) → IsInChain s old key place → IsInChain s new key place
-in_chain_stays s old new grow key place h =
-    let front = same_front (chain_at old place.chain) (chain_at new place.chain) place.count (grow place.chain) h.within in
+-- and its last ranges stay
+pub last_stays : (old new : List (Vec Span Global)) → Grow old new → (place : ChainPlace) → HasLast old place → HasLast new place × (last_in new place ≡ last_in old place)
+last_stays old new grow place within =
     let longer = grown_length (chain_at old place.chain) (chain_at new place.chain) (grow place.chain) in
-    let within = h.within in
+    (omega arith, ap reverse (same_front (chain_at old place.chain) (chain_at new place.chain) place.count (grow place.chain) within))
+
+pub in_chain_stays : (s : FileSections) (old new : List (Vec Span Global)) → Grow old new → (key : ListKey) (place : ListPlace) → IsInChain s old key place → IsInChain s new key place
+in_chain_stays s old new grow key place h =
+    let front = last_stays old new grow place.front h.within.front in
+    let rest = last_stays old new grow place.rest h.within.rest in
     record {
-      within = omega arith;
-      are = λ v at is. h.are v at is ∙ ap (λ (l : List Span). Some (reverse l)) (sym front);
+      within = record { front = front.0; rest = rest.0 };
+      are = λ v at is. h.are v at is ∙ (λ i. Some (sym front.1 i ++ sym rest.1 i));
     }
 
 piece_stays : (old new : List (Vec Span Global)) → Grow old new → (p : ChainPiece) → p.start + p.len ≤ length (chain_at old p.chain) → piece_in new p ≡ piece_in old p
@@ -133,46 +139,89 @@ put_more front spans left x lt e =
     let turned : reverse (drop left spans) ≡ reverse (drop (suc left) spans) ++ x ∷ [] = ap reverse cut ∙ reverse-append (x ∷ []) (drop (suc left) spans) in
     rw (k, turned) (append_assoc front (reverse (drop (suc left) spans)) (x ∷ []))
 
--- a place that has all ranges of its chain
-pub whole_chain : (u : UnitParts) (c : RangeChains) (rest : RangeTail) (place : ChainPlace) → IsInChain u.sections c.chains.items (tail_key u rest) place → IsWholeChain c.chains.items place → IsChainOf c (spans_behind u rest) place.chain
-whole_chain u c rest place h w =
-    let whole = w.whole in
+-- a place that begins with all ranges of a chain
+pub whole_chain : (u : UnitParts) (c : RangeChains) (rest : RangeTail) (place : ListPlace) → IsInChain u.sections c.chains.items (tail_key u rest) place → IsWholeChain c.chains.items place → IsChainOf c (spans_behind u rest) place
+whole_chain u c rest place h w = record { whole = w; rest = h.within.rest; is = h.are u refl refl }
+
+-- a place of one chain alone
+pub of_one_chain : (u : UnitParts) (c : RangeChains) (rest : RangeTail) (place : ListPlace) → IsInChain u.sections c.chains.items (tail_key u rest) place → place.rest.count ≡ 0 → spans_behind u rest ≡ Some (last_in c.chains.items place.front)
+of_one_chain u c rest place h none =
+    let front = last_in c.chains.items place.front in
+    h.are u refl refl ∙ ap (λ (n : ℕ). Some (front ++ reverse (take n (chain_at c.chains.items place.rest.chain)))) none ∙ ap (λ (l : List Span). Some l) (append-nil front)
+
+-- a new chain before some last ranges of another
+pub chain_made : (old new : RangeChains) (chain : ℕ) (rest : ChainPlace) → Grow old.chains.items new.chains.items → HasLast old.chains.items rest → chain < length new.chains.items → chain_at new.chains.items chain ≡ [] → IsChainOf new (Some (last_in old.chains.items rest)) (record { front = record { chain = chain; count = 0 }; rest = rest })
+chain_made old new chain rest grow within there empty =
+    let stays = last_stays old.chains.items new.chains.items grow rest within in
     record {
-      there = w.there;
-      is = h.are u refl refl ∙ ap (λ (l : List Span). Some (reverse l)) (take_all place.count (chain_at c.chains.items place.chain) (omega arith));
+      whole = record { there = there; whole = ap length (sym empty) };
+      rest = stays.0;
+      is = ap (λ (l : List Span). Some l) (sym stays.1);
     }
 
--- an entry of a list behind a chain
-pub placed : (u : UnitParts) (list : PassedList) (e : PassedEntry) (old : List Span) (chains : List (Vec Span Global)) (chain len : ℕ) → chain_at chains chain ≡ old ++ reverse list.spans.items → len ≡ length (chain_at chains chain) → HasRest u list (reverse old)
-    → IsPassedEntry u list.spans.items list.rest e → IsPlaced u.sections u chains chain len e
-placed u list e old chains chain len grown is rest h =
+-- ---- a list before its rest
+
+-- where it is put, once its chain has so many ranges
+abbrev pub before_rest : ListPlace → ℕ → ListPlace
+before_rest rest count = record { front = record { chain = rest.front.chain; count = count }; rest = rest.rest }
+
+-- Its ranges are put into the chain of its rest.
+pub record IsPutBefore (u : UnitParts) (list : PassedList) (old : List Span) (new : List (Vec Span Global)) (rest : ListPlace) (count : ℕ) : Type 0 where
+  pub grown : chain_at new rest.front.chain ≡ old ++ reverse list.spans.items
+  pub whole : count ≡ length (chain_at new rest.front.chain)
+  pub within : HasLast new rest.rest
+  pub behind : spans_behind u list.rest ≡ Some (reverse old ++ last_in new rest.rest)
+
+pub put_before : (u : UnitParts) (list : PassedList) (c : RangeChains) (new : List (Vec Span Global)) (rest : ListPlace) (count : ℕ) → IsChainOf c (spans_behind u list.rest) rest → Grow c.chains.items new → chain_at new rest.front.chain ≡ chain_at c.chains.items rest.front.chain ++ reverse list.spans.items → count ≡ length (chain_at new rest.front.chain)
+    → IsPutBefore u list (chain_at c.chains.items rest.front.chain) new rest count
+put_before u list c new rest count h grow grown len =
+    let old = chain_at c.chains.items rest.front.chain in
+    let whole = h.whole.whole in
+    let stays = last_stays c.chains.items new grow rest.rest h.rest in
+    let all : take rest.front.count old ≡ old = take_all rest.front.count old (omega arith) in
+    record {
+      grown = grown;
+      whole = len;
+      within = stays.0;
+      behind = h.is ∙ (λ i. Some (reverse (all i) ++ sym stays.1 i));
+    }
+
+-- from an entry on
+pub placed : (u : UnitParts) (list : PassedList) (e : PassedEntry) (old : List Span) (new : List (Vec Span Global)) (rest : ListPlace) (count : ℕ) → IsPutBefore u list old new rest count → IsPassedEntry u list.spans.items list.rest e → IsPlaced u.sections u new (before_rest rest count) e
+placed u list e old new rest count g h =
     let spans = list.spans.items in
+    let chain = chain_at new rest.front.chain in
+    let behind = last_in new rest.rest in
     let within = h.within in
     let a = length-append old (reverse spans) in
     let b = length-reverse spans in
-    let g = ap length grown in
-    let n : len ≡ length old + length spans = omega arith in
-    let last : reverse (take (len - e.before) (chain_at chains chain)) ≡ drop e.before spans ++ reverse old = ap (λ (l : List Span). reverse (take (len - e.before) l)) grown ∙ taken_of old spans e.before len within n in
+    let k = ap length g.grown in
+    let m = g.whole in
+    let n : count ≡ length old + length spans = omega arith in
+    let last : reverse (take (count - e.before) chain) ≡ drop e.before spans ++ reverse old = ap (λ (l : List Span). reverse (take (count - e.before) l)) g.grown ∙ taken_of old spans e.before count within n in
+    let same : drop e.before spans ++ (reverse old ++ behind) ≡ reverse (take (count - e.before) chain) ++ behind = sym (append_assoc (drop e.before spans) (reverse old) behind) ∙ ap (λ (l : List Span). l ++ behind) (sym last) in
     record {
-      within = omega arith;
-      are = λ v at key. tails_same u v e.tail at key ∙ (h.spans ∙ (ap (λ (o : Option (List Span)). joined (drop e.before spans) o) rest ∙ ap (λ (l : List Span). Some l) (sym last)));
+      within = record { front = omega arith; rest = g.within };
+      are = λ v at key. tails_same u v e.tail at key ∙ (h.spans ∙ (ap (λ (o : Option (List Span)). joined (drop e.before spans) o) g.behind ∙ ap (λ (l : List Span). Some l) same));
     }
 
-pub all_placed : (u : UnitParts) (list : PassedList) (old : List Span) (chains : List (Vec Span Global)) (chain len : ℕ) → chain_at chains chain ≡ old ++ reverse list.spans.items → len ≡ length (chain_at chains chain) → HasRest u list (reverse old)
-    → IsPassed u list → All (IsPlaced u.sections u chains chain len) list.entries.items
-all_placed u list old chains chain len grown is rest h =
-    All-weaker (IsPassedEntry u list.spans.items list.rest) (IsPlaced u.sections u chains chain len) (λ e k. placed u list e old chains chain len grown is rest k) list.entries.items h.each
+pub all_placed : (u : UnitParts) (list : PassedList) (old : List Span) (new : List (Vec Span Global)) (rest : ListPlace) (count : ℕ) → IsPutBefore u list old new rest count → IsPassed u list → All (IsPlaced u.sections u new (before_rest rest count)) list.entries.items
+all_placed u list old new rest count g h =
+    All-weaker (IsPassedEntry u list.spans.items list.rest) (IsPlaced u.sections u new (before_rest rest count)) (λ e k. placed u list e old new rest count g k) list.entries.items h.each
 
 -- the whole list
-pub last_of_chain : (u : UnitParts) (list : PassedList) (old : List Span) (c : RangeChains) (chain len : ℕ) → chain_at c.chains.items chain ≡ old ++ reverse list.spans.items → len ≡ length (chain_at c.chains.items chain) → HasRest u list (reverse old)
-    → IsPassed u list → IsLastIn c (spans_behind u list.start) [] (record { chain = chain; count = len })
-last_of_chain u list old c chain len grown is rest h =
+pub last_of_chain : (u : UnitParts) (list : PassedList) (old : List Span) (c : RangeChains) (rest : ListPlace) (count : ℕ) → IsPutBefore u list old c.chains.items rest count → IsPassed u list → IsLastIn c (spans_behind u list.start) [] (before_rest rest count)
+last_of_chain u list old c rest count g h =
     let spans = list.spans.items in
-    let whole : take len (chain_at c.chains.items chain) ≡ chain_at c.chains.items chain = take_all len (chain_at c.chains.items chain) (omega arith) in
-    let turned : reverse (take len (chain_at c.chains.items chain)) ≡ spans ++ reverse old = ap reverse (whole ∙ grown) ∙ (reverse-append old (reverse spans) ∙ ap (λ (l : List Span). l ++ reverse old) (reverse-reverse spans)) in
+    let chain = chain_at c.chains.items rest.front.chain in
+    let behind = last_in c.chains.items rest.rest in
+    let m = g.whole in
+    let whole : take count chain ≡ chain = take_all count chain (omega arith) in
+    let turned : reverse (take count chain) ≡ spans ++ reverse old = ap reverse (whole ∙ g.grown) ∙ (reverse-append old (reverse spans) ∙ ap (λ (l : List Span). l ++ reverse old) (reverse-reverse spans)) in
+    let same : spans ++ (reverse old ++ behind) ≡ reverse (take count chain) ++ behind = sym (append_assoc spans (reverse old) behind) ∙ ap (λ (l : List Span). l ++ behind) (sym turned) in
     record {
-      within = omega arith;
-      is = passed_over u list (reverse old) h rest ∙ ap (λ (l : List Span). Some l) (sym turned);
+      within = record { front = omega arith; rest = g.within };
+      is = passed_over u list (reverse old ++ behind) h g.behind ∙ ap (λ (l : List Span). Some l) same;
     }
 
 -- ---- what calls leave
@@ -217,12 +266,32 @@ pub listed_ranges : (u : UnitParts) (r : RangeAttributes) (offset : ℕ) → r.r
 unfolding ranges_in ranges_of
 listed_ranges u r offset at = rw at (list_is_tail (lying u.sections) u.header u.root offset)
 
--- a list that runs into one of a chain
-pub rest_told : (u : UnitParts) (list : PassedList) (c : RangeChains) (place : ChainPlace) → IsPassed u list → IsInChain u.sections c.chains.items (tail_key u list.rest) place → IsLastIn c (spans_behind u list.start) list.spans.items place
+-- a list that runs into one that is kept in chains
+pub rest_told : (u : UnitParts) (list : PassedList) (c : RangeChains) (place : ListPlace) → IsPassed u list → IsInChain u.sections c.chains.items (tail_key u list.rest) place → IsLastIn c (spans_behind u list.start) list.spans.items place
 rest_told u list c place h k = record {
   within = k.within;
   is = passed_over u list (list_in c.chains.items place) h (k.are u refl refl);
 }
+
+-- a list before one that is told
+pub before_read : (u : UnitParts) (list : PassedList) (behind all : List Span) → all ≡ list.spans.items ++ behind → IsPassed u list → spans_behind u list.rest ≡ Some behind → spans_behind u list.start ≡ Some all
+before_read u list behind all put h is = passed_over u list behind h is ∙ ap (λ (l : List Span). Some l) (sym put)
+
+pub before_chained : (u : UnitParts) (c : RangeChains) (list : PassedList) (behind all : List Span) (place : ListPlace) → all ≡ list.spans.items ++ behind → IsPassed u list → IsLastIn c (spans_behind u list.rest) behind place → IsLastIn c (spans_behind u list.start) all place
+before_chained u c list behind all place put h k =
+    let last = list_in c.chains.items place in
+    record {
+      within = k.within;
+      is = passed_over u list (behind ++ last) h k.is ∙ ap (λ (l : List Span). Some l) (sym (append_assoc list.spans.items behind last) ∙ ap (λ (l : List Span). l ++ last) (sym put));
+    }
+
+-- a list whose rest has no value
+pub before_fails : (u : UnitParts) (list : PassedList) (kind : ErrorKind) → IsPassed u list → Fails kind (or_invalid (spans_behind u list.rest)) → Fails kind (or_invalid (spans_behind u list.start))
+before_fails u list kind h fails = marks_on kind (spans_behind u list.rest) (spans_behind u list.start) fails (λ none. h.whole ∙ ap (λ (o : Option (List Span)). joined list.spans.items o) none)
+
+-- a list that is over
+pub read_whole : (u : UnitParts) (list : PassedList) → IsReadTo u list true → spans_behind u list.start ≡ Some list.spans.items
+read_whole u list h = passed_over u list [] h.passed (h.none_left refl) ∙ ap (λ (l : List Span). Some l) (append-nil list.spans.items)
 
 pub empty_list : (xs : List Span) → length xs ≡ 0 → xs ≡ []
 empty_list [] e = refl

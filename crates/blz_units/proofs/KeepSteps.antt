@@ -15,7 +15,7 @@ use Rattle.blz_info.specs.declared.units.UnitHeader.{UnitHeader}
 use Rattle.blz_info.proofs.Marked.{marks_on}
 use Rattle.blz_announced.specs.Units.{KeptRanges, all_kept, IsListOf, IsOnceMore, IsWithKeeper, IsWithUnit}
 use Rattle.blz_units.specs.Keeping.{Keeping, units_told, AreKnown, AreRoots, IsAgain, IsRootOf}
-use Rattle.blz_units.specs.RangeChains.{AreChains, ArePieces, KeepsChains}
+use Rattle.blz_units.specs.RangeChains.{ArePieces, KeepsChains}
 use Rattle.blz_units.specs.RootKeys.{root_cmp, AreSpansOf}
 use Rattle.blz_units.specs.UnitLists.{EndBefore, IsInPlace}
 use Rattle.blz_units.specs.UnitTables.{KeptUnits, by_root, keep, root_spans}

@@ -6,7 +6,7 @@ use Rattle.blz_model.specs.Part.{Part, Good, Broken, ◌>>=◌}
 use Rattle.blz_model.specs.Answers.{Site}
 use Rattle.blz_info.specs.declared.text.Texts.{Texts}
 use Rattle.blz_units.specs.BuiltUnits.{Files}
-use Rattle.blz_announced.specs.Seen.{Holds, LeavesOut}
+use Rattle.blz_announced.specs.Seen.{LeavesOut}
 use Rattle.blz_units.specs.UnitAnswers.{best_function, first_function, found_or}
 use Rattle.blz_units.specs.UnitSites.{first_line, line_in, site_or}
 use Rattle.blz_units.specs.UnitTables.{UnitTable}

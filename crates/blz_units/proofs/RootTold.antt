@@ -1,7 +1,9 @@
 -- What the root of a unit announces, by its ranges.
-use Rattle.std.proofs.Common.{◌≡◌, ℕ, ◌+◌, ◌<◌, List, [], ◌∷◌, ◌++◌, length, take, Option, Some, None, refl, sym, ap, ◌∙◌, arith}
+use Rattle.std.proofs.Common.{◌≡◌, ◌+◌, ◌<◌, List, [], ◌∷◌, ◌++◌, length, take, Option, Some, None, refl, sym, ap, ◌∙◌, arith}
 use Rattle.std.specs.Prelude.{reverse, MatchResult, Result, Ok, Err}
 use Rattle.std.proofs.lemmas.List.{length-append, length-reverse, length-take-le}
+use Rattle.std.specs.declared.alloc.Global.{Global}
+use Rattle.std.specs.declared.vec.Vec.{Vec}
 use Rattle.blz_error.specs.Fault.{Fault}
 use Rattle.blz_error.specs.declared.kind.ErrorKind.{ErrorKind}
 use Rattle.blz_error.specs.declared.kind.ErrorKind.TheVariants.{OutOfMemory}
@@ -13,11 +15,12 @@ use Rattle.blz_model.specs.Part.{Fails}
 use Rattle.blz_model.specs.Reads.{◌>>=◌}
 use Rattle.blz_ranges.specs.declared.span.Span.{Span}
 use Rattle.blz_units.specs.Keeping.{IsChained, IsToldByLines, TellsRoot}
-use Rattle.blz_units.specs.RangeChains.{chain_at, IsLastIn}
+use Rattle.blz_units.specs.RangeChains.{chain_at, count_in, last_in, HasLast, IsLastIn}
 use Rattle.blz_units.specs.RootKeys.{AreSpansOf, IsKeyOf}
 use Rattle.blz_units.specs.UnitTables.{by_root, lines_in, or_sequences, root_spans, sequences_of}
 use Rattle.blz_units.specs.declared.announcing.RootRanges.{RootRanges}
 use Rattle.blz_units.specs.declared.range_chains.ChainPlace.{ChainPlace}
+use Rattle.blz_units.specs.declared.range_chains.ListPlace.{ListPlace}
 use Rattle.blz_units.specs.declared.range_chains.RangeChains.{RangeChains}
 use Rattle.blz_units.specs.declared.root_key.RootKey.{RootKey}
 use Rattle.blz_units.proofs.Chained.{empty_list}
@@ -34,13 +37,22 @@ pub root_by_ranges : (u : UnitParts) (spans : List Span) → ranges_in u u.root.
 root_by_ranges u [] is some = absurd (omega arith)
 root_by_ranges u (x ∷ spans) is some = ap (or_lines u) is
 
-pub root_in_chain : (u : UnitParts) (c : RangeChains) (front : List Span) (place : ChainPlace) → IsLastIn c (ranges_in u u.root.ranges) front place → 0 < length front + place.count → IsLastIn c (root_spans u) front place
-root_in_chain u c front place h some =
-    let chain = chain_at c.chains.items place.chain in
-    let a = length-take-le place.count chain h.within in
+last_length : (chains : List (Vec Span Global)) (place : ChainPlace) → HasLast chains place → length (last_in chains place) ≡ place.count
+last_length chains place within =
+    let chain = chain_at chains place.chain in
+    let a = length-take-le place.count chain within in
     let b = length-reverse (take place.count chain) in
-    let d = length-append front (reverse (take place.count chain)) in
-    record { within = h.within; is = root_by_ranges u (front ++ reverse (take place.count chain)) h.is (omega arith) }
+    omega arith
+
+pub root_in_chain : (u : UnitParts) (c : RangeChains) (front : List Span) (place : ListPlace) → IsLastIn c (ranges_in u u.root.ranges) front place → 0 < length front + count_in place → IsLastIn c (root_spans u) front place
+root_in_chain u c front place h some =
+    let one = last_in c.chains.items place.front in
+    let two = last_in c.chains.items place.rest in
+    let a = last_length c.chains.items place.front h.within.front in
+    let b = last_length c.chains.items place.rest h.within.rest in
+    let d = length-append front (one ++ two) in
+    let e = length-append one two in
+    record { within = h.within; is = root_by_ranges u (front ++ (one ++ two)) h.is (omega arith) }
 
 no_root : (u : UnitParts) (o : Option (List Span)) → o ≡ None → or_lines u o ≡ None
 no_root u None e = refl
@@ -52,9 +64,10 @@ root_fails u kind fails = marks_on kind (ranges_in u u.root.ranges) (root_spans 
 pub none_read : (u : UnitParts) (spans : List Span) → ranges_in u u.root.ranges ≡ Some spans → length spans ≡ 0 → ranges_in u u.root.ranges ≡ Some []
 none_read u spans is none = is ∙ ap (λ (l : List Span). Some l) (empty_list spans none)
 
-pub none_in_chain : (u : UnitParts) (c : RangeChains) (front : List Span) (place : ChainPlace) → IsLastIn c (ranges_in u u.root.ranges) front place → length front ≡ 0 → place.count ≡ 0 → ranges_in u u.root.ranges ≡ Some []
-none_in_chain u c front place h empty none =
-    h.is ∙ (λ i. Some (empty_list front empty i ++ reverse (take (none i) (chain_at c.chains.items place.chain))))
+pub none_in_chain : (u : UnitParts) (c : RangeChains) (front : List Span) (place : ListPlace) → IsLastIn c (ranges_in u u.root.ranges) front place → length front ≡ 0 → place.front.count ≡ 0 → place.rest.count ≡ 0 → ranges_in u u.root.ranges ≡ Some []
+none_in_chain u c front place h empty none no_rest =
+    let chains = c.chains.items in
+    h.is ∙ (λ i. Some (empty_list front empty i ++ (reverse (take (none i) (chain_at chains place.front.chain)) ++ reverse (take (no_rest i) (chain_at chains place.rest.chain)))))
 
 pub told_by_lines : (u : UnitParts) (c : RangeChains) (r : Result RootRanges Fault) → MatchResult r (IsToldByLines u) (λ e. e.kind ≡ OutOfMemory) → TellsRoot u c r
 told_by_lines u c (Ok told) h = h c
@@ -68,7 +81,7 @@ as_told o = o >>= λ spans. Some (Some spans)
 pub told_spans : (s : FileSections) (u : UnitParts) (o : Option UnitParts) (spans : List Span) (key : RootKey) → o ≡ Some u → u.sections ≡ s → (root_spans u ≡ Some spans) × IsKeyOf u key → (by_root o ≡ Some (Some spans)) × AreSpansOf s spans key
 told_spans s u o spans key is at told = (ap by_root is ∙ ap as_told told.0, λ v here by. told.1 v (here ∙ sym at) by ∙ told.0)
 
-pub told_chained : (u : UnitParts) (o : Option UnitParts) (c : RangeChains) (front : List Span) (place : ChainPlace) → o ≡ Some u → IsLastIn c (root_spans u) front place → IsChained c (by_root o) front place
+pub told_chained : (u : UnitParts) (o : Option UnitParts) (c : RangeChains) (front : List Span) (place : ListPlace) → o ≡ Some u → IsLastIn c (root_spans u) front place → IsChained c (by_root o) front place
 told_chained u o c front place is h = record { within = h.within; is = ap by_root is ∙ ap as_told h.is }
 
 pub told_fails : (u : UnitParts) (o : Option UnitParts) (kind : ErrorKind) → o ≡ Some u → Fails kind (or_invalid (root_spans u)) → Fails kind (or_invalid (by_root o))

@@ -1,7 +1,7 @@
 -- Lists of ranges that are kept once for all units that read them alike.
 use Rattle.std.proofs.Common.{◌≡◌, ℕ, Bool, true, false, Option, Some, None, refl, sym, ap, ◌∙◌, inl, inr}
-use Rattle.std.specs.Prelude.{IfSome, nat_lt, if◌then◌else◌}
-use Rattle.std.specs.BTreeMap.{get, IsEmpty, Updates}
+use Rattle.std.specs.Prelude.{nat_lt, if◌then◌else◌}
+use Rattle.std.specs.BTreeMap.{IsEmpty, Updates}
 use Rattle.std.proofs.lemmas.Bool.{cases_Bool}
 use Rattle.blz_entry.specs.RangeTails.{tail_spans}
 use Rattle.blz_entry.specs.declared.range_tail.RangeTail.{RangeTail}

@@ -1,7 +1,7 @@
 -- Lists that are kept by the sizes of units are what stands in their sections.
-use Rattle.std.proofs.Common.{◌≡◌, ℕ, List, None, Some}
-use Rattle.std.specs.Prelude.{IfSome, take}
-use Rattle.std.specs.BTreeMap.{get, IsEmpty, Updates}
+use Rattle.std.proofs.Common.{ℕ, List, None, Some}
+use Rattle.std.specs.Prelude.{take}
+use Rattle.std.specs.BTreeMap.{IsEmpty, Updates}
 use Rattle.std.specs.Ordering.{nat_cmp}
 use Rattle.blz_info.specs.AttributeLists.{AreLists}
 use Rattle.blz_units.specs.SizedLists.{AreSizedLists}

@@ -1,5 +1,5 @@
 -- The units that are kept while they are read, with what is known of their roots.
-use Rattle.std.specs.Prelude.{◌≡◌, ℕ, ◌≤◌, List, ◌++◌, length, Option, Some, None, IfSome, MatchResult, Result, Ok, Err}
+use Rattle.std.specs.Prelude.{◌≡◌, ℕ, List, ◌++◌, Option, Some, None, IfSome, MatchResult, Result, Ok, Err}
 use Rattle.std.specs.BTreeMap.{get}
 use Rattle.blz_error.specs.Fault.{Fault}
 use Rattle.blz_functions.specs.Leaves.{UnitParts}
@@ -11,14 +11,14 @@ use Rattle.blz_ranges.specs.declared.span.Span.{Span}
 use Rattle.blz_units.specs.BuiltUnits.{Files}
 use Rattle.blz_announced.specs.Units.{KeptRanges, all_kept, IsListOf}
 use Rattle.blz_units.specs.KeptParts.{IsPartOf}
-use Rattle.blz_units.specs.RangeChains.{chain_at, list_in, AreChains, ArePieces, IsLastIn}
+use Rattle.blz_units.specs.RangeChains.{list_in, AreChains, ArePieces, IsLastIn, IsWithin}
 use Rattle.blz_units.specs.RootKeys.{root_cmp, AreSpansOf, IsKeyOf, IsToldBy}
 use Rattle.blz_units.specs.UnitTables.{KeptUnits, by_root, root_spans}
 use Rattle.blz_units.specs.declared.announcing.Announcement.{Announcement}
 use Rattle.blz_units.specs.declared.announcing.Announcement.TheVariants.{NotKept, Again, Ranges, InChain}
 use Rattle.blz_units.specs.declared.announcing.RootRanges.{RootRanges}
 use Rattle.blz_units.specs.declared.announcing.RootRanges.TheVariants.{Spans, Chained}
-use Rattle.blz_units.specs.declared.range_chains.ChainPlace.{ChainPlace}
+use Rattle.blz_units.specs.declared.range_chains.ListPlace.{ListPlace}
 use Rattle.blz_units.specs.declared.range_chains.RangeChains.{RangeChains}
 use Rattle.blz_units.specs.declared.known_roots.KnownRanges.{KnownRanges}
 use Rattle.blz_units.specs.declared.known_roots.KnownRoot.{KnownRoot}
@@ -47,9 +47,9 @@ pub record IsAgain (s : FileSections) (roots : KnownRoots) (keeper : Option ℕ)
   pub told : IsToldBy key unit
   pub is : announced ≡ by_root (Some unit)
 
--- It is some ranges, and then the last ones of a chain.
-pub record IsChained (chains : RangeChains) (announced : Option (Option (List Span))) (front : List Span) (place : ChainPlace) : Type 0 where
-  pub within : place.count ≤ length (chain_at chains.chains.items place.chain)
+-- It is some ranges, and then those of a place in chains.
+pub record IsChained (chains : RangeChains) (announced : Option (Option (List Span))) (front : List Span) (place : ListPlace) : Type 0 where
+  pub within : IsWithin chains.chains.items place
   pub is : announced ≡ Some (Some (front ++ list_in chains.chains.items place))
 
 -- What is told of a unit is what it announces.

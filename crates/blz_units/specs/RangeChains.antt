@@ -20,6 +20,7 @@ use Rattle.blz_units.specs.declared.passed_list.PassedEntry.{PassedEntry}
 use Rattle.blz_units.specs.declared.passed_list.PassedList.{PassedList}
 use Rattle.blz_units.specs.declared.range_chains.ChainPiece.{ChainPiece}
 use Rattle.blz_units.specs.declared.range_chains.ChainPlace.{ChainPlace}
+use Rattle.blz_units.specs.declared.range_chains.ListPlace.{ListPlace}
 use Rattle.blz_units.specs.declared.range_chains.RangeChains.{RangeChains}
 use Rattle.blz_units.specs.declared.range_chains.ToldRanges.{ToldRanges}
 use Rattle.blz_units.specs.declared.range_chains.ToldRanges.TheVariants.{Read, InChain}
@@ -41,10 +42,13 @@ pub record IsPassed (u : UnitParts) (list : PassedList) : Type 0 where
 abbrev pub PassesOne : PassedList → PassedList → Option Span → RangeTail → Type 0
 PassesOne old new span next = (u : UnitParts) → entry_behind u old.rest ≡ Some (Some (span, next)) → IsPassed u old → IsPassed u new
 
+abbrev pub HasNoRest : UnitParts → PassedList → Type 0
+HasNoRest u list = spans_behind u list.rest ≡ Some []
+
 -- where it is over, no ranges are left
 pub record IsReadTo (u : UnitParts) (list : PassedList) (over : Bool) : Type 0 where
   pub passed : IsPassed u list
-  pub none_left : over ≡ true → spans_behind u list.rest ≡ Some []
+  pub none_left : over ≡ true → HasNoRest u list
 
 -- A call reads on, want of memory aside; it fails where the list has no value.
 abbrev pub ReadsOn : UnitParts → PassedList → PassedList → Result Bool Fault → Type 0
@@ -60,14 +64,35 @@ items_or_none (Some spans) = spans.items
 abbrev pub chain_at : List (Vec Span Global) → ℕ → List Span
 chain_at chains n = items_or_none (slice_get chains n)
 
--- the last ranges of the lists of a chain, in their order
-abbrev pub list_in : List (Vec Span Global) → ChainPlace → List Span
-list_in chains place = reverse (take place.count (chain_at chains place.chain))
+-- A chain has so many ranges.
+abbrev pub HasLast : List (Vec Span Global) → ChainPlace → Type 0
+HasLast chains place = place.count ≤ length (chain_at chains place.chain)
 
--- A list has the last ranges of a chain.
-pub record IsInChain (s : FileSections) (chains : List (Vec Span Global)) (key : ListKey) (place : ChainPlace) : Type 0 where
-  pub within : place.count ≤ length (chain_at chains place.chain)
+-- the last ranges of a chain, in the order of the lists
+abbrev pub last_in : List (Vec Span Global) → ChainPlace → List Span
+last_in chains place = reverse (take place.count (chain_at chains place.chain))
+
+-- Two chains have so many ranges.
+pub record IsWithin (chains : List (Vec Span Global)) (place : ListPlace) : Type 0 where
+  pub front : HasLast chains place.front
+  pub rest : HasLast chains place.rest
+
+-- the last ranges of a chain, and behind them those of another
+abbrev pub list_in : List (Vec Span Global) → ListPlace → List Span
+list_in chains place = last_in chains place.front ++ last_in chains place.rest
+
+-- how many these are
+abbrev pub count_in : ListPlace → ℕ
+count_in place = place.front.count + place.rest.count
+
+-- A list has the ranges of a place.
+pub record IsInChain (s : FileSections) (chains : List (Vec Span Global)) (key : ListKey) (place : ListPlace) : Type 0 where
+  pub within : IsWithin chains place
   pub are : AreListSpans s (list_in chains place) key
+
+-- Each chain begins as it did.
+abbrev pub Grow : List (Vec Span Global) → List (Vec Span Global) → Type 0
+Grow old new = (n : ℕ) → take (length (chain_at old n)) (chain_at new n) ≡ chain_at old n
 
 abbrev pub AreChains : FileSections → RangeChains → Type 0
 AreChains s c = (key : ListKey) → IfSome (get list_cmp c.places key) (IsInChain s c.chains.items key)
@@ -98,22 +123,36 @@ pub record KeepsChains (s : FileSections) (old new : RangeChains) : Type 0 where
   pub are : AreChains s old → AreChains s new
   pub pieces : KeepsPieces old new
 
--- An entry of a list that is put behind a chain has its ranges and those that the chain had before.
-abbrev pub IsPlaced : FileSections → UnitParts → List (Vec Span Global) → ℕ → ℕ → PassedEntry → Type 0
-IsPlaced s u chains chain len e = IsInChain s chains (tail_key u e.tail) (record { chain = chain; count = len - e.before })
+-- The list from an entry on has the ranges of a place but for those before the entry.
+abbrev pub IsPlaced : FileSections → UnitParts → List (Vec Span Global) → ListPlace → PassedEntry → Type 0
+IsPlaced s u chains place e = IsInChain s chains (tail_key u e.tail) (record {
+  front = record { chain = place.front.chain; count = place.front.count - e.before };
+  rest = place.rest;
+})
 
--- Behind what was read of a list come these ranges.
-abbrev pub HasRest : UnitParts → PassedList → List Span → Type 0
-HasRest u list spans = spans_behind u list.rest ≡ Some spans
-
--- A list has some ranges, and then the last ones of a chain.
-pub record IsLastIn (c : RangeChains) (spans : Option (List Span)) (front : List Span) (place : ChainPlace) : Type 0 where
-  pub within : place.count ≤ length (chain_at c.chains.items place.chain)
+-- A list has some ranges, and then those of a place.
+pub record IsLastIn (c : RangeChains) (spans : Option (List Span)) (front : List Span) (place : ListPlace) : Type 0 where
+  pub within : IsWithin c.chains.items place
   pub is : spans ≡ Some (front ++ list_in c.chains.items place)
+
+-- Each entry of a list is put into its place, and what was known stays.
+abbrev pub Puts : UnitParts → List PassedEntry → ListPlace → RangeChains → RangeChains → Type 0
+Puts u entries place old new = (s : FileSections) → All (IsPlaced s u old.chains.items place) entries → AreChains s old → AreChains s new
 
 abbrev pub AreTold : RangeChains → Option (List Span) → ToldRanges → Type 0
 AreTold c o (Read spans) = o ≡ Some spans.items
 AreTold c o (InChain front place) = IsLastIn c o front.items place
+
+-- what tells the list from a place on
+abbrev pub TellsList : UnitParts → RangeTail → RangeChains → ToldRanges → Type 0
+TellsList u tail c told = AreTold c (spans_behind u tail) told
+
+abbrev pub MayTellList : UnitParts → RangeTail → RangeChains → Option ToldRanges → Type 0
+MayTellList u tail c o = IfSome o (TellsList u tail c)
+
+-- What was read of a list stands before what tells its rest.
+abbrev pub TellsBefore : PassedList → ToldRanges → ToldRanges → Type 0
+TellsBefore list rest told = (u : UnitParts) (c : RangeChains) → IsPassed u list → TellsList u list.rest c rest → TellsList u list.start c told
 
 -- A call tells some ranges, want of memory aside; it fails where they have no value.
 abbrev pub TellsRanges : RangeChains → Option (List Span) → Result ToldRanges Fault → Type 0
@@ -123,12 +162,21 @@ TellsRanges c o result = MatchResult result (AreTold c o) (λ e. Fails e.kind (o
 abbrev pub MayTell : RangeChains → Option (List Span) → Result (Option ToldRanges) Fault → Type 0
 MayTell c o result = MatchResult result (λ told. IfSome told (AreTold c o)) (λ e. Fails e.kind (or_invalid o))
 
--- A place has all ranges of its chain.
-pub record IsWholeChain (chains : List (Vec Span Global)) (place : ChainPlace) : Type 0 where
-  pub there : place.chain < length chains
-  pub whole : place.count ≡ length (chain_at chains place.chain)
+-- A place begins with all ranges of a chain.
+pub record IsWholeChain (chains : List (Vec Span Global)) (place : ListPlace) : Type 0 where
+  pub there : place.front.chain < length chains
+  pub whole : place.front.count ≡ length (chain_at chains place.front.chain)
 
--- A chain has the ranges of a list, and no more.
-pub record IsChainOf (c : RangeChains) (spans : Option (List Span)) (chain : ℕ) : Type 0 where
-  pub there : chain < length c.chains.items
-  pub is : spans ≡ Some (reverse (chain_at c.chains.items chain))
+-- A list has the ranges of a place that begins with all ranges of a chain.
+pub record IsChainOf (c : RangeChains) (spans : Option (List Span)) (place : ListPlace) : Type 0 where
+  pub whole : IsWholeChain c.chains.items place
+  pub rest : HasLast c.chains.items place.rest
+  pub is : spans ≡ Some (list_in c.chains.items place)
+
+-- Where a list may be put before its rest.
+abbrev pub MayBePut : UnitParts → PassedList → RangeChains → Option ListPlace → Type 0
+MayBePut u list c o = IfSome o (IsChainOf c (spans_behind u list.rest))
+
+-- A new place stands before some last ranges of a chain.
+abbrev pub IsNewBefore : RangeChains → ChainPlace → RangeChains → ListPlace → Type 0
+IsNewBefore old rest new place = IsChainOf new (Some (last_in old.chains.items rest)) place

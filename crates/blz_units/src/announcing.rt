@@ -10,7 +10,7 @@ ghost use Rattle.blz_units.specs.KeptParts.{IsPartOf};
 ghost use Rattle.blz_functions.specs.Leaves.{ranges_in};
 ghost use Rattle.blz_functions.specs.Opened.{open_view};
 ghost use Rattle.blz_units.specs.Keeping.{HasPartOf, IsKnown, IsToldByLines, IsToldOr, TellsRoot};
-ghost use Rattle.blz_units.specs.RangeChains.{AreChains, KeepsChains};
+ghost use Rattle.blz_units.specs.RangeChains.{count_in, AreChains, KeepsChains};
 ghost use Rattle.blz_units.specs.RootKeys.{IsToldBy};
 ghost use Rattle.blz_units.specs.Sharing.{AreShared};
 ghost use Rattle.blz_units.specs.declared.dwarf.Origin.TheVariants.{Main};
@@ -21,7 +21,7 @@ use crate::address_sets::AddressSets;
 use crate::built_unit::{BuiltUnit, may_be_split};
 use crate::dwarf::{Dwarf, Origin};
 use crate::known_roots::{KnownRoot, KnownRoots};
-use crate::range_chains::{ChainPlace, RangeChains, ToldRanges};
+use crate::range_chains::{ListPlace, RangeChains, ToldRanges};
 use crate::root_key::{RootKey, program_key, ranges_key};
 use crate::shared_lines::{ProgramSpans, lines_key};
 use crate::shared_parts::SharedParts;
@@ -42,8 +42,8 @@ pub enum Announcement {
     Again(Cache<BuiltUnit>, Option<usize>),
     /// Some ranges, with the key of its root where that tells them.
     Ranges(Vec<Span>, Cache<BuiltUnit>, Option<RootKey>),
-    /// Some ranges, and then the last ones of a chain.
-    InChain(Vec<Span>, ChainPlace, Cache<BuiltUnit>),
+    /// Some ranges, and then those of a list that is kept in chains.
+    InChain(Vec<Span>, ListPlace, Cache<BuiltUnit>),
 }
 
 /// What the root of a unit announces.
@@ -51,8 +51,8 @@ pub enum Announcement {
 enum RootRanges {
     /// Some ranges, with the key that tells them.
     Spans(Vec<Span>, RootKey),
-    /// Some ranges, and then the last ones of a chain.
-    Chained(Vec<Span>, ChainPlace),
+    /// Some ranges, and then those of a list that is kept in chains.
+    Chained(Vec<Span>, ListPlace),
 }
 
 /// Whether a unit is a type unit.
@@ -200,12 +200,12 @@ fn ranges_by_lines(
     Ok(RootRanges::Spans(spans, key))
 }
 
-/// Whether neither some ranges nor the last ones of a chain are any.
-fn has_none(front: &[Span], place: ChainPlace) -> bool
-    ensures none { result ≡ true → (length front.now ≡ 0) × (place.count ≡ 0) }
-    ensures some { result ≡ false → 0 < length front.now + place.count }
+/// Whether neither some ranges nor those of a list in chains are any.
+fn has_none(front: &[Span], place: ListPlace) -> bool
+    ensures none { result ≡ true → length front.now + count_in place ≡ 0 }
+    ensures some { result ≡ false → 0 < length front.now + count_in place }
 {
-    front.is_empty() && place.count == 0
+    front.is_empty() && place.front.count == 0 && place.rest.count == 0
 }
 
 /// What the root of a unit announces: its ranges, and where there are none what the sequences of its lines cover.

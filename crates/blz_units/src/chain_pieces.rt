@@ -1,9 +1,9 @@
 //! The pieces of chains of ranges that units announce, each kept once.
 ghost use Rattle.std.specs.Prelude.{◌≡◌, ◌+◌, ◌++◌, ◌<◌, ◌≤◌, IfOk, IfSome, length, reverse};
 ghost use Rattle.blz_announced.specs.Units.{KeptRanges, IsWithPart, IsWithUnit};
-ghost use Rattle.blz_units.specs.RangeChains.{chain_at, list_in, piece_in, ArePieces, IsKeptPiece};
+ghost use Rattle.blz_units.specs.RangeChains.{chain_at, last_in, list_in, piece_in, ArePieces, HasLast, IsKeptPiece, IsWithin};
 
-use crate::range_chains::{ChainPiece, ChainPlace, RangeChains, put_back};
+use crate::range_chains::{ChainPiece, ChainPlace, ListPlace, RangeChains, put_back};
 use blz_announced::KeptRanges;
 use blz_entry::Span;
 use std::alloc::{AllocError, Global};
@@ -123,9 +123,9 @@ impl RangeChains {
         mut ranges: KeptRanges,
         place: ChainPlace,
     ) -> Result<KeptRanges, AllocError>
-        requires within { place.count ≤ length (chain_at self.old.chains.items place.chain) }
+        requires within { HasLast self.old.chains.items place }
         requires pieces { ArePieces ranges self.old }
-        ensures parts { IfOk result (IsWithPart ranges (list_in self.old.chains.items place)) }
+        ensures parts { IfOk result (IsWithPart ranges (last_in self.old.chains.items place)) }
         ensures pieces { IfOk result (λ k. ArePieces k self.new) }
         ensures chains { self.new.chains ≡ self.old.chains }
         ensures places { self.new.places ≡ self.old.places }
@@ -144,15 +144,15 @@ impl RangeChains {
         Ok(ranges)
     }
 
-    /// One unit more, which announces some ranges, and then the last ones of a chain piece by piece.
+    /// One unit more, which announces some ranges, and then those of a list that is kept in chains, piece by piece.
     pub fn announce(
         &mut self,
         alloc: Global,
         ranges: KeptRanges,
         front: &[Span],
-        place: ChainPlace,
+        place: ListPlace,
     ) -> Result<KeptRanges, AllocError>
-        requires within { place.count ≤ length (chain_at self.old.chains.items place.chain) }
+        requires within { IsWithin self.old.chains.items place }
         requires pieces { ArePieces ranges self.old }
         ensures unit { IfOk result (IsWithUnit ranges (front.now ++ list_in self.old.chains.items place)) }
         ensures pieces { IfOk result (λ k. ArePieces k self.new) }
@@ -160,7 +160,8 @@ impl RangeChains {
         ensures places { self.new.places ≡ self.old.places }
     {
         let ranges = with_front(ranges, front)?;
-        let ranges = self.put_pieces(alloc, ranges, place)?;
+        let ranges = self.put_pieces(alloc, ranges, place.front)?;
+        let ranges = self.put_pieces(alloc, ranges, place.rest)?;
         ranges.end_unit()
     }
 }

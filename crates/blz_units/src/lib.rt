@@ -14,6 +14,7 @@ pub mod known_roots;
 mod line_headers;
 pub mod long_entries;
 pub mod look;
+mod named_lists;
 mod packed_places;
 mod passed_list;
 mod range_chains;

@@ -1,13 +1,14 @@
 //! A list of ranges as far as it was read.
-ghost use Rattle.std.specs.Prelude.{◌≡◌, ◌++◌, OnOk};
+ghost use Rattle.std.specs.Prelude.{◌≡◌, ◌++◌, IfOk, OnOk};
 ghost use Rattle.std.specs.Option.{option_to_list};
 ghost use Rattle.blz_functions.specs.Opened.{open_view};
 ghost use Rattle.blz_model.specs.Part.{Exactly};
 ghost use Rattle.blz_info.specs.Marks.{or_invalid};
 ghost use Rattle.blz_functions.specs.Leaves.{UnitParts, entry_behind};
-ghost use Rattle.blz_units.specs.RangeChains.{IsPassed, PassesOne, ReadsOn};
+ghost use Rattle.blz_units.specs.RangeChains.{IsPassed, PassesOne, ReadsOn, TellsBefore};
 
-use crate::range_chains::RangeChains;
+use crate::named_lists::ListBegin;
+use crate::range_chains::{RangeChains, ToldRanges};
 use blz_entry::{RangeTail, Span};
 use blz_error::Result;
 use blz_functions::OpenUnit;
@@ -24,6 +25,8 @@ pub struct PassedEntry {
 #[derive(Drop)]
 pub struct PassedList {
     pub start: RangeTail,
+    /// Whether its base at the start is one of its own.
+    pub own: bool,
     pub entries: Vec<PassedEntry>,
     pub spans: Vec<Span>,
     pub rest: RangeTail,
@@ -47,16 +50,30 @@ fn put(out: &mut Vec<Span>, span: Option<Span>) -> std::result::Result<(), Alloc
 
 impl PassedList {
     /// A list of which nothing was read.
-    pub fn new(alloc: Global, start: RangeTail) -> PassedList
-        ensures start { result.start ≡ start }
+    pub fn new(alloc: Global, begin: ListBegin) -> PassedList
+        ensures start { result.start ≡ begin.tail }
         ensures passed { (u : UnitParts) → IsPassed u result }
     {
         PassedList {
-            start,
+            start: begin.tail,
+            own: begin.own,
             entries: Vec::new(alloc),
             spans: Vec::new(alloc),
-            rest: start,
+            rest: begin.tail,
         }
+    }
+
+    /// Where it begins.
+    pub fn begin(&self) -> ListBegin {
+        ListBegin {
+            tail: self.start,
+            own: self.own,
+        }
+    }
+
+    /// Whether it began with the base of its unit, and an entry has set one of its own.
+    pub fn has_own_base(&self) -> bool {
+        !self.own && self.rest.base != self.start.base
     }
 
     /// One entry more, with its range and the list behind it.
@@ -73,7 +90,7 @@ impl PassedList {
         Ok(())
     }
 
-    /// Reads on, up to a place or to a list that is known. Tells whether the list is over.
+    /// Reads on, up to a place, a list that is known, or the first entry behind a base of its own. Tells whether it is over.
     pub fn read_on(
         &mut self,
         chains: &RangeChains,
@@ -93,7 +110,26 @@ impl PassedList {
                 Ok(None) => return Ok(true),
                 Err(fault) => return Err(fault),
             };
+            if self.has_own_base() {
+                return Ok(false);
+            }
             self.pass(span, next)?;
+        }
+    }
+    /// What tells the list where its rest is told.
+    pub fn before(self, rest: ToldRanges) -> std::result::Result<ToldRanges, AllocError>
+        ensures { IfOk result (TellsBefore self rest) }
+    {
+        let mut spans = self.spans;
+        match rest {
+            ToldRanges::Read(behind) => {
+                spans.extend_from_slice(behind.as_slice())?;
+                Ok(ToldRanges::Read(spans))
+            },
+            ToldRanges::InChain(behind, place) => {
+                spans.extend_from_slice(behind.as_slice())?;
+                Ok(ToldRanges::InChain(spans, place))
+            },
         }
     }
 }

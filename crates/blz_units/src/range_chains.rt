@@ -1,6 +1,5 @@
 //! Lists of ranges of roots that run into one another: they end alike, and their ranges are kept once.
-ghost use Rattle.std.specs.Prelude.{◌≡◌, ◌<◌, ◌++◌, [], true, Some, IfOk, IfSome, length, reverse};
-ghost use Rattle.std.specs.List.{All};
+ghost use Rattle.std.specs.Prelude.{◌≡◌, ◌<◌, ◌++◌, [], true, IfOk, IfSome, length, reverse, OnOk};
 ghost use Rattle.blz_announced.specs.Units.{KeptRanges};
 ghost use Rattle.blz_entry.specs.RangeTails.{list_tail};
 ghost use Rattle.blz_functions.specs.Leaves.{ranges_in, spans_behind};
@@ -8,9 +7,10 @@ ghost use Rattle.blz_functions.specs.Opened.{open_view};
 ghost use Rattle.blz_info.specs.FileSections.{FileSections};
 ghost use Rattle.blz_info.specs.Marks.{or_invalid};
 ghost use Rattle.blz_model.specs.Part.{Gives};
-ghost use Rattle.blz_units.specs.RangeChains.{chain_at, AreChains, ArePieces, AreTold, HasRest, IsChainOf, IsInChain, IsLastIn, IsPassed, IsPlaced, IsReadTo, IsWholeChain, KeepsChains, KeepsPieces, MayTell, ReadsOn, TellsRanges};
+ghost use Rattle.blz_units.specs.RangeChains.{chain_at, AreChains, ArePieces, AreTold, Grow, HasLast, HasNoRest, IsChainOf, IsInChain, IsLastIn, IsNewBefore, IsPassed, IsReadTo, IsWholeChain, KeepsChains, KeepsPieces, MayBePut, MayTell, MayTellList, Puts, ReadsOn, TellsList, TellsRanges};
 ghost use Rattle.blz_units.specs.RootKeys.{tail_key};
 
+use crate::named_lists::{ListBegin, NamedLists};
 use crate::passed_list::{PassedEntry, PassedList};
 use crate::root_key::{ListKey, tail_key};
 use blz_entry::{RangeTail, Span};
@@ -19,11 +19,19 @@ use blz_functions::OpenUnit;
 use std::alloc::{AllocError, Global};
 use std::collections::BTreeMap;
 
-/// A list that has the last ranges of a chain, and how many these are.
+/// The last ranges of a chain, and how many these are.
 #[derive(Clone, Copy)]
 pub struct ChainPlace {
     pub chain: usize,
     pub count: usize,
+}
+
+/// A list that has the last ranges of a chain, and behind them the last ones of another: what units with bases of their
+/// own share stands in the second.
+#[derive(Clone, Copy)]
+pub struct ListPlace {
+    pub front: ChainPlace,
+    pub rest: ChainPlace,
 }
 
 /// What tells the ranges of a root.
@@ -31,17 +39,17 @@ pub struct ChainPlace {
 pub enum ToldRanges {
     /// They are read.
     Read(Vec<Span>),
-    /// Some are read, and behind them come the last ranges of a chain.
-    InChain(Vec<Span>, ChainPlace),
+    /// Some are read, and behind them come those of a list that is kept in chains.
+    InChain(Vec<Span>, ListPlace),
 }
 
 /// The lists of ranges with many entries that roots name, and the chains of those that run into one another.
 #[derive(Drop)]
 pub struct RangeChains {
-    /// Of each list that stands alone so far where its last entry lies.
-    named: BTreeMap<ListKey, u64>,
+    /// The lists that stand alone so far.
+    named: NamedLists,
     /// Where the list from each entry of a chain on stands.
-    places: BTreeMap<ListKey, ChainPlace>,
+    places: BTreeMap<ListKey, ListPlace>,
     /// The ranges of each chain, from the last to the first.
     pub(crate) chains: Vec<Vec<Span>>,
     /// The keepers of pieces that units announce.
@@ -59,12 +67,14 @@ pub struct ChainPiece {
 /// A list of no more entries is read anew each time: that takes less than to keep it.
 const FEW_ENTRIES: usize = 8;
 
-/// Whether two lists are read alike, wherever they begin.
-fn are_alike(left: &ListKey, right: &ListKey) -> bool {
-    left.version == right.version
-        && left.address_size == right.address_size
-        && left.low_pc == right.low_pc
-        && left.addr_base == right.addr_base
+fn no_ranges() -> ChainPlace
+    ensures { result.count ≡ 0 }
+{
+    ChainPlace { chain: 0, count: 0 }
+}
+
+fn is_short(list: &PassedList) -> bool {
+    list.entries.len() <= FEW_ENTRIES
 }
 
 /// Puts ranges behind others, from the last to the first.
@@ -95,27 +105,10 @@ impl RangeChains {
         ensures pieces { (ranges : KeptRanges) → ArePieces ranges result }
     {
         RangeChains {
-            named: BTreeMap::new(alloc),
+            named: NamedLists::new(alloc),
             places: BTreeMap::new(alloc),
             chains: Vec::new(alloc),
             pieces: BTreeMap::new(alloc),
-        }
-    }
-
-    /// The list that stands alone and within which another one may begin.
-    fn around(&self, key: ListKey) -> Option<ListKey> {
-        match self.named.range(..=key).next_back() {
-            Some((start, last)) if are_alike(start, &key) && key.offset <= *last => Some(*start),
-            _ => None,
-        }
-    }
-
-    /// The first list behind the begin of another one that stands alone.
-    fn next_above(&self, mut key: ListKey) -> Option<ListKey> {
-        key.offset = key.offset.saturating_add(1);
-        match self.named.range(key..).next() {
-            Some((start, _)) if are_alike(start, &key) => Some(*start),
-            _ => None,
         }
     }
 
@@ -125,7 +118,7 @@ impl RangeChains {
     }
 
     /// The list that begins at an entry of a chain.
-    fn find(&self, unit: &OpenUnit<'_, '_>, list: RangeTail) -> Option<ChainPlace>
+    fn find(&self, unit: &OpenUnit<'_, '_>, list: RangeTail) -> Option<ListPlace>
         ensures { (s : FileSections) → AreChains s self.now → IfSome result (IsInChain s self.now.chains.items (tail_key (open_view unit.now) list)) }
     {
         self.places.get(&tail_key(unit, list)).copied()
@@ -145,6 +138,7 @@ impl RangeChains {
     fn new_chain(&mut self, alloc: Global) -> std::result::Result<usize, AllocError>
         ensures within { IfOk result (λ chain. chain < length self.new.chains.items) }
         ensures empty { IfOk result (λ chain. chain_at self.new.chains.items chain ≡ []) }
+        ensures grow { IfOk result (λ _. Grow self.old.chains.items self.new.chains.items) }
         ensures kept { IfOk result (λ _. (s : FileSections) → KeepsChains s self.old self.new) }
     {
         let chain = self.chains.len();
@@ -156,12 +150,13 @@ impl RangeChains {
     fn extend(&mut self, chain: usize, spans: &[Span]) -> std::result::Result<(), AllocError>
         requires { chain < length self.old.chains.items }
         ensures grown { IfOk result (λ _. chain_at self.new.chains.items chain ≡ chain_at self.old.chains.items chain ++ reverse spans.now) }
+        ensures grow { IfOk result (λ _. Grow self.old.chains.items self.new.chains.items) }
         ensures kept { IfOk result (λ _. (s : FileSections) → KeepsChains s self.old self.new) }
     {
         put_back(&mut self.chains[chain], spans)
     }
 
-    fn put_place(&mut self, key: ListKey, place: ChainPlace) -> std::result::Result<(), AllocError>
+    fn put_place(&mut self, key: ListKey, place: ListPlace) -> std::result::Result<(), AllocError>
         ensures are { IfOk result (λ _. (s : FileSections) → IsInChain s self.old.chains.items key place → AreChains s self.old → AreChains s self.new) }
         ensures chains { IfOk result (λ _. self.new.chains.items ≡ self.old.chains.items) }
         ensures pieces { IfOk result (λ _. KeepsPieces self.old self.new) }
@@ -170,71 +165,95 @@ impl RangeChains {
         Ok(())
     }
 
-    /// Notes where the entries of a list lie in a chain that has some number of ranges once they are there.
+    /// Notes where the entries of a list lie that is put into a place.
     fn put_places(
         &mut self,
         unit: &OpenUnit<'_, '_>,
         entries: &[PassedEntry],
-        chain: usize,
-        len: usize,
+        place: ListPlace,
     ) -> std::result::Result<(), AllocError>
-        ensures are { IfOk result (λ _. (s : FileSections) → All (IsPlaced s (open_view unit.now) self.old.chains.items chain len) entries.now → AreChains s self.old → AreChains s self.new) }
+        ensures are { OnOk result (Puts (open_view unit.now) entries.now place self.old self.new) }
         ensures chains { IfOk result (λ _. self.new.chains.items ≡ self.old.chains.items) }
         ensures pieces { IfOk result (λ _. KeepsPieces self.old self.new) }
     {
         for entry in entries {
-            let count = len.saturating_sub(entry.before);
-            self.put_place(tail_key(unit, entry.tail), ChainPlace { chain, count })?;
+            let count = place.front.count.saturating_sub(entry.before);
+            let front = ChainPlace {
+                chain: place.front.chain,
+                count,
+            };
+            self.put_place(tail_key(unit, entry.tail), ListPlace { front, ..place })?;
         }
         Ok(())
     }
 
-    /// Puts a list behind a chain that has the ranges of its rest.
+    /// Puts a list into the chain that its rest has all ranges of.
     fn keep(
         &mut self,
         unit: &OpenUnit<'_, '_>,
         list: &PassedList,
-        chain: usize,
-    ) -> std::result::Result<ChainPlace, AllocError>
-        requires within { chain < length self.old.chains.items }
+        rest: ListPlace,
+    ) -> std::result::Result<ListPlace, AllocError>
         requires passed { IsPassed (open_view unit.now) list.now }
-        requires rest { HasRest (open_view unit.now) list.now (reverse (chain_at self.old.chains.items chain)) }
+        requires rest { IsChainOf self.old (spans_behind (open_view unit.now) list.now.rest) rest }
         ensures kept { IfOk result (λ _. KeepsChains (open_view unit.now).sections self.old self.new) }
         ensures place { IfOk result (IsLastIn self.new (spans_behind (open_view unit.now) list.now.start) []) }
     {
+        let chain = rest.front.chain;
         self.extend(chain, list.spans.as_slice())?;
         let count = self.len_of(chain);
-        self.put_places(unit, list.entries.as_slice(), chain, count)?;
-        Ok(ChainPlace { chain, count })
+        let front = ChainPlace { chain, count };
+        let place = ListPlace { front, ..rest };
+        self.put_places(unit, list.entries.as_slice(), place)?;
+        Ok(place)
     }
 
-    /// The chain that has the ranges of what is left of a list, and no more.
+    /// A new chain before some last ranges of another.
+    fn chain_before(
+        &mut self,
+        alloc: Global,
+        rest: ChainPlace,
+    ) -> std::result::Result<ListPlace, AllocError>
+        requires { HasLast self.old.chains.items rest }
+        ensures kept { IfOk result (λ _. (s : FileSections) → KeepsChains s self.old self.new) }
+        ensures chain { IfOk result (IsNewBefore self.old rest self.new) }
+    {
+        let chain = self.new_chain(alloc)?;
+        let front = ChainPlace { chain, count: 0 };
+        Ok(ListPlace { front, rest })
+    }
+
+    /// Where a list may be put before its rest: into the chain of that if it has no more, and else into a new one. Behind a
+    /// base of its own it is a new one, since other units share the rest.
     fn chain_of(
         &mut self,
         alloc: Global,
         unit: &OpenUnit<'_, '_>,
-        rest: RangeTail,
+        list: &PassedList,
         over: bool,
-    ) -> std::result::Result<Option<usize>, AllocError>
+    ) -> std::result::Result<Option<ListPlace>, AllocError>
         requires chains { AreChains (open_view unit.now).sections self.old }
-        requires over { over ≡ true → spans_behind (open_view unit.now) rest ≡ Some [] }
+        requires over { over ≡ true → HasNoRest (open_view unit.now) list.now }
         ensures kept { IfOk result (λ _. KeepsChains (open_view unit.now).sections self.old self.new) }
-        ensures chain { IfOk result (λ o. IfSome o (IsChainOf self.new (spans_behind (open_view unit.now) rest))) }
+        ensures chain { IfOk result (MayBePut (open_view unit.now) list.now self.new) }
     {
         if over {
-            return Ok(Some(self.new_chain(alloc)?));
+            return Ok(Some(self.chain_before(alloc, no_ranges())?));
         }
-        match self.find(unit, rest) {
-            Some(place) if self.is_whole(place) => Ok(Some(place.chain)),
+        match self.find(unit, list.rest) {
+            Some(place) if self.is_whole(place) && !list.has_own_base() => Ok(Some(place)),
+            Some(place) if place.rest.count == 0 && !is_short(list) => {
+                Ok(Some(self.chain_before(alloc, place.front)?))
+            },
             _ => Ok(None),
         }
     }
 
     /// Whether a place has all ranges of its chain.
-    fn is_whole(&self, place: ChainPlace) -> bool
+    fn is_whole(&self, place: ListPlace) -> bool
         ensures { result ≡ true → IsWholeChain self.now.chains.items place }
     {
-        place.chain < self.chains.len() && place.count == self.len_of(place.chain)
+        place.front.chain < self.chains.len() && place.front.count == self.len_of(place.front.chain)
     }
 
     /// What tells a list that runs into another one.
@@ -249,7 +268,7 @@ impl RangeChains {
         }
     }
 
-    /// Keeps a list that was read as one of a chain, where it runs into a whole one, and gives what tells it.
+    /// Keeps a list that was read as one of a chain, where there is one for it, and gives what tells it.
     fn join(
         &mut self,
         alloc: Global,
@@ -262,9 +281,9 @@ impl RangeChains {
         ensures kept { IfOk result (λ _. KeepsChains (open_view unit.now).sections self.old self.new) }
         ensures told { IfOk result (λ told. IfSome told (AreTold self.new (spans_behind (open_view unit.now) list.start))) }
     {
-        match self.chain_of(alloc, unit, list.rest, over)? {
-            Some(chain) => {
-                let place = self.keep(unit, &list, chain)?;
+        match self.chain_of(alloc, unit, &list, over)? {
+            Some(rest) => {
+                let place = self.keep(unit, &list, rest)?;
                 Ok(Some(ToldRanges::InChain(Vec::new(alloc), place)))
             },
             None => Ok(self.behind(unit, list)),
@@ -276,17 +295,13 @@ impl RangeChains {
         &mut self,
         alloc: Global,
         unit: &OpenUnit<'_, '_>,
-        key: ListKey,
+        begin: ListBegin,
     ) -> std::result::Result<(), AllocError>
         requires { AreChains (open_view unit.now).sections self.old }
         ensures { IfOk result (λ _. KeepsChains (open_view unit.now).sections self.old self.new) }
     {
-        self.named.remove(&key);
-        let start = RangeTail {
-            place: key.offset as usize,
-            base: key.low_pc,
-        };
-        let mut list = PassedList::new(alloc, start);
+        self.named.forget(unit, begin);
+        let mut list = PassedList::new(alloc, begin);
         match list.read_on(self, unit, None) {
             Ok(over) => {
                 self.join(alloc, unit, list, over)?;
@@ -297,25 +312,42 @@ impl RangeChains {
         }
     }
 
-    /// Notes that a list was read to its end.
-    fn note(
+    /// Keeps the list that stands alone around the begin of another one.
+    fn chain_around(
         &mut self,
+        alloc: Global,
         unit: &OpenUnit<'_, '_>,
-        list: &PassedList,
+        begin: ListBegin,
     ) -> std::result::Result<(), AllocError>
-        ensures { IfOk result (λ _. (s : FileSections) → KeepsChains s self.old self.new) }
+        requires { AreChains (open_view unit.now).sections self.old }
+        ensures { OnOk result (KeepsChains (open_view unit.now).sections self.old self.new) }
     {
-        if list.entries.len() <= FEW_ENTRIES {
-            return Ok(());
+        match self.named.around(unit, begin) {
+            Some(named) => self.chain_named(alloc, unit, named),
+            None => Ok(()),
         }
-        if let Some(last) = list.entries.as_slice().last() {
-            self.named
-                .insert(tail_key(unit, list.start), last.tail.place as u64)?;
-        }
-        Ok(())
     }
 
-    /// Reads a list up to its end, or to one that is known once the next list that stands alone is kept.
+    /// What tells a list that was read to its end, which is noted if it has more than a few entries.
+    fn tell_read(
+        &mut self,
+        unit: &OpenUnit<'_, '_>,
+        list: PassedList,
+        few: usize,
+    ) -> std::result::Result<ToldRanges, AllocError>
+        requires { IsReadTo (open_view unit.now) list true }
+        ensures kept { IfOk result (λ _. (s : FileSections) → KeepsChains s self.old self.new) }
+        ensures told { IfOk result (TellsList (open_view unit.now) list.start self.new) }
+    {
+        if list.entries.len() > few {
+            if let Some(last) = list.entries.as_slice().last() {
+                self.named.note(unit, list.begin(), last.tail.place)?;
+            }
+        }
+        Ok(ToldRanges::Read(list.spans))
+    }
+
+    /// Reads a list up to its end, to one that is known once the next that stands alone is kept, or behind a base of its own.
     fn read_list(
         &mut self,
         alloc: Global,
@@ -328,42 +360,84 @@ impl RangeChains {
         ensures value { ReadsOn (open_view unit.now) list.old list.new result }
         ensures start { list.new.start ≡ list.old.start }
     {
-        let Some(next) = self.next_above(tail_key(unit, list.start)) else {
+        let Some(next) = self.named.next_above(unit, list.begin()) else {
             return list.read_on(self, unit, None);
         };
-        if list.read_on(self, unit, Some(next.offset))? {
+        let place = next.tail.place;
+        if list.read_on(self, unit, Some(place as u64))? {
             return Ok(true);
         }
-        if list.rest.place as u64 != next.offset {
+        if list.rest.place != place {
             return Ok(false);
         }
         self.chain_named(alloc, unit, next)?;
         list.read_on(self, unit, None)
     }
 
-    /// What tells the ranges of a list, where they are not read whole.
-    fn tell(
+    /// What tells a list that is known, once the list that stands alone around it is kept.
+    fn tell_known(
         &mut self,
         alloc: Global,
         unit: &OpenUnit<'_, '_>,
-        start: RangeTail,
+        begin: ListBegin,
+    ) -> std::result::Result<Option<ToldRanges>, AllocError>
+        requires chains { AreChains (open_view unit.now).sections self.old }
+        ensures kept { OnOk result (KeepsChains (open_view unit.now).sections self.old self.new) }
+        ensures told { IfOk result (MayTellList (open_view unit.now) begin.tail self.new) }
+    {
+        self.chain_around(alloc, unit, begin)?;
+        match self.find(unit, begin.tail) {
+            Some(place) => Ok(Some(ToldRanges::InChain(Vec::new(alloc), place))),
+            None => Ok(None),
+        }
+    }
+
+    /// What tells a list whose base is one of its own from the start.
+    fn tell_own(
+        &mut self,
+        alloc: Global,
+        unit: &OpenUnit<'_, '_>,
+        tail: RangeTail,
+        few: usize,
     ) -> Result<Option<ToldRanges>>
         requires chains { AreChains (open_view unit.now).sections self.old }
-        ensures kept { IfOk result (λ _. KeepsChains (open_view unit.now).sections self.old self.new) }
-        ensures told { MayTell self.new (spans_behind (open_view unit.now) start) result }
+        ensures kept { OnOk result (KeepsChains (open_view unit.now).sections self.old self.new) }
+        ensures told { MayTell self.new (spans_behind (open_view unit.now) tail) result }
     {
-        if let Some(place) = self.find(unit, start) {
-            return Ok(Some(ToldRanges::InChain(Vec::new(alloc), place)));
+        let begin = ListBegin { tail, own: true };
+        if let Some(told) = self.tell_known(alloc, unit, begin)? {
+            return Ok(Some(told));
         }
-        let mut list = PassedList::new(alloc, start);
+        let mut list = PassedList::new(alloc, begin);
         if self.read_list(alloc, unit, &mut list)? {
-            self.note(unit, &list)?;
-            return Ok(Some(ToldRanges::Read(list.spans)));
+            return Ok(Some(self.tell_read(unit, list, few)?));
         }
         Ok(self.join(alloc, unit, list, false)?)
     }
 
-    /// What tells the ranges of the list at an offset, once the list that stands alone around it is kept.
+    /// What tells a list that was read up to a base of its own: what stands behind it is the same for all units.
+    fn tell_before(
+        &mut self,
+        alloc: Global,
+        unit: &OpenUnit<'_, '_>,
+        list: PassedList,
+    ) -> Result<Option<ToldRanges>>
+        requires chains { AreChains (open_view unit.now).sections self.old }
+        requires passed { IsPassed (open_view unit.now) list }
+        ensures kept { OnOk result (KeepsChains (open_view unit.now).sections self.old self.new) }
+        ensures told { MayTell self.new (spans_behind (open_view unit.now) list.start) result }
+    {
+        let few = FEW_ENTRIES.saturating_sub(list.entries.len());
+        let Some(rest) = self.tell_own(alloc, unit, list.rest, few)? else {
+            return Ok(None);
+        };
+        if self.knows(unit, list.rest) {
+            return Ok(self.join(alloc, unit, list, false)?);
+        }
+        Ok(Some(list.before(rest)?))
+    }
+
+    /// What tells the ranges of the list at an offset, where they are not read whole.
     fn tell_list(
         &mut self,
         alloc: Global,
@@ -374,11 +448,19 @@ impl RangeChains {
         ensures kept { IfOk result (λ _. KeepsChains (open_view unit.now).sections self.old self.new) }
         ensures told { MayTell self.new (spans_behind (open_view unit.now) (list_tail unit.now.root offset)) result }
     {
-        let start = RangeTail::at(&unit.root, offset);
-        if let Some(named) = self.around(tail_key(unit, start)) {
-            self.chain_named(alloc, unit, named)?;
+        let tail = RangeTail::at(&unit.root, offset);
+        let begin = ListBegin { tail, own: false };
+        if let Some(told) = self.tell_known(alloc, unit, begin)? {
+            return Ok(Some(told));
         }
-        self.tell(alloc, unit, start)
+        let mut list = PassedList::new(alloc, begin);
+        if self.read_list(alloc, unit, &mut list)? {
+            return Ok(Some(self.tell_read(unit, list, FEW_ENTRIES)?));
+        }
+        if list.has_own_base() {
+            return self.tell_before(alloc, unit, list);
+        }
+        Ok(self.join(alloc, unit, list, false)?)
     }
 
     /// What tells the ranges of the root of a unit. InvalidDwarf exactly where they have no value.

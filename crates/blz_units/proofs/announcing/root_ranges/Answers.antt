@@ -2,6 +2,7 @@ use Rattle.std.proofs.Common.{◌≡◌, ◌<◌, ◌+◌, length, rules, sym, v
 use Rattle.std.proofs.lemmas.Bool.{eqb-false}
 use Rattle.std.proofs.lemmas.Result.{err_from_is_err_and}
 use Rattle.blz_functions.specs.Opened.{open_view}
+use Rattle.blz_units.specs.RangeChains.{count_in}
 use Rattle.blz_units.proofs.RootKeys.{ranges_tell}
 use Rattle.blz_units.proofs.RootTold.{none_in_chain, root_by_ranges, root_fails, root_in_chain}
 use Rattle.blz_units.proofs.announcing.root_ranges.Goals as goal
@@ -26,13 +27,15 @@ returns-else-has_none-clause-value c =
     let u = open_view c.args.unit.now in
     let front = c.in-InChain.front in
     let told = rw c.in-InChain.is at c.in_ok-spans.ensures.told in
-    let some : 0 < length front.items + c.in-InChain.place.count = rw (← c.as_slice.ensures.value) (c.has_none.ensures.some c.if-has_none.false) in
-    root_in_chain u _ front.items c.in-InChain.place told some
+    let place = c.in-InChain.place in
+    let some : 0 < length front.items + count_in place = rw (← c.as_slice.ensures.value) (c.has_none.ensures.some c.if-has_none.false) in
+    root_in_chain u _ front.items place told some
 
 pub ranges_by_lines-requires-then-has_none-clause-none : goal.ranges_by_lines-requires-then-has_none-clause-none
 ranges_by_lines-requires-then-has_none-clause-none c =
     let u = open_view c.args.unit.now in
     let front = c.in-InChain.front in
     let told = rw c.in-InChain.is at c.in_ok-spans.ensures.told in
-    let none : (length front.items ≡ 0) × (c.in-InChain.place.count ≡ 0) = rw (← c.as_slice.ensures.value) (c.has_none.ensures.none c.if-has_none.true) in
-    none_in_chain u _ front.items c.in-InChain.place told none.0 none.1
+    let place = c.in-InChain.place in
+    let none : length front.items + count_in place ≡ 0 = rw (← c.as_slice.ensures.value) (c.has_none.ensures.none c.if-has_none.true) in
+    none_in_chain u _ front.items place told (omega (arith, none)) (omega (arith, none)) (omega (arith, none))

@@ -6,4 +6,4 @@ pub returns-clause-passed : goal.returns-clause-passed
 returns-clause-passed c = λ u is h.
     let old = c.args.self.now in
     let before : vec_len old.spans ≡ length old.spans.items = search rules in
-    passed_more u old (record { start = old.start; entries = c.push.new.self; spans = c.put.new.out; rest = c.args.next }) c.args.span c.args.next c.len-before.result (c.len-before.ensures ∙ before) refl refl c.in_ok-put.ensures c.in_ok-push.ensures.items is h
+    passed_more u old (record { start = old.start; own = old.own; entries = c.push.new.self; spans = c.put.new.out; rest = c.args.next }) c.args.span c.args.next c.len-before.result (c.len-before.ensures ∙ before) refl refl c.in_ok-put.ensures c.in_ok-push.ensures.items is h

@@ -4,7 +4,7 @@ use Rattle.std.specs.declared.alloc.Global.{Global}
 use Rattle.std.specs.declared.vec.Vec.{Vec}
 use Rattle.blz_announced.specs.Units.{IsWithPart}
 use Rattle.blz_ranges.specs.declared.span.Span.{Span}
-use Rattle.blz_units.specs.RangeChains.{chain_at, list_in, piece_in}
+use Rattle.blz_units.specs.RangeChains.{chain_at, last_in, piece_in}
 use Rattle.blz_units.proofs.ChainPieces.{piece_put}
 use Rattle.blz_units.proofs.range_chains.RangeChains.put_pieces.Goals as goal
 
@@ -19,7 +19,7 @@ loop-left-preserved c =
     let below = k.within in
     let part : IsWithPart c.loop-left.ranges (reverse (take len (drop start (chain_at chains c.args.place.chain)))) c.in_ok-ranges.ranges = subst (λ (v : Vec (Vec Span Global) Global). IsWithPart c.loop-left.ranges (piece_in v.items (record { chain = c.args.place.chain; start = start; len = len })) c.in_ok-ranges.ranges) k.chains e.part in
     record {
-      put = piece_put c.args.ranges c.loop-left.ranges c.in_ok-ranges.ranges (list_in chains c.args.place) (chain_at chains c.args.place.chain) c.loop-left.left start len (omega arith) k.put part;
+      put = piece_put c.args.ranges c.loop-left.ranges c.in_ok-ranges.ranges (last_in chains c.args.place) (chain_at chains c.args.place.chain) c.loop-left.left start len (omega arith) k.put part;
       pieces = e.pieces;
       within = omega arith;
       chains = c.put_piece.ensures.chains ∙ k.chains;
