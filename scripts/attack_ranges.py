@@ -255,22 +255,61 @@ def tails_at_each_byte_of_a_range_list(n):
     return functions_of_tails(bytes([DW_RLE_START_LENGTH]) * n + bytes(10), range(n))
 
 
+def ranges_of_bases(n, each):
+    """Ranges, with a base before the first of each so many: of the lists from an entry on, most begin behind that."""
+    lists = []
+    for k in range(n):
+        if k % each == 0:
+            lists.append(based(BASE + 4 * k))
+        lists.append(offset_pair(4 * (k % each), 4 * (k % each) + 1))
+    return lists
+
+
 @shape
 def tails_of_a_range_list_with_bases(n):
-    # each range with its base before it; half of the lists begin behind that
-    lists = [part for k in range(n) for part in (based(BASE + 4 * k), offset_pair(1, 2))]
+    lists = ranges_of_bases(n, 1)
     return functions_of_tails(b"".join(lists), begins_of(lists))
 
 
 @shape
 def tails_of_a_range_list_of_some_bases_the_shortest_first(n):
-    # a base before every twentieth range
-    lists = []
-    for k in range(n):
-        if k % 20 == 0:
-            lists.append(based(BASE + 4 * k))
-        lists.append(offset_pair(4 * (k % 20), 4 * (k % 20) + 1))
+    lists = ranges_of_bases(n, 20)
     return functions_of_tails(b"".join(lists), reversed(begins_of(lists)))
+
+
+@shape
+def tails_of_a_range_list_with_bases_that_another_unit_named(n):
+    lists = ranges_of_bases(n, 1)
+    shapes = {ROOT: root(RANGE, 1), FUNCTION: subprogram(RANGES)}
+    data, first = range_lists(b"".join(lists) + b"\0")
+    functions = [entry(shapes, FUNCTION, first + begin) for begin in begins_of(lists)]
+    other = unit(entry(shapes, ROOT, BASE, 4) + functions[0] + b"\0")
+    units = other + unit(entry(shapes, ROOT, BASE + 4, 0x10000) + b"".join(functions) + b"\0")
+    return Attack(dwarf(shapes, units, rnglists=data), [BASE + 5])
+
+
+@shape
+def tails_of_a_range_list_with_bases_of_calls(n):
+    lists = ranges_of_bases(n, 1)
+    return calls_of_tails(b"".join(lists), begins_of(lists), 0)
+
+
+@shape
+def tails_of_a_range_list_with_bases_of_calls_within_one_another(n):
+    lists = ranges_of_bases(n, 1)
+    return calls_of_tails(b"".join(lists), begins_of(lists), 1)
+
+
+@shape
+def tails_of_a_range_list_with_bases_of_a_call_of_each_function(n):
+    lists = ranges_of_bases(n, 1)
+    return calls_of_each_function(b"".join(lists), [[begin] for begin in begins_of(lists)])
+
+
+@shape
+def tails_of_a_range_list_of_some_bases_of_a_call_of_each_function(n):
+    lists = ranges_of_bases(n, 12)
+    return calls_of_each_function(b"".join(lists), [[begin] for begin in begins_of(lists)])
 
 
 @shape
@@ -407,6 +446,37 @@ def tails_of_a_range_list_within_one_another_of_units(n):
     return units_of_tails(lists, begins_of(lists), BASE + n)
 
 
+def units_of_each_base(lists, begins):
+    """A unit with a base of its own for each of some offsets within a list."""
+    shapes = {ROOT: root([(DW_AT_LOW_PC, DW_FORM_ADDR), *RANGES], 0)}
+    data, first = range_lists(b"".join(lists) + b"\0")
+    units = [unit(entry(shapes, ROOT, BASE + 4 * k, first + begin)) for k, begin in enumerate(begins)]
+    return Attack(dwarf(shapes, b"".join(units), rnglists=data), [BASE + 1])
+
+
+def each_behind_its_base(n):
+    return [part for k in range(n) for part in (based(BASE + 4 * k), offset_pair(1, 2))]
+
+
+@shape
+def one_range_list_of_units_with_a_front_of_each_base(n):
+    # one range counts from the base of the unit, and the others are the same for all units
+    return units_of_each_base([offset_pair(1, 2), based(BASE), pairs(n)], [0] * n)
+
+
+@shape
+def tails_of_a_range_list_with_bases_of_units_of_each_base(n):
+    # the first range of each list counts from the base of the unit
+    lists = each_behind_its_base(n)
+    return units_of_each_base(lists, begins_of(lists)[1::2])
+
+
+@shape
+def tails_of_a_range_list_with_bases_of_units_of_each_base_the_shortest_first(n):
+    lists = each_behind_its_base(n)
+    return units_of_each_base(lists, reversed(begins_of(lists)[1::2]))
+
+
 @shape
 def one_range_list_of_a_function_of_each_unit(n):
     # each unit is asked once
@@ -436,6 +506,16 @@ def one_range_list_of_a_function_of_each_unit_without_a_base(n):
     return asked_units(n, lambda shapes, first, begin, k: entry(shapes, FUNCTION, first), pairs(n, BASE))
 
 
+def one_range_before_a_base(n):
+    """A range that counts from the base of its unit, and many behind a base of their own."""
+    return offset_pair(1, 2) + based(BASE) + pairs(n)
+
+
+@shape
+def one_range_list_of_a_function_of_each_unit_behind_a_range_of_its_own(n):
+    return asked_units(n, lambda shapes, first, begin, k: entry(shapes, FUNCTION, first), one_range_before_a_base(n), True)
+
+
 def one_call(shapes, first, begin, k):
     return entry(shapes, OUTER, begin, 4) + entry(shapes, CALL, first) + b"\0"
 
@@ -449,6 +529,11 @@ def one_range_list_of_a_call_of_each_unit_without_a_base(n):
 def one_range_list_of_a_call_of_each_unit(n):
     # the offsets of the list count from another base in each unit
     return asked_units(n, one_call, pairs(n), True)
+
+
+@shape
+def one_range_list_of_a_call_of_each_unit_behind_a_range_of_its_own(n):
+    return asked_units(n, one_call, one_range_before_a_base(n), True)
 
 
 @shape
