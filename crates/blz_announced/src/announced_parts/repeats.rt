@@ -171,6 +171,39 @@ impl AnnouncedParts {
         }
     }
 
+    /// The part of the next range behind those of a part, if that is seen and begins alike.
+    fn own_behind<L: Ledger>(
+        &self,
+        asked: Asked,
+        part: usize,
+        begin: u64,
+        steps: &mut Steps<L>,
+    ) -> Option<usize>
+        ensures later { steps.old ≤ steps.new }
+    {
+        let end = number_at(self.keepers.ends.as_slice(), part)?;
+        let last = end.checked_sub(1)?;
+        let next = self.next_begun(asked.addr, begin, last, steps)?;
+        self.alike_of(asked, begin, next, steps)
+    }
+
+    /// How many of these parts stand up to the one with the next range of its own that begins alike, which comes before those
+    /// behind it.
+    fn count_before<L: Ledger>(
+        &self,
+        asked: Asked,
+        part: usize,
+        begin: u64,
+        steps: &mut Steps<L>,
+    ) -> usize
+        ensures later { steps.old ≤ steps.new }
+    {
+        match self.own_behind(asked, part, begin, steps) {
+            Some(own) => self.keepers.repeats_to(own),
+            None => self.keepers.repeats.as_slice().len(),
+        }
+    }
+
     /// How many of these parts are asked one after the other before all ranges that begin at a number are gone through: as
     /// many as begin there, where these are few, and else the root of the number of all parts.
     fn count_near<L: Ledger>(&self, asked: Asked, begin: u64, steps: &mut Steps<L>) -> usize
@@ -186,8 +219,25 @@ impl AnnouncedParts {
         self.keepers.repeats.as_slice().len().isqrt()
     }
 
-    /// Asks some of the next of these parts one after the other. So where n of them stand behind a part, all ranges that
-    /// begin there are gone through no more often than the root of n, or are few.
+    /// How many of these parts are asked where some are left.
+    fn count_asked<L: Ledger>(
+        &self,
+        asked: Asked,
+        begin: u64,
+        left: usize,
+        steps: &mut Steps<L>,
+    ) -> usize
+        ensures later { steps.old ≤ steps.new }
+    {
+        if left <= FEW_ALIKE {
+            left
+        } else {
+            left.min(self.count_near(asked, begin, steps))
+        }
+    }
+
+    /// Asks some of the next of these parts one after the other, up to the next range of its own. So where n of them stand
+    /// behind a part, all ranges that begin there are gone through no more often than the root of n, or are few.
     pub(crate) fn near_repeat<L: Ledger>(
         &self,
         asked: Asked,
@@ -203,7 +253,8 @@ impl AnnouncedParts {
         if from == repeats.len() {
             return Near::NoneLeft;
         }
-        let most = self.count_near(asked, begin, steps);
+        let last = self.count_before(asked, part, begin, steps);
+        let most = self.count_asked(asked, begin, last.saturating_sub(from), steps);
         let end = from + (repeats.len() - from).min(most);
         for at in from..end {
             let repeat = repeats[at];
