@@ -11,6 +11,7 @@ use Rattle.blz_units.specs.contracts.shared_lines.LinesKeyOrd.TheImpl as lines
 use Rattle.blz_units.specs.contracts.shared_lists.ListsPlaceOrd.TheImpl as places
 use Rattle.blz_units.specs.declared.root_key.RangesKey.TheVariants.{Listed, Bounded, Unbounded}
 use Rattle.blz_units.specs.declared.root_key.RootKey.TheVariants.{ByRanges, ByLines}
+use Rattle.blz_units.specs.declared.shared_lines.ProgramKey.{ProgramKey}
 use Rattle.blz_units.specs.declared.shared_lists.ListsPlace.TheVariants.{InFile, InPiece, InSup}
 
 both : (a b : Ordering) → ordering_then a b ≡ Equal → (a ≡ Equal) × (b ≡ Equal)
@@ -110,15 +111,9 @@ exact_program x y e =
 
 pub exact_root : CmpEqualImpliesEq root_cmp
 exact_root (ByRanges x) (ByRanges y) e = ap ByRanges (exact_ranges x y e)
-exact_root (ByRanges x) (ByLines y q) e = absurd cc
-exact_root (ByLines x p) (ByRanges y) e = absurd cc
-exact_root (ByLines x None) (ByLines y None) e =
-    let same = exact_ranges x y (both (ranges.ghosts.cmp x y) _ e).0 in
-    λ i. ByLines (same i) None
-exact_root (ByLines x None) (ByLines y (Some q)) e = let behind = both (ranges.ghosts.cmp x y) _ e in absurd cc
-exact_root (ByLines x (Some p)) (ByLines y None) e = let behind = both (ranges.ghosts.cmp x y) _ e in absurd cc
-exact_root (ByLines x (Some p)) (ByLines y (Some q)) e =
-    let first = both (ranges.ghosts.cmp x y) _ e in
-    let same = exact_ranges x y first.0 in
-    let lines = exact_program p q first.1 in
-    λ i. ByLines (same i) (Some (lines i))
+exact_root (ByRanges x) (ByLines q) e = absurd cc
+exact_root (ByLines p) (ByRanges y) e = absurd cc
+exact_root (ByLines None) (ByLines None) e = refl
+exact_root (ByLines None) (ByLines (Some q)) e = absurd cc
+exact_root (ByLines (Some p)) (ByLines None) e = absurd cc
+exact_root (ByLines (Some p)) (ByLines (Some q)) e = ap (λ (k : ProgramKey). ByLines (Some k)) (exact_program p q e)

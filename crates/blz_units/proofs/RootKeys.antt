@@ -107,16 +107,11 @@ sequences_same u v at e = lines_by_same u v u.root.line v.root.line at e
 abbrev or_lines : UnitParts → Option (List Span) → Option (List Span)
 or_lines u o = o >>= λ spans. Some (or_sequences u spans)
 
-or_same : (u v : UnitParts) (o : Option (List Span)) → sequences_of (lines_in v) ≡ sequences_of (lines_in u) → or_lines v o ≡ or_lines u o
-or_same u v None e = refl
-or_same u v (Some []) e = ap (λ (l : List Span). Some l) e
-or_same u v (Some (s ∷ spans)) e = refl
-
 -- a root with a range is told by its ranges
 pub ranges_tell : (u : UnitParts) (spans : List Span) → ranges_in u u.root.ranges ≡ Some spans → 0 < length spans → IsKeyOf u (ByRanges (ranges_key u))
 ranges_tell u [] is some = absurd (omega arith)
 ranges_tell u (x ∷ spans) is some = λ v at told. ap (or_lines v) (ranges_same u v at told ∙ is) ∙ sym (ap (or_lines u) is)
 
--- and each by its ranges and its lines
-pub lines_tell : (u : UnitParts) → IsKeyOf u (ByLines (ranges_key u) (program_key u))
-lines_tell u = λ v at told. ap (or_lines v) (ranges_same u v at told.0) ∙ or_same u v (ranges_in u u.root.ranges) (sequences_same u v at told.1)
+-- and one without by its lines
+pub lines_tell : (u : UnitParts) → ranges_in u u.root.ranges ≡ Some [] → IsKeyOf u (ByLines (program_key u))
+lines_tell u none = λ v at told. ap (or_lines v) told.0 ∙ (ap (λ (l : List Span). Some l) (sequences_same u v at told.1) ∙ sym (ap (or_lines u) none))

@@ -19,6 +19,7 @@ use Rattle.blz_units.specs.RangeChains.{chain_at, count_in, last_in, HasLast, Is
 use Rattle.blz_units.specs.RootKeys.{AreSpansOf, IsKeyOf}
 use Rattle.blz_units.specs.UnitTables.{by_root, lines_in, or_sequences, root_spans, sequences_of}
 use Rattle.blz_units.specs.declared.announcing.RootRanges.{RootRanges}
+use Rattle.blz_units.specs.declared.known_roots.KnownRoots.{KnownRoots}
 use Rattle.blz_units.specs.declared.range_chains.ChainPlace.{ChainPlace}
 use Rattle.blz_units.specs.declared.range_chains.ListPlace.{ListPlace}
 use Rattle.blz_units.specs.declared.range_chains.RangeChains.{RangeChains}
@@ -69,9 +70,9 @@ none_in_chain u c front place h empty none no_rest =
     let chains = c.chains.items in
     h.is ∙ (λ i. Some (empty_list front empty i ++ (reverse (take (none i) (chain_at chains place.front.chain)) ++ reverse (take (no_rest i) (chain_at chains place.rest.chain)))))
 
-pub told_by_lines : (u : UnitParts) (c : RangeChains) (r : Result RootRanges Fault) → MatchResult r (IsToldByLines u) (λ e. e.kind ≡ OutOfMemory) → TellsRoot u c r
-told_by_lines u c (Ok told) h = h c
-told_by_lines u c (Err e) h = λ ne. absurd (ne h)
+pub told_by_lines : (u : UnitParts) (roots : KnownRoots) (c : RangeChains) (r : Result RootRanges Fault) → MatchResult r (IsToldByLines u roots) (λ e. e.kind ≡ OutOfMemory) → TellsRoot u roots c r
+told_by_lines u roots c (Ok told) h = h c
+told_by_lines u roots c (Err e) h = λ ne. absurd (ne h)
 
 -- ---- a unit that is built
 

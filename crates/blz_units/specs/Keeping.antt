@@ -17,7 +17,7 @@ use Rattle.blz_units.specs.UnitTables.{KeptUnits, by_root, root_spans}
 use Rattle.blz_units.specs.declared.announcing.Announcement.{Announcement}
 use Rattle.blz_units.specs.declared.announcing.Announcement.TheVariants.{NotKept, Again, Ranges, InChain}
 use Rattle.blz_units.specs.declared.announcing.RootRanges.{RootRanges}
-use Rattle.blz_units.specs.declared.announcing.RootRanges.TheVariants.{Spans, Chained}
+use Rattle.blz_units.specs.declared.announcing.RootRanges.TheVariants.{Known, Spans, Chained}
 use Rattle.blz_units.specs.declared.range_chains.ListPlace.{ListPlace}
 use Rattle.blz_units.specs.declared.range_chains.RangeChains.{RangeChains}
 use Rattle.blz_units.specs.declared.known_roots.KnownRanges.{KnownRanges}
@@ -67,16 +67,17 @@ IsToldOr s roots chains announced (Err e) = Fails e.kind (or_invalid announced)
 -- ---- what is told of a root
 
 -- What is told of a root is what its unit announces, and a key with it tells the same of each unit.
-abbrev pub IsRootTold : UnitParts → RangeChains → RootRanges → Type 0
-IsRootTold u chains (Spans spans key) = (root_spans u ≡ Some spans.items) × IsKeyOf u key
-IsRootTold u chains (Chained front place) = IsLastIn chains (root_spans u) front.items place
+abbrev pub IsRootTold : UnitParts → KnownRoots → RangeChains → RootRanges → Type 0
+IsRootTold u roots chains (Known known) = IsKnown roots known × IsToldBy known.key u
+IsRootTold u roots chains (Spans spans key) = (root_spans u ≡ Some spans.items) × IsKeyOf u key
+IsRootTold u roots chains (Chained front place) = IsLastIn chains (root_spans u) front.items place
 
-abbrev pub TellsRoot : UnitParts → RangeChains → Result RootRanges Fault → Type 0
-TellsRoot u chains result = MatchResult result (IsRootTold u chains) (λ e. Fails e.kind (or_invalid (root_spans u)))
+abbrev pub TellsRoot : UnitParts → KnownRoots → RangeChains → Result RootRanges Fault → Type 0
+TellsRoot u roots chains result = MatchResult result (IsRootTold u roots chains) (λ e. Fails e.kind (or_invalid (root_spans u)))
 
 -- So it is told by lines, whatever the chains are.
-abbrev pub IsToldByLines : UnitParts → RootRanges → Type 0
-IsToldByLines u told = (chains : RangeChains) → IsRootTold u chains told
+abbrev pub IsToldByLines : UnitParts → KnownRoots → RootRanges → Type 0
+IsToldByLines u roots told = (chains : RangeChains) → IsRootTold u roots chains told
 
 -- ---- the units so far
 

@@ -1,9 +1,9 @@
 -- By what the root of a unit tells what the unit announces: as little of the unit as that depends on.
-use Rattle.std.specs.Prelude.{◌≡◌, ℕ, List, Option, Some, None, option_map}
+use Rattle.std.specs.Prelude.{◌≡◌, ℕ, List, [], Option, Some, None, option_map}
 use Rattle.std.specs.declared.cmp.Ordering.{Ordering}
 use Rattle.blz_entry.specs.RangeLists.{bounds_of, not_empty}
 use Rattle.blz_entry.specs.declared.range_tail.RangeTail.{RangeTail}
-use Rattle.blz_functions.specs.Leaves.{UnitParts, spans_behind}
+use Rattle.blz_functions.specs.Leaves.{UnitParts, ranges_in, spans_behind}
 use Rattle.blz_info.specs.FileSections.{FileSections}
 use Rattle.blz_ranges.specs.declared.span.Span.{Span}
 use Rattle.blz_units.specs.declared.root_key.ListKey.{ListKey}
@@ -74,10 +74,10 @@ program_key u = option_map (program_at u) u.root.line
 abbrev pub root_cmp : RootKey → RootKey → Ordering
 root_cmp = order.ghosts.cmp
 
--- A key tells what a unit announces; a unit with ranges is not asked for its line program.
+-- A key tells what a unit announces: what tells its ranges where it has some, and its line program where it has none.
 abbrev pub IsToldBy : RootKey → UnitParts → Type 0
 IsToldBy (ByRanges ranges) u = ranges ≡ ranges_key u
-IsToldBy (ByLines ranges program) u = (ranges ≡ ranges_key u) × (program ≡ program_key u)
+IsToldBy (ByLines program) u = (ranges_in u u.root.ranges ≡ Some []) × (program ≡ program_key u)
 
 -- Each unit of the same sections that is told by a key announces what the unit does.
 abbrev pub IsKeyOf : UnitParts → RootKey → Type 0

@@ -1,5 +1,5 @@
 //! What a unit announces.
-ghost use Rattle.std.specs.Prelude.{◌≡◌, ◌≢◌, ◌+◌, ◌<◌, ◌++◌, [], true, false, length, Option, Some, IfOk, MatchResult, OnOk, IfSome, option_map};
+ghost use Rattle.std.specs.Prelude.{◌≡◌, ◌≢◌, ◌+◌, ◌<◌, ◌++◌, [], true, false, length, Option, Some, IfOk, MatchResult, OnOk, option_map};
 ghost use Rattle.blz_error.specs.declared.kind.ErrorKind.TheVariants.{OutOfMemory};
 ghost use Rattle.blz_model.specs.Part.{Good, Gives};
 ghost use Rattle.blz_info.specs.Marks.{or_invalid};
@@ -9,9 +9,8 @@ ghost use Rattle.blz_units.specs.BuiltUnits.{built, built_view, files_view, Buil
 ghost use Rattle.blz_units.specs.KeptParts.{IsPartOf};
 ghost use Rattle.blz_functions.specs.Leaves.{ranges_in};
 ghost use Rattle.blz_functions.specs.Opened.{open_view};
-ghost use Rattle.blz_units.specs.Keeping.{HasPartOf, IsKnown, IsToldByLines, IsToldOr, TellsRoot};
+ghost use Rattle.blz_units.specs.Keeping.{HasPartOf, IsToldByLines, IsToldOr, TellsRoot};
 ghost use Rattle.blz_units.specs.RangeChains.{count_in, AreChains, KeepsChains};
-ghost use Rattle.blz_units.specs.RootKeys.{IsToldBy};
 ghost use Rattle.blz_units.specs.Sharing.{AreShared};
 ghost use Rattle.blz_units.specs.declared.dwarf.Origin.TheVariants.{Main};
 ghost use Rattle.blz_units.specs.UnitLists.{IsInPlace};
@@ -49,6 +48,8 @@ pub enum Announcement {
 /// What the root of a unit announces.
 #[derive(Drop)]
 enum RootRanges {
+    /// What units with a key that was met do.
+    Known(KnownRoot),
     /// Some ranges, with the key that tells them.
     Spans(Vec<Span>, RootKey),
     /// Some ranges, and then those of a list that is kept in chains.
@@ -183,20 +184,24 @@ fn append_shared(
     }
 }
 
-/// What the sequences of the lines of a unit cover, with the key of a root without ranges.
+/// What the sequences of the lines of a unit without ranges cover: nothing is read where its line program was met.
 fn ranges_by_lines(
     alloc: Global,
     shared: &mut SharedParts,
     unit: &OpenUnit<'_, '_>,
+    roots: &KnownRoots,
 ) -> Result<RootRanges>
     requires none { ranges_in (open_view unit.now) unit.now.root.ranges ≡ Some [] }
     requires shared { AreShared (open_view unit.now).sections shared.old }
-    ensures value { MatchResult result (IsToldByLines (open_view unit.now)) (λ e. e.kind ≡ OutOfMemory) }
+    ensures value { MatchResult result (IsToldByLines (open_view unit.now) roots.now) (λ e. e.kind ≡ OutOfMemory) }
     ensures shared { AreShared (open_view unit.now).sections shared.new }
 {
+    let key = RootKey::ByLines(program_key(unit));
+    if let Some(known) = roots.find(key) {
+        return Ok(RootRanges::Known(known));
+    }
     let mut spans = Vec::new(alloc);
     append_shared(alloc, shared, unit, &mut spans)?;
-    let key = RootKey::ByLines(ranges_key(unit), program_key(unit));
     Ok(RootRanges::Spans(spans, key))
 }
 
@@ -208,30 +213,35 @@ fn has_none(front: &[Span], place: ListPlace) -> bool
     front.is_empty() && place.front.count == 0 && place.rest.count == 0
 }
 
-/// What the root of a unit announces: its ranges, and where there are none what the sequences of its lines cover.
+/// What the root of a unit announces: its ranges, and where there are none what the sequences of its lines cover. Nothing
+/// is read where the key of its ranges was met.
 fn root_ranges(
     alloc: Global,
     shared: &mut SharedParts,
     unit: &OpenUnit<'_, '_>,
+    roots: &KnownRoots,
     chains: &mut RangeChains,
 ) -> Result<RootRanges>
     requires shared { AreShared (open_view unit.now).sections shared.old }
     requires chains { AreChains (open_view unit.now).sections chains.old }
-    ensures value { TellsRoot (open_view unit.now) chains.new result }
+    ensures value { TellsRoot (open_view unit.now) roots.now chains.new result }
     ensures kept { IfOk result (λ _. KeepsChains (open_view unit.now).sections chains.old chains.new) }
     ensures shared { AreShared (open_view unit.now).sections shared.new }
 {
+    let key = RootKey::ByRanges(ranges_key(unit));
+    if let Some(known) = roots.find(key) {
+        return Ok(RootRanges::Known(known));
+    }
     match chains.ranges_of(alloc, unit)? {
         ToldRanges::Read(spans) => {
             if spans.is_empty() {
-                return ranges_by_lines(alloc, shared, unit);
+                return ranges_by_lines(alloc, shared, unit, roots);
             }
-            let key = RootKey::ByRanges(ranges_key(unit));
             Ok(RootRanges::Spans(spans, key))
         },
         ToldRanges::InChain(front, place) => {
             if has_none(front.as_slice(), place) {
-                return ranges_by_lines(alloc, shared, unit);
+                return ranges_by_lines(alloc, shared, unit, roots);
             }
             Ok(RootRanges::Chained(front, place))
         },
@@ -244,6 +254,7 @@ fn unit_ranges(
     dwarf: &Dwarf<'_, '_>,
     shared: &mut SharedParts,
     unit: &BuiltUnit,
+    roots: &KnownRoots,
     chains: &mut RangeChains,
 ) -> Result<RootRanges>
     requires readable { IsReadable dwarf.now }
@@ -251,11 +262,11 @@ fn unit_ranges(
     requires main { unit.now.origin ≡ Main }
     requires shared { AreShared (files_view dwarf.now).main shared.old }
     requires chains { AreChains (files_view dwarf.now).main chains.old }
-    ensures value { TellsRoot (built_view (files_view dwarf.now) unit.now) chains.new result }
+    ensures value { TellsRoot (built_view (files_view dwarf.now) unit.now) roots.now chains.new result }
     ensures kept { IfOk result (λ _. KeepsChains (files_view dwarf.now).main chains.old chains.new) }
     ensures shared { AreShared (files_view dwarf.now).main shared.new }
 {
-    root_ranges(alloc, shared, &unit.open(dwarf), chains)
+    root_ranges(alloc, shared, &unit.open(dwarf), roots, chains)
 }
 
 /// What is kept of a unit that was built: nothing where its functions may stand in a package, or where there was no room
@@ -276,16 +287,7 @@ fn kept_of(
     Cache::Value(unit)
 }
 
-/// What is known by the key of a unit.
-fn known_root(dwarf: &Dwarf<'_, '_>, unit: &BuiltUnit, roots: &KnownRoots) -> Option<KnownRoot>
-    requires readable { IsReadable dwarf.now }
-    requires fits { BuiltFits (files_view dwarf.now) unit.now }
-    ensures { IfSome result (λ known. IsKnown roots.now known × IsToldBy known.key (built_view (files_view dwarf.now) unit.now)) }
-{
-    roots.of_unit(&unit.open(dwarf))
-}
-
-/// What a unit announces that is built: nothing is read where its key was met.
+/// What a unit announces that is built.
 fn announced_by(
     alloc: Global,
     dwarf: &Dwarf<'_, '_>,
@@ -306,13 +308,10 @@ fn announced_by(
     ensures kept { IfOk result (λ _. KeepsChains (files_view dwarf.now).main chains.old chains.new) }
     ensures shared { AreShared (files_view dwarf.now).main shared.new }
 {
-    if let Some(known) = known_root(dwarf, &unit, roots) {
-        let part = kept_of(dwarf, shared, header, unit);
-        return Ok(Announcement::Again(part, known.keeper));
-    }
-    let told = unit_ranges(alloc, dwarf, shared, &unit, chains)?;
+    let told = unit_ranges(alloc, dwarf, shared, &unit, roots, chains)?;
     let part = kept_of(dwarf, shared, header, unit);
     match told {
+        RootRanges::Known(known) => Ok(Announcement::Again(part, known.keeper)),
         RootRanges::Spans(spans, key) => Ok(Announcement::Ranges(spans, part, Some(key))),
         RootRanges::Chained(front, place) => Ok(Announcement::InChain(front, place, part)),
     }

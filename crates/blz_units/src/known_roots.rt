@@ -1,15 +1,12 @@
 //! What is known of units by the keys of their roots, while they are read.
 ghost use Rattle.std.specs.Prelude.{◌≡◌, IfSome, IfOk};
 ghost use Rattle.std.specs.BTreeMap.{IsEmpty};
-ghost use Rattle.blz_functions.specs.Opened.{open_view};
 ghost use Rattle.blz_info.specs.FileSections.{FileSections};
 ghost use Rattle.blz_announced.specs.Units.{KeptRanges};
 ghost use Rattle.blz_units.specs.Keeping.{AreKnown, AreRoots, IsKnown, IsRootOf};
-ghost use Rattle.blz_units.specs.RootKeys.{IsToldBy};
 
 use crate::range_chains::RangeChains;
-use crate::root_key::{RootKey, program_key, ranges_key};
-use blz_functions::OpenUnit;
+use crate::root_key::RootKey;
 use std::alloc::{AllocError, Global};
 use std::collections::BTreeMap;
 
@@ -37,7 +34,7 @@ impl KnownRoots {
     }
 
     /// What is known by a key.
-    fn by_key(&self, key: RootKey) -> Option<KnownRoot>
+    pub fn find(&self, key: RootKey) -> Option<KnownRoot>
         ensures { IfSome result (λ known. IsKnown self.now known × (known.key ≡ key)) }
     {
         match self.roots.get(&key) {
@@ -47,18 +44,6 @@ impl KnownRoots {
             }),
             None => None,
         }
-    }
-
-    /// What is known by the key of a unit.
-    pub fn of_unit(&self, unit: &OpenUnit<'_, '_>) -> Option<KnownRoot>
-        ensures { IfSome result (λ known. IsKnown self.now known × IsToldBy known.key (open_view unit.now)) }
-    {
-        let ranges = ranges_key(unit);
-        let known = self.by_key(RootKey::ByRanges(ranges));
-        if known.is_some() {
-            return known;
-        }
-        self.by_key(RootKey::ByLines(ranges, program_key(unit)))
     }
 
     /// Notes one more, where there is a key.

@@ -34,8 +34,8 @@ pub enum RangesKey {
 pub enum RootKey {
     /// The ranges of its root, of which there is one.
     ByRanges(RangesKey),
-    /// Its line program, if it has one, since what tells the ranges tells none.
-    ByLines(RangesKey, Option<ProgramKey>),
+    /// Its line program, if it has one, since there are no ranges.
+    ByLines(Option<ProgramKey>),
 }
 
 fn list_key(unit: &OpenUnit<'_, '_>, offset: u64) -> ListKey

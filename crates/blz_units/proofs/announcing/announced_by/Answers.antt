@@ -6,19 +6,6 @@ use Rattle.blz_units.specs.UnitTables.{by_root}
 use Rattle.blz_units.proofs.RootTold.{told_chained, told_fails, told_spans}
 use Rattle.blz_units.proofs.announcing.announced_by.Goals as goal
 
-pub returns-in-Some-clause-told : goal.returns-in-Some-clause-told
-returns-in-Some-clause-told c =
-    let f = files_view c.args.dwarf.now in
-    let told = rw c.in-Some.is at c.known_root.ensures in
-    record {
-      unit = built_view f c.args.unit;
-      main = ap (sections_from f) c.requires.main;
-      key = c.in-Some.known.key;
-      known = told.0;
-      told = told.1;
-      is = ap by_root (good_some _ _ c.requires.is);
-    }
-
 pub returns-in_err-told-clause-told : goal.returns-in_err-told-clause-told
 returns-in_err-told-clause-told c =
     let f = files_view c.args.dwarf.now in
@@ -36,3 +23,16 @@ returns-in-Chained-clause-told c =
     let f = files_view c.args.dwarf.now in
     let told = rw c.in-Chained.is at c.in_ok-told.ensures.value in
     told_chained (built_view f c.args.unit) (built f.main c.args.header.now) c.unit_ranges.new.chains c.in-Chained.front.items c.in-Chained.place (good_some _ _ c.requires.is) told
+
+pub returns-in-Known-clause-told : goal.returns-in-Known-clause-told
+returns-in-Known-clause-told c =
+    let f = files_view c.args.dwarf.now in
+    let told = rw c.in-Known.is at c.in_ok-told.ensures.value in
+    record {
+      unit = built_view f c.args.unit;
+      main = ap (sections_from f) c.requires.main;
+      key = c.in-Known.known.key;
+      known = told.0;
+      told = told.1;
+      is = ap by_root (good_some _ _ c.requires.is);
+    }
