@@ -1,8 +1,11 @@
 -- One unit more among those that are kept.
 use Rattle.std.proofs.Common.{◌≡◌, ℕ, length, List, [], ◌∷◌, ◌++◌, Option, Some, None, refl, sym, ap, subst, ◌∙◌, arith}
-use Rattle.std.specs.Prelude.{IfSome}
+use Rattle.std.specs.Prelude.{IfOk, IfSome, Result, Ok, Err}
 use Rattle.std.specs.BTreeMap.{get, IsEmpty, Updates}
 use Rattle.std.specs.List.{slice_get}
+use Rattle.std.specs.declared.alloc.AllocError.{AllocError}
+use Rattle.std.specs.declared.alloc.Global.{Global}
+use Rattle.std.specs.declared.vec.Vec.{Vec}
 use Rattle.blz_error.specs.declared.kind.ErrorKind.{ErrorKind}
 use Rattle.blz_functions.specs.Leaves.{UnitParts}
 use Rattle.blz_model.specs.Part.{Fails}
@@ -14,12 +17,15 @@ use Rattle.blz_ranges.specs.declared.span.Span.{Span}
 use Rattle.blz_info.specs.declared.units.UnitHeader.{UnitHeader}
 use Rattle.blz_info.proofs.Marked.{marks_on}
 use Rattle.blz_announced.specs.Units.{KeptRanges, all_kept, IsListOf, IsOnceMore, IsWithKeeper, IsWithUnit}
-use Rattle.blz_units.specs.Keeping.{Keeping, units_told, AreKnown, AreRoots, IsAgain, IsRootOf}
-use Rattle.blz_units.specs.RangeChains.{ArePieces, KeepsChains}
+use Rattle.blz_units.specs.Keeping.{Keeping, units_told, AreKnown, AreRoots, CanBeKept, IsAgain, IsNext, IsRootOf, IsTold, KeepsTold}
+use Rattle.blz_units.specs.RangeChains.{KeepsChains}
 use Rattle.blz_units.specs.RootKeys.{root_cmp, AreSpansOf}
 use Rattle.blz_units.specs.UnitLists.{EndBefore, IsInPlace}
 use Rattle.blz_units.specs.UnitTables.{KeptUnits, by_root, keep, root_spans}
+use Rattle.blz_units.specs.declared.announcement.UnitRanges.{UnitRanges}
+use Rattle.blz_units.specs.declared.announcement.UnitRanges.TheVariants.{Again, Spans, Chained}
 use Rattle.blz_units.specs.declared.known_roots.KnownRanges.{KnownRanges}
+use Rattle.blz_units.specs.declared.known_roots.KnownRoot.{KnownRoot}
 use Rattle.blz_units.specs.declared.known_roots.KnownRoots.{KnownRoots}
 use Rattle.blz_units.specs.declared.range_chains.RangeChains.{RangeChains}
 use Rattle.blz_units.specs.declared.root_key.RootKey.{RootKey}
@@ -43,12 +49,6 @@ pub kept_same : (k : KeptUnits) (h : UnitHeader) (o : Option (Option (List Span)
 kept_same k h o e = ap (with_it k h) e
 
 -- ---- a unit that is kept
-
--- What is known of it: its ranges, as they are kept behind the others.
-pub record IsNext (old new : KeptRanges) (announced : Option (Option (List Span))) : Type 0 where
-  pub spans : List Span
-  pub is : announced ≡ Some (Some spans)
-  pub with_unit : IsWithUnit old spans new
 
 pub next_more : (k : Keeping) (h : UnitHeader) (new : KeptRanges) (o : Option (Option (List Span))) → k.ranges.count ≡ length k.kept → IsNext k.ranges new o → with_it (units_told k) h o ≡ Some (units_told (record { kept = k.kept ++ h ∷ []; ranges = new }))
 next_more k h new o same next =
@@ -77,14 +77,14 @@ own_keeper : (ranges : KeptRanges) (spans : List Span) (keeper : Option ℕ) →
 own_keeper ranges spans None h = tt
 own_keeper ranges spans (Some k) h = h.0
 
-module _ (s : FileSections) (ranges : KeptRanges) (roots : KnownRoots) (known : AreRoots s ranges roots) (keeper : Option ℕ) (o : Option (Option (List Span))) (again : IsAgain s roots keeper o) where
-  root : IsRootOf s ranges (record { key = again.key; keeper = keeper })
-  root = let at = again.known in rw at at (known again.key)
+module _ (s : FileSections) (ranges : KeptRanges) (roots : KnownRoots) (are : AreRoots s ranges roots) (known : KnownRoot) (o : Option (Option (List Span))) (again : IsAgain s roots known o) where
+  root : IsRootOf s ranges known
+  root = let at = again.met in rw at at (are known.key)
 
-  pub again_keeper : IfSome keeper (λ n. slice_get ranges.keepers n ≡ Some n)
-  again_keeper = own_keeper ranges root.spans keeper root.list
+  again_keeper : IfSome known.keeper (λ n. slice_get ranges.keepers n ≡ Some n)
+  again_keeper = own_keeper ranges root.spans known.keeper root.list
 
-  pub again_next : (new : KeptRanges) → IsOnceMore ranges keeper new → IsNext ranges new o
+  pub again_next : (new : KeptRanges) → IsOnceMore ranges known.keeper new → IsNext ranges new o
   again_next new more = record {
     spans = root.spans;
     is = again.is ∙ root_told again.unit root.spans (root.are again.unit again.main again.told);
@@ -120,17 +120,33 @@ pub known_read : (s : FileSections) (ranges : KeptRanges) (known : KnownRanges) 
 known_read s ranges known chains keeps are = record { roots = are.roots; chains = keeps.are are.chains; pieces = keeps.pieces ranges are.pieces }
 
 -- there is one unit more
-pub known_stays : (s : FileSections) (old new : KeptRanges) (known : KnownRanges) (o : Option (Option (List Span))) → IsNext old new o → AreKnown s old known → AreKnown s new known
+known_stays : (s : FileSections) (old new : KeptRanges) (known : KnownRanges) (o : Option (Option (List Span))) → IsNext old new o → AreKnown s old known → AreKnown s new known
 known_stays s old new known o next are = record {
   roots = roots_stay s old new known.roots o next are.roots;
   chains = are.chains;
   pieces = pieces_stay known.chains old new next.with_unit.others are.pieces;
 }
 
--- it announces pieces of a chain
-pub known_chained : (s : FileSections) (old new : KeptRanges) (known : KnownRanges) (chains : RangeChains) (o : Option (Option (List Span))) → IsNext old new o → chains.chains ≡ known.chains.chains → chains.places ≡ known.chains.places → ArePieces new chains → AreKnown s old known → AreKnown s new (record { roots = known.roots; chains = chains })
-known_chained s old new known chains o next same places pieces are = record {
-  roots = roots_stay s old new known.roots o next are.roots;
-  chains = λ key. rw (places, same) (are.chains key);
-  pieces = pieces;
-}
+-- ---- what is told of it is kept
+
+pub can_keep : (s : FileSections) (ranges : KeptRanges) (known : KnownRanges) (o : Option (Option (List Span))) (told : UnitRanges) → AreKnown s ranges known → IsTold s known.roots known.chains o told → CanBeKept ranges known told
+can_keep s ranges known o (Again met) are again = again_keeper s ranges known.roots are.roots met o again
+can_keep s ranges known o (Spans spans key) are is = tt
+can_keep s ranges known o (Chained front place) are chained = (chained.within, are.pieces)
+
+-- what a unit with a key that was met does
+pub keeps_again : (ranges : KeptRanges) (known : KnownRanges) (met : KnownRoot) (r : Result KeptRanges AllocError) → IfOk r (IsOnceMore ranges met.keeper) → IfOk r (λ new. KeepsTold ranges known (Again met) new known)
+keeps_again ranges known met (Ok new) more = λ s o are again.
+    let next = again_next s ranges known.roots are.roots met o again new more in
+    (next, known_stays s ranges new known o next are)
+keeps_again ranges known met (Err e) more = tt
+
+-- some ranges, which a key may tell
+pub keeps_spans : (ranges : KeptRanges) (spans : Vec Span Global) (key : Option RootKey) (known : KnownRanges) (roots : KnownRoots) (new : KeptRanges × Option ℕ)
+    → IsWithKeeper ranges spans.items new
+    → ((s : FileSections) (kept : KeptRanges) → AreRoots s kept known.roots → IfSome key (λ k. IsRootOf s kept (record { key = k; keeper = new.1 })) → AreRoots s kept roots)
+    → KeepsTold ranges known (Spans spans key) new.0 (record { roots = roots; chains = known.chains })
+keeps_spans ranges spans key known roots new more note = λ s o are told.
+    let next : IsNext ranges new.0 o = record { spans = spans.items; is = told.0; with_unit = more.with_unit } in
+    let stays = known_stays s ranges new.0 known o next are in
+    (next, record { roots = note s new.0 stays.roots (root_noted s ranges spans.items new key more told.1); chains = stays.chains; pieces = stays.pieces })

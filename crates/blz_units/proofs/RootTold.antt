@@ -1,6 +1,6 @@
 -- What the root of a unit announces, by its ranges.
 use Rattle.std.proofs.Common.{◌≡◌, ◌+◌, ◌<◌, List, [], ◌∷◌, ◌++◌, length, take, Option, Some, None, refl, sym, ap, ◌∙◌, arith}
-use Rattle.std.specs.Prelude.{reverse, MatchResult, Result, Ok, Err}
+use Rattle.std.specs.Prelude.{reverse, IfSome, MatchResult, Result, Ok, Err}
 use Rattle.std.proofs.lemmas.List.{length-append, length-reverse, length-take-le}
 use Rattle.std.specs.declared.alloc.Global.{Global}
 use Rattle.std.specs.declared.vec.Vec.{Vec}
@@ -14,11 +14,12 @@ use Rattle.blz_info.proofs.Marked.{marks_on}
 use Rattle.blz_model.specs.Part.{Fails}
 use Rattle.blz_model.specs.Reads.{◌>>=◌}
 use Rattle.blz_ranges.specs.declared.span.Span.{Span}
-use Rattle.blz_units.specs.Keeping.{IsChained, IsToldByLines, TellsRoot}
+use Rattle.blz_units.specs.Keeping.{IsRootTold, IsTold, IsToldByLines, TellsRoot}
 use Rattle.blz_units.specs.RangeChains.{chain_at, count_in, last_in, HasLast, IsLastIn}
 use Rattle.blz_units.specs.RootKeys.{AreSpansOf, IsKeyOf}
 use Rattle.blz_units.specs.UnitTables.{by_root, lines_in, or_sequences, root_spans, sequences_of}
-use Rattle.blz_units.specs.declared.announcing.RootRanges.{RootRanges}
+use Rattle.blz_units.specs.declared.announcement.UnitRanges.{UnitRanges}
+use Rattle.blz_units.specs.declared.announcement.UnitRanges.TheVariants.{Again, Spans, Chained}
 use Rattle.blz_units.specs.declared.known_roots.KnownRoots.{KnownRoots}
 use Rattle.blz_units.specs.declared.range_chains.ChainPlace.{ChainPlace}
 use Rattle.blz_units.specs.declared.range_chains.ListPlace.{ListPlace}
@@ -70,7 +71,7 @@ none_in_chain u c front place h empty none no_rest =
     let chains = c.chains.items in
     h.is ∙ (λ i. Some (empty_list front empty i ++ (reverse (take (none i) (chain_at chains place.front.chain)) ++ reverse (take (no_rest i) (chain_at chains place.rest.chain)))))
 
-pub told_by_lines : (u : UnitParts) (roots : KnownRoots) (c : RangeChains) (r : Result RootRanges Fault) → MatchResult r (IsToldByLines u roots) (λ e. e.kind ≡ OutOfMemory) → TellsRoot u roots c r
+pub told_by_lines : (u : UnitParts) (roots : KnownRoots) (c : RangeChains) (r : Result UnitRanges Fault) → MatchResult r (IsToldByLines u roots) (λ e. e.kind ≡ OutOfMemory) → TellsRoot u roots c r
 told_by_lines u roots c (Ok told) h = h c
 told_by_lines u roots c (Err e) h = λ ne. absurd (ne h)
 
@@ -79,11 +80,14 @@ told_by_lines u roots c (Err e) h = λ ne. absurd (ne h)
 abbrev as_told : Option (List Span) → Option (Option (List Span))
 as_told o = o >>= λ spans. Some (Some spans)
 
-pub told_spans : (s : FileSections) (u : UnitParts) (o : Option UnitParts) (spans : List Span) (key : RootKey) → o ≡ Some u → u.sections ≡ s → (root_spans u ≡ Some spans) × IsKeyOf u key → (by_root o ≡ Some (Some spans)) × AreSpansOf s spans key
-told_spans s u o spans key is at told = (ap by_root is ∙ ap as_told told.0, λ v here by. told.1 v (here ∙ sym at) by ∙ told.0)
+key_told : (s : FileSections) (u : UnitParts) (spans : List Span) (key : Option RootKey) → u.sections ≡ s → root_spans u ≡ Some spans → IfSome key (IsKeyOf u) → IfSome key (AreSpansOf s spans)
+key_told s u spans None at is told = tt
+key_told s u spans (Some key) at is told = λ v here by. told v (here ∙ sym at) by ∙ is
 
-pub told_chained : (u : UnitParts) (o : Option UnitParts) (c : RangeChains) (front : List Span) (place : ListPlace) → o ≡ Some u → IsLastIn c (root_spans u) front place → IsChained c (by_root o) front place
-told_chained u o c front place is h = record { within = h.within; is = ap by_root is ∙ ap as_told h.is }
+pub built_told : (s : FileSections) (u : UnitParts) (o : Option UnitParts) (roots : KnownRoots) (c : RangeChains) (told : UnitRanges) → o ≡ Some u → u.sections ≡ s → IsRootTold u roots c told → IsTold s roots c (by_root o) told
+built_told s u o roots c (Again known) is at h = record { unit = u; main = at; met = h.0; told = h.1; is = ap by_root is }
+built_told s u o roots c (Spans spans key) is at h = (ap by_root is ∙ ap as_told h.0, key_told s u spans.items key at h.0 h.1)
+built_told s u o roots c (Chained front place) is at h = record { within = h.within; is = ap by_root is ∙ ap as_told h.is }
 
 pub told_fails : (u : UnitParts) (o : Option UnitParts) (kind : ErrorKind) → o ≡ Some u → Fails kind (or_invalid (root_spans u)) → Fails kind (or_invalid (by_root o))
 told_fails u o kind is fails = marks_on kind (root_spans u) (by_root o) fails (λ none. ap by_root is ∙ ap as_told none)

@@ -1,6 +1,7 @@
 -- The units that are kept while they are read, with what is known of their roots.
-use Rattle.std.specs.Prelude.{◌≡◌, ℕ, List, ◌++◌, Option, Some, None, IfSome, MatchResult, Result, Ok, Err}
+use Rattle.std.specs.Prelude.{◌≡◌, List, ◌++◌, Option, Some, None, IfSome, MatchResult, Result}
 use Rattle.std.specs.BTreeMap.{get}
+use Rattle.std.specs.List.{slice_get}
 use Rattle.blz_error.specs.Fault.{Fault}
 use Rattle.blz_functions.specs.Leaves.{UnitParts}
 use Rattle.blz_info.specs.FileSections.{FileSections}
@@ -9,15 +10,14 @@ use Rattle.blz_info.specs.Marks.{or_invalid}
 use Rattle.blz_model.specs.Part.{Fails}
 use Rattle.blz_ranges.specs.declared.span.Span.{Span}
 use Rattle.blz_units.specs.BuiltUnits.{Files}
-use Rattle.blz_announced.specs.Units.{KeptRanges, all_kept, IsListOf}
+use Rattle.blz_announced.specs.Units.{KeptRanges, all_kept, IsListOf, IsWithUnit}
 use Rattle.blz_units.specs.KeptParts.{IsPartOf}
 use Rattle.blz_units.specs.RangeChains.{list_in, AreChains, ArePieces, IsLastIn, IsWithin}
 use Rattle.blz_units.specs.RootKeys.{root_cmp, AreSpansOf, IsKeyOf, IsToldBy}
 use Rattle.blz_units.specs.UnitTables.{KeptUnits, by_root, root_spans}
-use Rattle.blz_units.specs.declared.announcing.Announcement.{Announcement}
-use Rattle.blz_units.specs.declared.announcing.Announcement.TheVariants.{NotKept, Again, Ranges, InChain}
-use Rattle.blz_units.specs.declared.announcing.RootRanges.{RootRanges}
-use Rattle.blz_units.specs.declared.announcing.RootRanges.TheVariants.{Known, Spans, Chained}
+use Rattle.blz_units.specs.declared.announcement.Announcement.{Announcement}
+use Rattle.blz_units.specs.declared.announcement.UnitRanges.{UnitRanges}
+use Rattle.blz_units.specs.declared.announcement.UnitRanges.TheVariants.{Again, Spans, Chained}
 use Rattle.blz_units.specs.declared.range_chains.ListPlace.{ListPlace}
 use Rattle.blz_units.specs.declared.range_chains.RangeChains.{RangeChains}
 use Rattle.blz_units.specs.declared.known_roots.KnownRanges.{KnownRanges}
@@ -25,26 +25,33 @@ use Rattle.blz_units.specs.declared.known_roots.KnownRoot.{KnownRoot}
 use Rattle.blz_units.specs.declared.known_roots.KnownRoots.{KnownRoots}
 use Rattle.blz_units.specs.declared.root_key.RootKey.{RootKey}
 
--- ---- what is told of a unit
-
--- What is kept of a unit itself is a part of it.
-abbrev pub HasPartOf : Files → UnitHeader → Announcement → Type 0
-HasPartOf f h NotKept = Unit {0}
-HasPartOf f h (Again part keeper) = IsPartOf f h part
-HasPartOf f h (Ranges spans part key) = IsPartOf f h part
-HasPartOf f h (InChain front place part) = IsPartOf f h part
+-- ---- what is told of a root
 
 -- a key that was met, with its keeper
 abbrev pub IsKnown : KnownRoots → KnownRoot → Type 0
 IsKnown roots known = get root_cmp roots.roots known.key ≡ Some known.keeper
 
+-- What is told of a root is what its unit announces, and a key with it tells the same of each unit.
+abbrev pub IsRootTold : UnitParts → KnownRoots → RangeChains → UnitRanges → Type 0
+IsRootTold u roots chains (Again known) = IsKnown roots known × IsToldBy known.key u
+IsRootTold u roots chains (Spans spans key) = (root_spans u ≡ Some spans.items) × IfSome key (IsKeyOf u)
+IsRootTold u roots chains (Chained front place) = IsLastIn chains (root_spans u) front.items place
+
+abbrev pub TellsRoot : UnitParts → KnownRoots → RangeChains → Result UnitRanges Fault → Type 0
+TellsRoot u roots chains result = MatchResult result (IsRootTold u roots chains) (λ e. Fails e.kind (or_invalid (root_spans u)))
+
+-- So it is told by lines, whatever the chains are.
+abbrev pub IsToldByLines : UnitParts → KnownRoots → UnitRanges → Type 0
+IsToldByLines u roots told = (chains : RangeChains) → IsRootTold u roots chains told
+
+-- ---- what is told of a unit
+
 -- A unit is built, and has a key that was met.
-pub record IsAgain (s : FileSections) (roots : KnownRoots) (keeper : Option ℕ) (announced : Option (Option (List Span))) : Type 0 where
+pub record IsAgain (s : FileSections) (roots : KnownRoots) (known : KnownRoot) (announced : Option (Option (List Span))) : Type 0 where
   pub unit : UnitParts
   pub main : unit.sections ≡ s
-  pub key : RootKey
-  pub known : IsKnown roots (record { key = key; keeper = keeper })
-  pub told : IsToldBy key unit
+  pub met : IsKnown roots known
+  pub told : IsToldBy known.key unit
   pub is : announced ≡ by_root (Some unit)
 
 -- It is some ranges, and then those of a place in chains.
@@ -53,31 +60,35 @@ pub record IsChained (chains : RangeChains) (announced : Option (Option (List Sp
   pub is : announced ≡ Some (Some (front ++ list_in chains.chains.items place))
 
 -- What is told of a unit is what it announces.
-abbrev pub IsTold : FileSections → KnownRoots → RangeChains → Option (Option (List Span)) → Announcement → Type 0
-IsTold s roots chains announced NotKept = announced ≡ Some None
-IsTold s roots chains announced (Again part keeper) = IsAgain s roots keeper announced
-IsTold s roots chains announced (Ranges spans part key) = (announced ≡ Some (Some spans.items)) × IfSome key (AreSpansOf s spans.items)
-IsTold s roots chains announced (InChain front place part) = IsChained chains announced front.items place
+abbrev pub IsTold : FileSections → KnownRoots → RangeChains → Option (Option (List Span)) → UnitRanges → Type 0
+IsTold s roots chains announced (Again known) = IsAgain s roots known announced
+IsTold s roots chains announced (Spans spans key) = (announced ≡ Some (Some spans.items)) × IfSome key (AreSpansOf s spans.items)
+IsTold s roots chains announced (Chained front place) = IsChained chains announced front.items place
 
--- The call fails where what it announces has no value.
-abbrev pub IsToldOr : FileSections → KnownRoots → RangeChains → Option (Option (List Span)) → Result Announcement Fault → Type 0
-IsToldOr s roots chains announced (Ok a) = IsTold s roots chains announced a
-IsToldOr s roots chains announced (Err e) = Fails e.kind (or_invalid announced)
+abbrev pub TellsBuilt : FileSections → KnownRoots → RangeChains → Option (Option (List Span)) → Result Announcement Fault → Type 0
+TellsBuilt s roots chains announced result =
+    MatchResult result (λ told. IsTold s roots chains announced told.ranges) (λ e. Fails e.kind (or_invalid announced))
 
--- ---- what is told of a root
+-- A unit of which nothing is told is not kept.
+abbrev pub IsToldOrNot : FileSections → KnownRoots → RangeChains → Option (Option (List Span)) → Option Announcement → Type 0
+IsToldOrNot s roots chains announced None = announced ≡ Some None
+IsToldOrNot s roots chains announced (Some told) = IsTold s roots chains announced told.ranges
 
--- What is told of a root is what its unit announces, and a key with it tells the same of each unit.
-abbrev pub IsRootTold : UnitParts → KnownRoots → RangeChains → RootRanges → Type 0
-IsRootTold u roots chains (Known known) = IsKnown roots known × IsToldBy known.key u
-IsRootTold u roots chains (Spans spans key) = (root_spans u ≡ Some spans.items) × IsKeyOf u key
-IsRootTold u roots chains (Chained front place) = IsLastIn chains (root_spans u) front.items place
+abbrev pub TellsUnit : FileSections → KnownRoots → RangeChains → Option (Option (List Span)) → Result (Option Announcement) Fault → Type 0
+TellsUnit s roots chains announced result =
+    MatchResult result (IsToldOrNot s roots chains announced) (λ e. Fails e.kind (or_invalid announced))
 
-abbrev pub TellsRoot : UnitParts → KnownRoots → RangeChains → Result RootRanges Fault → Type 0
-TellsRoot u roots chains result = MatchResult result (IsRootTold u roots chains) (λ e. Fails e.kind (or_invalid (root_spans u)))
+-- What is kept of the unit itself is a part of it.
+abbrev pub HasPartOf : Files → UnitHeader → Announcement → Type 0
+HasPartOf f h told = IsPartOf f h told.part
 
--- So it is told by lines, whatever the chains are.
-abbrev pub IsToldByLines : UnitParts → KnownRoots → RootRanges → Type 0
-IsToldByLines u roots told = (chains : RangeChains) → IsRootTold u roots chains told
+-- ---- one unit more
+
+-- It is kept with what it announces.
+pub record IsNext (old new : KeptRanges) (announced : Option (Option (List Span))) : Type 0 where
+  pub spans : List Span
+  pub is : announced ≡ Some (Some spans)
+  pub with_unit : IsWithUnit old spans new
 
 -- ---- the units so far
 
@@ -103,3 +114,14 @@ pub record AreKnown (s : FileSections) (ranges : KeptRanges) (known : KnownRange
   pub roots : AreRoots s ranges known.roots
   pub chains : AreChains s known.chains
   pub pieces : ArePieces ranges known.chains
+
+-- What is told of a unit can be kept: its keeper is one, and pieces of its chains are.
+abbrev pub CanBeKept : KeptRanges → KnownRanges → UnitRanges → Type 0
+CanBeKept ranges known (Again met) = IfSome met.keeper (λ keeper. slice_get ranges.keepers keeper ≡ Some keeper)
+CanBeKept ranges known (Spans spans key) = Unit {0}
+CanBeKept ranges known (Chained front place) = IsWithin known.chains.chains.items place × ArePieces ranges known.chains
+
+-- What is told of a unit is kept as what it announces, and what is known of the units stays so.
+abbrev pub KeepsTold : KeptRanges → KnownRanges → UnitRanges → KeptRanges → KnownRanges → Type 0
+KeepsTold ranges old told new known = (s : FileSections) (announced : Option (Option (List Span)))
+    → AreKnown s ranges old → IsTold s old.roots old.chains announced told → IsNext ranges new announced × AreKnown s new known

@@ -1,5 +1,5 @@
 //! What a unit announces.
-ghost use Rattle.std.specs.Prelude.{◌≡◌, ◌≢◌, ◌+◌, ◌<◌, ◌++◌, [], true, false, length, Option, Some, IfOk, MatchResult, OnOk, option_map};
+ghost use Rattle.std.specs.Prelude.{◌≡◌, ◌≢◌, ◌+◌, ◌<◌, ◌++◌, [], true, false, length, Option, None, Some, IfOk, IfSome, MatchResult, OnOk, option_map};
 ghost use Rattle.blz_error.specs.declared.kind.ErrorKind.TheVariants.{OutOfMemory};
 ghost use Rattle.blz_model.specs.Part.{Good, Gives};
 ghost use Rattle.blz_info.specs.Marks.{or_invalid};
@@ -9,17 +9,20 @@ ghost use Rattle.blz_units.specs.BuiltUnits.{built, built_view, files_view, Buil
 ghost use Rattle.blz_units.specs.KeptParts.{IsPartOf};
 ghost use Rattle.blz_functions.specs.Leaves.{ranges_in};
 ghost use Rattle.blz_functions.specs.Opened.{open_view};
-ghost use Rattle.blz_units.specs.Keeping.{HasPartOf, IsToldByLines, IsToldOr, TellsRoot};
+ghost use Rattle.blz_units.specs.Keeping.{HasPartOf, IsToldByLines, TellsBuilt, TellsRoot, TellsUnit};
 ghost use Rattle.blz_units.specs.RangeChains.{count_in, AreChains, KeepsChains};
 ghost use Rattle.blz_units.specs.Sharing.{AreShared};
+ghost use Rattle.blz_model.specs.declared.cache.Cache.TheVariants.{Empty};
+ghost use Rattle.blz_units.specs.declared.announcement.UnitRanges.TheVariants.{Spans};
 ghost use Rattle.blz_units.specs.declared.dwarf.Origin.TheVariants.{Main};
 ghost use Rattle.blz_units.specs.UnitLists.{IsInPlace};
 ghost use Rattle.blz_units.specs.UnitTables.{announces, by_root, is_type, is_partial, lines_in, sequences_of};
 
 use crate::address_sets::AddressSets;
+use crate::announcement::{Announcement, UnitRanges};
 use crate::built_unit::{BuiltUnit, may_be_split};
 use crate::dwarf::{Dwarf, Origin};
-use crate::known_roots::{KnownRoot, KnownRoots};
+use crate::known_roots::KnownRoots;
 use crate::range_chains::{ListPlace, RangeChains, ToldRanges};
 use crate::root_key::{RootKey, program_key, ranges_key};
 use crate::shared_lines::{ProgramSpans, lines_key};
@@ -31,30 +34,6 @@ use blz_functions::OpenUnit;
 use blz_line::{LineSequence, Lines};
 use blz_model::Cache;
 use std::alloc::{AllocError, Global};
-
-/// What a unit announces, and what is kept of the unit itself: the unit where it had to be built.
-#[derive(Drop)]
-pub enum Announcement {
-    /// Nothing: it is not kept.
-    NotKept,
-    /// What units with a keeper do, by the key of its root, and nothing without one.
-    Again(Cache<BuiltUnit>, Option<usize>),
-    /// Some ranges, with the key of its root where that tells them.
-    Ranges(Vec<Span>, Cache<BuiltUnit>, Option<RootKey>),
-    /// Some ranges, and then those of a list that is kept in chains.
-    InChain(Vec<Span>, ListPlace, Cache<BuiltUnit>),
-}
-
-/// What the root of a unit announces.
-#[derive(Drop)]
-enum RootRanges {
-    /// What units with a key that was met do.
-    Known(KnownRoot),
-    /// Some ranges, with the key that tells them.
-    Spans(Vec<Span>, RootKey),
-    /// Some ranges, and then those of a list that is kept in chains.
-    Chained(Vec<Span>, ListPlace),
-}
 
 /// Whether a unit is a type unit.
 pub fn is_type(kind: UnitKind) -> bool
@@ -190,7 +169,7 @@ fn ranges_by_lines(
     shared: &mut SharedParts,
     unit: &OpenUnit<'_, '_>,
     roots: &KnownRoots,
-) -> Result<RootRanges>
+) -> Result<UnitRanges>
     requires none { ranges_in (open_view unit.now) unit.now.root.ranges ≡ Some [] }
     requires shared { AreShared (open_view unit.now).sections shared.old }
     ensures value { MatchResult result (IsToldByLines (open_view unit.now) roots.now) (λ e. e.kind ≡ OutOfMemory) }
@@ -198,11 +177,11 @@ fn ranges_by_lines(
 {
     let key = RootKey::ByLines(program_key(unit));
     if let Some(known) = roots.find(key) {
-        return Ok(RootRanges::Known(known));
+        return Ok(UnitRanges::Again(known));
     }
     let mut spans = Vec::new(alloc);
     append_shared(alloc, shared, unit, &mut spans)?;
-    Ok(RootRanges::Spans(spans, key))
+    Ok(UnitRanges::Spans(spans, Some(key)))
 }
 
 /// Whether neither some ranges nor those of a list in chains are any.
@@ -221,7 +200,7 @@ fn root_ranges(
     unit: &OpenUnit<'_, '_>,
     roots: &KnownRoots,
     chains: &mut RangeChains,
-) -> Result<RootRanges>
+) -> Result<UnitRanges>
     requires shared { AreShared (open_view unit.now).sections shared.old }
     requires chains { AreChains (open_view unit.now).sections chains.old }
     ensures value { TellsRoot (open_view unit.now) roots.now chains.new result }
@@ -230,20 +209,20 @@ fn root_ranges(
 {
     let key = RootKey::ByRanges(ranges_key(unit));
     if let Some(known) = roots.find(key) {
-        return Ok(RootRanges::Known(known));
+        return Ok(UnitRanges::Again(known));
     }
     match chains.ranges_of(alloc, unit)? {
         ToldRanges::Read(spans) => {
             if spans.is_empty() {
                 return ranges_by_lines(alloc, shared, unit, roots);
             }
-            Ok(RootRanges::Spans(spans, key))
+            Ok(UnitRanges::Spans(spans, Some(key)))
         },
         ToldRanges::InChain(front, place) => {
             if has_none(front.as_slice(), place) {
                 return ranges_by_lines(alloc, shared, unit, roots);
             }
-            Ok(RootRanges::Chained(front, place))
+            Ok(UnitRanges::Chained(front, place))
         },
     }
 }
@@ -256,7 +235,7 @@ fn unit_ranges(
     unit: &BuiltUnit,
     roots: &KnownRoots,
     chains: &mut RangeChains,
-) -> Result<RootRanges>
+) -> Result<UnitRanges>
     requires readable { IsReadable dwarf.now }
     requires fits { BuiltFits (files_view dwarf.now) unit.now }
     requires main { unit.now.origin ≡ Main }
@@ -303,18 +282,14 @@ fn announced_by(
     requires is { or_invalid (built (files_view dwarf.now).main header.now) ≡ Good (built_view (files_view dwarf.now) unit) }
     requires shared { AreShared (files_view dwarf.now).main shared.old }
     requires chains { AreChains (files_view dwarf.now).main chains.old }
-    ensures told { IsToldOr (files_view dwarf.now).main roots.now chains.new (by_root (built (files_view dwarf.now).main header.now)) result }
+    ensures told { TellsBuilt (files_view dwarf.now).main roots.now chains.new (by_root (built (files_view dwarf.now).main header.now)) result }
     ensures part { IfOk result (HasPartOf (files_view dwarf.now) header.now) }
     ensures kept { IfOk result (λ _. KeepsChains (files_view dwarf.now).main chains.old chains.new) }
     ensures shared { AreShared (files_view dwarf.now).main shared.new }
 {
-    let told = unit_ranges(alloc, dwarf, shared, &unit, roots, chains)?;
+    let ranges = unit_ranges(alloc, dwarf, shared, &unit, roots, chains)?;
     let part = kept_of(dwarf, shared, header, unit);
-    match told {
-        RootRanges::Known(known) => Ok(Announcement::Again(part, known.keeper)),
-        RootRanges::Spans(spans, key) => Ok(Announcement::Ranges(spans, part, Some(key))),
-        RootRanges::Chained(front, place) => Ok(Announcement::InChain(front, place, part)),
-    }
+    Ok(Announcement { ranges, part })
 }
 
 /// What a unit announces that no set names. It is not kept where it cannot be built.
@@ -325,27 +300,41 @@ fn announced_by_root(
     header: &UnitHeader,
     roots: &KnownRoots,
     chains: &mut RangeChains,
-) -> Result<Announcement>
+) -> Result<Option<Announcement>>
     requires readable { IsReadable dwarf.now }
     requires in_place { IsInPlace header.now }
     requires shared { AreShared (files_view dwarf.now).main shared.old }
     requires chains { AreChains (files_view dwarf.now).main chains.old }
-    ensures told { IsToldOr (files_view dwarf.now).main roots.now chains.new (by_root (built (files_view dwarf.now).main header.now)) result }
-    ensures part { IfOk result (HasPartOf (files_view dwarf.now) header.now) }
+    ensures told { TellsUnit (files_view dwarf.now).main roots.now chains.new (by_root (built (files_view dwarf.now).main header.now)) result }
+    ensures part { IfOk result (λ told. IfSome told (HasPartOf (files_view dwarf.now) header.now)) }
     ensures kept { IfOk result (λ _. KeepsChains (files_view dwarf.now).main chains.old chains.new) }
     ensures shared { AreShared (files_view dwarf.now).main shared.new }
 {
     match BuiltUnit::of_file(alloc, dwarf, shared, Origin::Main, header) {
-        Ok(unit) => announced_by(alloc, dwarf, shared, header, unit, roots, chains),
+        Ok(unit) => {
+            let told = announced_by(alloc, dwarf, shared, header, unit, roots, chains)?;
+            Ok(Some(told))
+        },
         Err(fault) => {
             unless_memory(fault)?;
-            Ok(Announcement::NotKept)
+            Ok(None)
         },
     }
 }
 
-/// What a unit announces, by the key of its root where that was met. InvalidDwarf exactly where the list of ranges of
-/// its root is needed and has no value.
+/// What a unit announces whose root is not asked.
+fn without_root(spans: Vec<Span>) -> Announcement
+    ensures spans { result.ranges ≡ Spans spans None }
+    ensures part { result.part ≡ Empty }
+{
+    Announcement {
+        ranges: UnitRanges::Spans(spans, None),
+        part: Cache::Empty,
+    }
+}
+
+/// What a unit announces, by the key of its root where that was met; None exactly where it is not kept. InvalidDwarf
+/// exactly where the list of ranges of its root is needed and has no value.
 #[tactic(auto, unfolding(crate::specs::UnitTables::announces))]
 pub fn announced(
     alloc: Global,
@@ -355,26 +344,26 @@ pub fn announced(
     header: &UnitHeader,
     roots: &KnownRoots,
     chains: &mut RangeChains,
-) -> Result<Announcement>
+) -> Result<Option<Announcement>>
     requires readable { IsReadable dwarf.now }
     requires in_place { IsInPlace header.now }
     requires shared { AreShared (files_view dwarf.now).main shared.old }
     requires chains { AreChains (files_view dwarf.now).main chains.old }
-    ensures told { IsToldOr (files_view dwarf.now).main roots.now chains.new (announces (files_view dwarf.now).main sets.now header.now) result }
-    ensures part { IfOk result (HasPartOf (files_view dwarf.now) header.now) }
+    ensures told { TellsUnit (files_view dwarf.now).main roots.now chains.new (announces (files_view dwarf.now).main sets.now header.now) result }
+    ensures part { IfOk result (λ told. IfSome told (HasPartOf (files_view dwarf.now) header.now)) }
     ensures kept { IfOk result (λ _. KeepsChains (files_view dwarf.now).main chains.old chains.new) }
     ensures shared { AreShared (files_view dwarf.now).main shared.new }
 {
     if is_type(header.kind) {
-        return Ok(Announcement::NotKept);
+        return Ok(None);
     }
     let mut spans = Vec::new(alloc);
     if is_partial(header.kind) {
-        return Ok(Announcement::Ranges(spans, Cache::Empty, None));
+        return Ok(Some(without_root(spans)));
     }
     sets.append_ranges(&dwarf.main.aranges, header.start, &mut spans)?;
     if !spans.is_empty() {
-        return Ok(Announcement::Ranges(spans, Cache::Empty, None));
+        return Ok(Some(without_root(spans)));
     }
     announced_by_root(alloc, dwarf, shared, header, roots, chains)
 }

@@ -10,7 +10,7 @@ ghost use Rattle.blz_units.specs.UnitLists.{EndBefore, IsInPlace};
 ghost use Rattle.blz_units.specs.UnitTables.{with_unit, no_units, units_kept};
 
 use crate::address_sets::AddressSets;
-use crate::announcing::{Announcement, announced};
+use crate::announcing::announced;
 use crate::built_units::SideUnits;
 use crate::dwarf::Dwarf;
 use crate::known_roots::KnownRanges;
@@ -95,27 +95,12 @@ impl KeptUnits {
             &known.roots,
             &mut known.chains,
         )?;
-        match told {
-            Announcement::NotKept => Ok(KeptUnits { kept, ranges }),
-            Announcement::Again(unit, keeper) => {
-                let ranges = ranges.again(keeper)?;
-                built.units.push(unit)?;
-                Ok(keep(kept, ranges, header)?)
-            },
-            Announcement::Ranges(spans, unit, key) => {
-                let (ranges, keeper) = ranges.with_unit(spans.as_slice())?;
-                known.roots.note(key, keeper)?;
-                built.units.push(unit)?;
-                Ok(keep(kept, ranges, header)?)
-            },
-            Announcement::InChain(front, place, unit) => {
-                let ranges = known
-                    .chains
-                    .announce(alloc, ranges, front.as_slice(), place)?;
-                built.units.push(unit)?;
-                Ok(keep(kept, ranges, header)?)
-            },
-        }
+        let Some(told) = told else {
+            return Ok(KeptUnits { kept, ranges });
+        };
+        let ranges = known.keep(alloc, ranges, told.ranges)?;
+        built.units.push(told.part)?;
+        Ok(keep(kept, ranges, header)?)
     }
 
     /// Reads the headers of all units, each with what it announces. Those that had to be built for that are given too.

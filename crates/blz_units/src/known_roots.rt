@@ -3,10 +3,12 @@ ghost use Rattle.std.specs.Prelude.{◌≡◌, IfSome, IfOk};
 ghost use Rattle.std.specs.BTreeMap.{IsEmpty};
 ghost use Rattle.blz_info.specs.FileSections.{FileSections};
 ghost use Rattle.blz_announced.specs.Units.{KeptRanges};
-ghost use Rattle.blz_units.specs.Keeping.{AreKnown, AreRoots, IsKnown, IsRootOf};
+ghost use Rattle.blz_units.specs.Keeping.{AreKnown, AreRoots, CanBeKept, IsKnown, IsRootOf, KeepsTold};
 
+use crate::announcement::UnitRanges;
 use crate::range_chains::RangeChains;
 use crate::root_key::RootKey;
+use blz_announced::KeptRanges;
 use std::alloc::{AllocError, Global};
 use std::collections::BTreeMap;
 
@@ -75,6 +77,29 @@ impl KnownRanges {
         KnownRanges {
             roots: KnownRoots::new(alloc),
             chains: RangeChains::new(alloc),
+        }
+    }
+
+    /// Keeps what is told of one unit more with the ranges of the others.
+    pub fn keep(
+        &mut self,
+        alloc: Global,
+        ranges: KeptRanges,
+        told: UnitRanges,
+    ) -> Result<KeptRanges, AllocError>
+        requires { CanBeKept ranges self.old told }
+        ensures { IfOk result (λ k. KeepsTold ranges self.old told k self.new) }
+    {
+        match told {
+            UnitRanges::Again(known) => ranges.again(known.keeper),
+            UnitRanges::Spans(spans, key) => {
+                let (ranges, keeper) = ranges.with_unit(spans.as_slice())?;
+                self.roots.note(key, keeper)?;
+                Ok(ranges)
+            },
+            UnitRanges::Chained(front, place) => {
+                self.chains.announce(alloc, ranges, front.as_slice(), place)
+            },
         }
     }
 }

@@ -2,6 +2,7 @@
 #![tactic(auto)]
 
 mod address_sets;
+mod announcement;
 mod announcing;
 pub mod built_unit;
 pub mod built_units;

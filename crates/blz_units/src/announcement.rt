@@ -1,0 +1,25 @@
+//! What units announce.
+use crate::built_unit::BuiltUnit;
+use crate::known_roots::KnownRoot;
+use crate::range_chains::ListPlace;
+use crate::root_key::RootKey;
+use blz_entry::Span;
+use blz_model::Cache;
+
+/// What a unit announces.
+#[derive(Drop)]
+pub enum UnitRanges {
+    /// What units do with a key that was met.
+    Again(KnownRoot),
+    /// Some ranges, with the key of its root where that tells them.
+    Spans(Vec<Span>, Option<RootKey>),
+    /// Some ranges, and then those of a list that is kept in chains.
+    Chained(Vec<Span>, ListPlace),
+}
+
+/// What is told of a unit that is kept: what it announces, and the unit itself where it had to be built.
+#[derive(Drop)]
+pub struct Announcement {
+    pub ranges: UnitRanges,
+    pub part: Cache<BuiltUnit>,
+}
