@@ -268,6 +268,33 @@ def units_of_one_program_of_rows_with_ranges(n):
     return Attack(dwarf(shapes, units, line=plain_program(many_rows(8 * n))), [BASE + 4 * k for k in range(n)])
 
 
+# ---- units of one line program, of which each is asked
+
+
+def asked_units_of_one_program(n, program):
+    """Units, each with a function, of which each is asked for a line; files are counted from 0, and rows are of file 1."""
+    shapes = {ROOT: root([*RANGE, LINES], 1), FUNCTION: subprogram(RANGE)}
+    units = b"".join(
+        unit(entry(shapes, ROOT, BASE + 4 * k, 4, 0) + entry(shapes, FUNCTION, BASE + 4 * k, 4) + b"\0") for k in range(n)
+    )
+    return Attack(dwarf(shapes, units, line=program), [BASE + 4 * k for k in range(n)])
+
+
+@shape
+def asked_units_of_one_program_of_rows(n):
+    return asked_units_of_one_program(n, line_program(["/p"], [("a.c", 0), ("b.c", 0)], many_rows(16 * n)))
+
+
+@shape
+def asked_units_of_one_program_of_sequences(n):
+    return asked_units_of_one_program(n, line_program(["/p"], [("a.c", 0), ("b.c", 0)], many_sequences(4 * n)))
+
+
+@shape
+def asked_units_of_one_header_of_files(n):
+    return asked_units_of_one_program(n, line_program(["/p"], [("a", 0)] * 8 * n, b""))
+
+
 # ---- announced ranges
 
 
