@@ -5,3 +5,4 @@ pub mod RowsUpTo
 pub mod MovedUp
 pub mod RunRows
 pub mod RisingRows
+pub mod UnitFiles

@@ -8,8 +8,10 @@ pub mod Registers
 pub mod Sequences
 pub mod Program
 pub mod FileNames
+pub mod ProgramFiles
 pub mod NamingView
 pub mod UnitLines
+pub mod ProgramTables
 pub mod RowOrder
 pub mod Lookups
 pub mod LinesFields

@@ -12,6 +12,7 @@ mod naming;
 mod opcode;
 mod paths;
 mod program;
+mod program_lines;
 mod registers;
 mod row;
 mod rules;
@@ -19,4 +20,5 @@ mod table;
 
 pub use header::LineHeader;
 pub use lines::{Lines, Location};
+pub use program_lines::ProgramLines;
 pub use row::{LineRow, LineSequence};

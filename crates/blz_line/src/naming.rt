@@ -1,18 +1,21 @@
 //! How the entries of a table of files become files.
-ghost use Rattle.std.specs.Prelude.{◌≡◌};
+ghost use Rattle.std.specs.Prelude.{◌≡◌, length, IfOk};
+ghost use Rattle.std.specs.Arc.{arc_value};
 ghost use Rattle.blz_error.specs.declared.kind.ErrorKind.TheVariants.{InvalidDwarf};
 ghost use Rattle.blz_model.specs.Part.{Gives, or_mark};
 ghost use Rattle.blz_line.specs.Tables.{copies};
-ghost use Rattle.blz_line.specs.FileNames.{directory_path, file_of, all_files, unit_file, file_zero, files_of};
+ghost use Rattle.blz_line.specs.FileNames.{directory_path, file_of, all_files};
 ghost use Rattle.blz_line.specs.NamingView.{naming_view};
+ghost use Rattle.blz_line.specs.ProgramFiles.{first_of};
 
 use crate::broken::broken;
-use crate::files::{FilePlaces, Files, NOWHERE};
+use crate::files::{FilePlaces, FirstFile, ProgramFiles};
 use crate::paths::FileEntry;
 use crate::table::Table;
 use blz_entry::{AttrValue, Sections, StrPlace, UnitHeader, UnitRoot, attr_string};
 use blz_error::Result;
 use std::alloc::Global;
+use std::sync::Arc;
 
 /// What the names of a table's files go by.
 #[derive(Clone, Copy)]
@@ -58,7 +61,7 @@ impl Namer<'_, '_, '_> {
             None => None,
         };
         Some(FilePlaces {
-            comp_dir: self.root.comp_dir,
+            comp_dir: None,
             directory,
             name: Some(name),
         })
@@ -99,39 +102,27 @@ impl Namer<'_, '_, '_> {
         Ok(files)
     }
 
-    fn file_zero(&self, entries: &Table<FileEntry>) -> Option<FilePlaces>
-        ensures { result ≡ file_zero (naming_view self.now) entries.now }
+    /// What file 0 is.
+    fn first_of(&self, entries: &Table<FileEntry>) -> FirstFile
+        ensures { result ≡ first_of self.now.version (length entries.now) }
     {
         if self.version <= 4 {
-            return Some(unit_file(self.root));
+            return FirstFile::OfUnit;
         }
         match entries.get(0) {
-            Some(_) => None,
-            None => Some(NOWHERE),
+            Some(_) => FirstFile::Listed,
+            None => FirstFile::Nowhere,
         }
     }
 
-    /// The files by their numbers; InvalidDwarf where a path or a directory cannot be read.
-    #[tactic(auto, unfolding(crate::specs::FileNames::files_of))]
-    pub fn files_of(&self, alloc: Global, entries: &Table<FileEntry>) -> Result<Files>
-        ensures { Gives (λ f. f) result (or_mark (files_of (naming_view self.now) entries.now) InvalidDwarf) }
+    /// The files of the program; InvalidDwarf where a path or a directory cannot be read.
+    pub fn files_of(&self, alloc: Global, entries: &Table<FileEntry>) -> Result<ProgramFiles>
+        ensures table { Gives (λ f. arc_value f.table) result (or_mark (all_files (naming_view self.now) entries.now) InvalidDwarf) }
+        ensures first { IfOk result (λ f. f.first ≡ first_of self.now.version (length entries.now)) }
     {
-        let table = self.all_files(alloc, entries)?;
-        let zero = self.file_zero(entries);
-        Ok(Files::new(zero, table))
-    }
-}
-
-/// The unit's own file.
-fn unit_file(root: &UnitRoot) -> FilePlaces
-    ensures { result ≡ unit_file root.now.comp_dir root.now.name }
-{
-    match root.name {
-        None => NOWHERE,
-        Some(name) => FilePlaces {
-            comp_dir: root.comp_dir,
-            directory: None,
-            name: Some(name),
-        },
+        let files = self.all_files(alloc, entries)?;
+        let table = Arc::new(alloc, files)?;
+        let first = self.first_of(entries);
+        Ok(ProgramFiles { first, table })
     }
 }
