@@ -55,4 +55,5 @@ cold_fits f t kept count sups c fits k s cold = record {
     lists = cold.lists_right f;
   };
   units = record { same = cold.unit_count ∙ k; each = λ n. unit_cold f t n (slice_get c.units.items n) (cold.units_empty n) };
+  programs = cold.programs_right f.main;
 }

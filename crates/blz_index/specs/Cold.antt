@@ -12,6 +12,7 @@ use Rattle.blz_units.specs.BuiltUnits.{Files}
 use Rattle.blz_units.specs.KeptParts.{or_empty, AreSeen, kept_root, kept_functions, kept_lines, kept_calls}
 use Rattle.blz_units.specs.SharedTables.{AreTables}
 use Rattle.blz_units.specs.SharedLists.{AreSharedLists}
+use Rattle.blz_units.specs.SharedPrograms.{ArePrograms}
 use Rattle.blz_units.specs.Sharing.{AreShared}
 use Rattle.blz_units.specs.UnitTables.{UnitTable}
 
@@ -38,4 +39,5 @@ pub record IsCold (kept : SideUnits) (count sups : ℕ) (c : Caches) : Type 0 wh
   pub sups_rows : c.built.sups.packed.rows ≡ None
   pub long_seen : (f : Files) (t : UnitTable) → AreSeen f t c.built.long
   pub lists_right : (f : Files) → AreSharedLists f c.built.lists
+  pub programs_right : (s : FileSections) → ArePrograms s c.programs
   pub units_empty : AreEmpty c.units.items

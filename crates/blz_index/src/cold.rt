@@ -13,6 +13,7 @@ use blz_units::long_entries::LongEntries;
 use blz_units::shared_lists::SharedLists;
 use blz_units::shared_package::SharedPackage;
 use blz_units::shared_parts::SharedParts;
+use blz_units::shared_programs::SharedPrograms;
 use std::alloc::{AllocError, Global};
 
 fn empty_units(alloc: Global, count: usize) -> Result<Vec<Cache<BuiltUnit>>, AllocError>
@@ -75,5 +76,10 @@ pub fn cold_caches(
         long: LongEntries::new(alloc),
         lists: SharedLists::new(alloc),
     };
-    Ok(Caches { built, units })
+    let programs = SharedPrograms::new(alloc);
+    Ok(Caches {
+        built,
+        units,
+        programs,
+    })
 }

@@ -8,7 +8,8 @@ ghost use Rattle.blz_units.specs.BuiltUnits.{IsReadable};
 ghost use Rattle.blz_reader.specs.Filling.{AreCallsOf, AreFunctionsOf, AreLinesOf, CanBeFilled, Fills, HasCallsOf, HasPart, IsRootOf};
 ghost use Rattle.blz_reader.specs.Growing.{Told};
 ghost use Rattle.blz_units.specs.KeptParts.{lacks_root, lacks_functions, lacks_lines, lacks_calls};
-ghost use Rattle.blz_reader.specs.Readers.{BuiltFor, PartsFor, as_read};
+ghost use Rattle.blz_reader.specs.Readers.{BuiltFor, PartsFor, as_read, reader_files};
+ghost use Rattle.blz_units.specs.SharedPrograms.{ArePrograms};
 ghost use Rattle.blz_units.specs.UnitAnswers.{function_calls};
 
 use crate::marks::mark_of;
@@ -24,6 +25,7 @@ use blz_units::caches::{
     Caches, UnitCaches, lacks_calls, lacks_functions, lacks_lines, lacks_root,
 };
 use blz_units::look::{function_place, root_of};
+use blz_units::shared_programs::SharedPrograms;
 use std::alloc::AllocError;
 
 impl<'r, 's, 'b> Reader<'r, 's, 'b> {
@@ -131,18 +133,21 @@ impl<'r, 's, 'b> Reader<'r, 's, 'b> {
     fn lines_part<O: Orders>(
         &self,
         orders: &mut O,
+        programs: &mut SharedPrograms,
         units: &[UnitCaches],
         number: usize,
     ) -> Result<Cache<Option<Lines>>, AllocError>
         requires fits { PartsFor self.now units.now }
         requires filled { lacks_root (slice_get units.now number) ≡ false }
-        ensures { IfOk result (AreLinesOf O.pair_places self.now number) }
+        requires programs { ArePrograms (reader_files self.now).main programs.old }
+        ensures lines { IfOk result (AreLinesOf O.pair_places self.now number) }
+        ensures programs { ArePrograms (reader_files self.now).main programs.new }
     {
         let root = match root_of(units, number) {
             Ok(root) => root,
             Err(e) => return Ok(Cache::Mark(e.kind())),
         };
-        match self.read_lines(orders, number, &root) {
+        match self.read_lines(orders, programs, number, &root) {
             Ok(lines) => Ok(Cache::Value(lines)),
             Err(e) => Ok(Cache::Mark(mark_of(&e)?)),
         }
@@ -181,7 +186,12 @@ impl<'r, 's, 'b> Reader<'r, 's, 'b> {
         ensures filled { IfOk result (λ _. HasPart lacks_lines caches.new number) }
         ensures fills { Fills O.pair_places self.now caches.old caches.new }
     {
-        let lines = self.lines_part(orders, caches.units.as_slice(), number)?;
+        let lines = self.lines_part(
+            orders,
+            &mut caches.programs,
+            caches.units.as_slice(),
+            number,
+        )?;
         put_lines(&mut caches.units, number, lines);
         Ok(())
     }

@@ -10,6 +10,7 @@ ghost use Rattle.blz_units.specs.BuiltUnits.{built, root_in, BuiltFits, IsReadab
 ghost use Rattle.blz_reader.specs.Growing.{LinesOrdered};
 ghost use Rattle.blz_units.specs.KeptParts.{lines_view, unit_root, IsBuilt, IsFilled};
 ghost use Rattle.blz_reader.specs.Readers.{BuiltFor, as_read, as_seen, reader_files};
+ghost use Rattle.blz_units.specs.SharedPrograms.{ArePrograms};
 ghost use Rattle.blz_units.specs.Sharing.{AreShared};
 ghost use Rattle.blz_units.specs.UnitAnswers.{read_unit, lists_in, calls_in, place_calls, unit_functions, unit_lines};
 
@@ -28,6 +29,7 @@ use blz_units::dwarf::Origin;
 use blz_units::long_entries::LongEntries;
 use blz_units::shared_lists::SharedLists;
 use blz_units::shared_parts::SharedParts;
+use blz_units::shared_programs::SharedPrograms;
 use std::alloc::AllocError;
 use std::mem;
 
@@ -236,15 +238,18 @@ impl<'r, 's, 'b> Reader<'r, 's, 'b> {
     pub fn read_lines<O: Orders>(
         &self,
         orders: &mut O,
+        programs: &mut SharedPrograms,
         number: usize,
         root: &UnitRoot,
     ) -> Result<Option<Lines>>
-        requires { as_read self.now unit_root number ≡ Some root.now }
+        requires root { as_read self.now unit_root number ≡ Some root.now }
+        requires programs { ArePrograms (reader_files self.now).main programs.old }
         ensures value { Gives lines_view result (or_invalid (as_read self.now unit_lines number)) }
         ensures ordered { IfOk result (LinesOrdered O.pair_places) }
+        ensures programs { ArePrograms (reader_files self.now).main programs.new }
     {
         match self.table.kept.get(number) {
-            Some(header) => Lines::parse(self.alloc, orders, &self.dwarf.main, &header, root),
+            Some(header) => programs.lines(self.alloc, orders, &self.dwarf.main, &header, root),
             None => Err(invalid("a unit has no such number")),
         }
     }

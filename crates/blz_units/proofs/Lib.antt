@@ -26,3 +26,4 @@ pub mod Chained
 pub mod ChainPieces
 pub mod RootTold
 pub mod SharedLists
+pub mod SharedPrograms

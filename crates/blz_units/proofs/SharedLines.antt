@@ -65,7 +65,7 @@ module _ (n : Naming) (dir name : Option StrPlace) where
 
 -- ---- what is read by the key
 
-string_same : (s : Sections) (h g : UnitHeader) (r q : UnitRoot) → h.wide ≡ g.wide → r.str_offsets_base ≡ q.str_offsets_base → (v : AttrValue) → string_of s h r v ≡ string_of s g q v
+pub string_same : (s : Sections) (h g : UnitHeader) (r q : UnitRoot) → h.wide ≡ g.wide → r.str_offsets_base ≡ q.str_offsets_base → (v : AttrValue) → string_of s h r v ≡ string_of s g q v
 unfolding string_of indexed_string
 string_same s h g r q wide base (StrIndex index) = rw (wide, base) refl
 string_same s h g r q wide base _ = refl

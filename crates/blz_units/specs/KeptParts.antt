@@ -32,6 +32,7 @@ use Rattle.blz_functions.specs.FunctionRanges.{FunctionRanges, CallRanges}
 use Rattle.blz_units.specs.LongEntries.{seen_in}
 use Rattle.blz_units.specs.SharedPackage.{IsPackageShared}
 use Rattle.blz_units.specs.SharedLists.{AreSharedLists}
+use Rattle.blz_units.specs.SharedPrograms.{ArePrograms}
 use Rattle.blz_units.specs.Sharing.{AreShared}
 use Rattle.blz_units.specs.UnitAnswers.{main_unit, unit_functions, unit_lines, function_calls}
 use Rattle.blz_units.specs.UnitTables.{UnitTable}
@@ -184,6 +185,7 @@ pub record PartsFit (f : Files) (t : UnitTable) (units : List UnitCaches) : Type
 pub record AllFit (f : Files) (t : UnitTable) (c : Caches) : Type 0 where
   pub built : BuiltFit f t c.built
   pub units : PartsFit f t c.units.items
+  pub programs : ArePrograms f.main c.programs
 
 -- ---- what is filled
 

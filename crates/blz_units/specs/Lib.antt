@@ -14,5 +14,6 @@ pub mod UnitAnswers
 pub mod UnitSites
 pub mod LongEntries
 pub mod SharedLists
+pub mod SharedPrograms
 pub mod KeptParts
 pub mod KeptAnswers

@@ -5,6 +5,7 @@ ghost use Rattle.blz_units.specs.declared.caches.UnitCaches.{UnitCaches};
 ghost use Rattle.blz_units.specs.KeptParts.{is_empty, lacks_root, lacks_functions, lacks_lines, lacks_calls};
 
 use crate::built_units::BuiltUnits;
+use crate::shared_programs::SharedPrograms;
 use blz_entry::UnitRoot;
 use blz_functions::{Functions, InlinedFunctions};
 use blz_line::Lines;
@@ -28,6 +29,8 @@ pub struct UnitCaches {
 pub struct Caches {
     pub built: BuiltUnits,
     pub units: Vec<UnitCaches>,
+    /// The line programs that were read.
+    pub programs: SharedPrograms,
 }
 
 /// Whether nothing is kept.

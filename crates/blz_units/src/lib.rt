@@ -24,6 +24,7 @@ mod shared_lines;
 pub mod shared_lists;
 pub mod shared_package;
 pub mod shared_parts;
+pub mod shared_programs;
 mod shared_tables;
 mod sized_lists;
 pub mod unit_list;

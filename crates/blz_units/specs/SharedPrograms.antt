@@ -1,0 +1,19 @@
+-- The line programs that units share: each is what every unit finds that reads it so.
+use Rattle.std.specs.Prelude.{◌≡◌, Option, IfSome, option_map}
+use Rattle.std.specs.BTreeMap.{get}
+use Rattle.blz_entry.specs.declared.root.UnitRoot.{UnitRoot}
+use Rattle.blz_functions.specs.Leaves.{lying}
+use Rattle.blz_info.specs.FileSections.{FileSections}
+use Rattle.blz_info.specs.declared.units.UnitHeader.{UnitHeader}
+use Rattle.blz_line.specs.ProgramTables.{OrderedProgram, program_at}
+use Rattle.blz_units.specs.Sharing.{lines_key, program_cmp}
+use Rattle.blz_units.specs.declared.shared_lines.ProgramKey.{ProgramKey}
+use Rattle.blz_units.specs.declared.shared_programs.SharedPrograms.{SharedPrograms}
+
+-- what the line program at an offset gives, for each unit that reads it so
+abbrev pub IsProgramAt : FileSections → ProgramKey → Option OrderedProgram → Type 0
+IsProgramAt s key program = (h : UnitHeader) (r : UnitRoot) → lines_key h r ≡ key.lines
+    → program_at (lying s) h r key.offset ≡ option_map (λ (p : OrderedProgram). p.table) program
+
+abbrev pub ArePrograms : FileSections → SharedPrograms → Type 0
+ArePrograms s programs = (key : ProgramKey) → IfSome (get program_cmp programs.kept key) (IsProgramAt s key)
