@@ -459,6 +459,12 @@ def each_behind_its_base(n):
 
 
 @shape
+def one_range_list_of_units_of_each_base(n):
+    # all its ranges count from the base of the unit
+    return units_of_each_base([offset_pair(4 * k, 4 * k + 1) for k in range(n)], [0] * n)
+
+
+@shape
 def one_range_list_of_units_with_a_front_of_each_base(n):
     # one range counts from the base of the unit, and the others are the same for all units
     return units_of_each_base([offset_pair(1, 2), based(BASE), pairs(n)], [0] * n)

@@ -271,11 +271,12 @@ def units_of_one_program_of_rows_with_ranges(n):
 # ---- units of one line program, of which each is asked
 
 
-def asked_units_of_one_program(n, program):
+def asked_units_of_one_program(n, program, attributes=(), value=None):
     """Units, each with a function, of which each is asked for a line; files are counted from 0, and rows are of file 1."""
-    shapes = {ROOT: root([*RANGE, LINES], 1), FUNCTION: subprogram(RANGE)}
+    shapes = {ROOT: root([*RANGE, LINES, *attributes], 1), FUNCTION: subprogram(RANGE)}
     units = b"".join(
-        unit(entry(shapes, ROOT, BASE + 4 * k, 4, 0) + entry(shapes, FUNCTION, BASE + 4 * k, 4) + b"\0") for k in range(n)
+        unit(entry(shapes, ROOT, BASE + 4 * k, 4, 0, *([value(k)] if value else []))
+             + entry(shapes, FUNCTION, BASE + 4 * k, 4) + b"\0") for k in range(n)
     )
     return Attack(dwarf(shapes, units, line=program), [BASE + 4 * k for k in range(n)])
 
@@ -283,6 +284,12 @@ def asked_units_of_one_program(n, program):
 @shape
 def asked_units_of_one_program_of_rows(n):
     return asked_units_of_one_program(n, line_program(["/p"], [("a.c", 0), ("b.c", 0)], many_rows(16 * n)))
+
+
+@shape
+def asked_units_of_one_program_of_rows_with_string_offsets_of_each_unit(n):
+    rows = line_program(["/p"], [("a.c", 0), ("b.c", 0)], many_rows(16 * n))
+    return asked_units_of_one_program(n, rows, [(DW_AT_STR_OFFSETS_BASE, DW_FORM_SEC_OFFSET)], lambda k: k)
 
 
 @shape
