@@ -6,3 +6,5 @@ pub mod MovedUp
 pub mod RunRows
 pub mod RisingRows
 pub mod UnitFiles
+pub mod AlikeRuns
+pub mod Indices

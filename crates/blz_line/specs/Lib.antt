@@ -11,8 +11,10 @@ pub mod FileNames
 pub mod ProgramFiles
 pub mod NamingView
 pub mod UnitLines
+pub mod ProgramRuns
 pub mod ProgramTables
 pub mod RowOrder
 pub mod Lookups
 pub mod LinesFields
+pub mod RunFields
 pub mod TableView

@@ -5,10 +5,11 @@ use Rattle.blz_line.specs.declared.program_lines.ProgramLines.TheInside.{Inside}
 use Rattle.blz_line.specs.Lookups.{spans_of}
 use Rattle.blz_line.specs.ProgramTables.{OrderedProgram}
 use Rattle.blz_line.specs.RowOrder.{AreRising}
+use Rattle.blz_line.specs.TableView.{table_with}
 
 abbrev pub lines_value : Inside → OrderedProgram
 lines_value l = record {
-  table = record { sequences = (arc_value l.sequences).items; first = l.files.first; files = arc_value l.files.table };
+  table = table_with (arc_value l.sequences).items l.files;
   ordered = (arc_value l.index).ordered;
 }
 

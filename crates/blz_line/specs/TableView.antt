@@ -1,7 +1,9 @@
--- What the table of a line program stands for before its order.
+-- The table of a line program by its sequences and its files.
+use Rattle.std.specs.Prelude.{List}
 use Rattle.std.specs.Arc.{arc_value}
 use Rattle.blz_line.specs.ProgramTables.{ProgramTable}
-use Rattle.blz_line.specs.declared.program_lines.Unordered.{Unordered}
+use Rattle.blz_line.specs.Sequences.{Sequence}
+use Rattle.blz_line.specs.declared.files.ProgramFiles.{ProgramFiles}
 
-abbrev pub table_view : Unordered → ProgramTable
-table_view t = record { sequences = t.sequences.items; first = t.files.first; files = arc_value t.files.table }
+abbrev pub table_with : List Sequence → ProgramFiles → ProgramTable
+table_with sequences files = record { sequences = sequences; first = files.first; files = arc_value files.table }

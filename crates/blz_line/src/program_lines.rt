@@ -2,26 +2,20 @@
 ghost use Rattle.std.specs.Prelude.{◌≡◌, map, slice_get, IfOk};
 ghost use Rattle.std.specs.Arc.{arc_value};
 ghost use Rattle.blz_bytes.specs.ToldPlaces.{counting};
-ghost use Rattle.blz_error.specs.declared.kind.ErrorKind.TheVariants.{InvalidDwarf};
-ghost use Rattle.blz_model.specs.Part.{Gives, or_mark};
 ghost use Rattle.blz_ranges.specs.Best.{best};
 ghost use Rattle.blz_ranges.specs.Keyed.{IsAccepted, begin_key};
-ghost use Rattle.blz_line.specs.HeaderFacts.{IsInside, IsReady};
-ghost use Rattle.blz_line.specs.Headers.{rules_of};
 ghost use Rattle.blz_line.specs.Lookups.{spans_of, row_in};
 ghost use Rattle.blz_line.specs.ProgramFiles.{files_by};
-ghost use Rattle.blz_line.specs.ProgramTables.{program_table, program_at};
+ghost use Rattle.blz_line.specs.ProgramTables.{program_at, table_in, GivesTable, IsOrderedBy};
 ghost use Rattle.blz_line.specs.RowOrder.{AreRising};
-ghost use Rattle.blz_line.specs.TableView.{table_view};
+ghost use Rattle.blz_line.specs.TableView.{table_with};
 
 use crate::files::{FilePlaces, ProgramFiles, UnitNames};
-use crate::header::{LineHeader, header_at};
 use crate::lookup::{row_at, spans_of};
-use crate::naming::Namer;
-use crate::program::{Machine, run};
+use crate::program_run::ProgramRun;
 use crate::row::{LineRow, LineSequence};
 use blz_bytes::{Key, Orders, check_pairs};
-use blz_entry::{Sections, UnitHeader, UnitRoot, cut};
+use blz_entry::{Sections, UnitHeader, UnitRoot};
 use blz_error::Result;
 use blz_ranges::{RangeIndex, Span};
 use std::alloc::{AllocError, Global};
@@ -46,62 +40,6 @@ impl Model for ProgramLines {
     ghost view = { lines_value };
 
     ghost invariant = { AreIndexed };
-}
-
-/// A table before its order.
-#[derive(Drop)]
-struct Unordered {
-    sequences: Vec<LineSequence>,
-    files: ProgramFiles,
-}
-
-/// Reads the table of a header and runs its program.
-#[tactic(auto, unfolding(crate::specs::ProgramTables::program_table, crate::specs::UnitLines::program_of))]
-fn table_of(
-    alloc: Global,
-    sections: &Sections<'_, '_>,
-    unit: &UnitHeader,
-    root: &UnitRoot,
-    header: LineHeader,
-) -> Result<Unordered>
-    requires ready { IsReady (rules_of header) }
-    requires inside { IsInside header sections.now.line.bytes.now }
-    ensures value { Gives table_view result (or_mark (program_table sections.now unit.now root.now header) InvalidDwarf) }
-    ensures rising { IfOk result (λ t. AreRising (table_view t).sequences) }
-{
-    let rules = header.rules();
-    let program = header.program;
-    let line = cut(&sections.line, header.end);
-    let counts = header.counts(&sections.line);
-    let (directories, files) = header.into_paths();
-    let mut machine = Machine::new(alloc, files);
-    run(alloc, rules, counts, &line, program, &mut machine)?;
-    let (sequences, entries) = machine.into_parts();
-    let namer = Namer {
-        sections,
-        unit,
-        root,
-        version: rules.version,
-        directories: &directories,
-    };
-    let files = namer.files_of(alloc, &entries)?;
-    Ok(Unordered { sequences, files })
-}
-
-/// The table at an offset of `.debug_line`.
-#[tactic(auto, unfolding(crate::specs::ProgramTables::program_at))]
-fn table_at(
-    alloc: Global,
-    sections: &Sections<'_, '_>,
-    unit: &UnitHeader,
-    root: &UnitRoot,
-    at: u64,
-) -> Result<Unordered>
-    ensures value { Gives table_view result (or_mark (program_at sections.now unit.now root.now at) InvalidDwarf) }
-    ensures rising { IfOk result (λ t. AreRising (table_view t).sequences) }
-{
-    let header = header_at(alloc, &sections.line, at as usize, unit.address_size)?;
-    table_of(alloc, sections, unit, root, header)
 }
 
 /// The keys of ranges by their begins.
@@ -144,19 +82,18 @@ fn is_accepted<O: Orders>(
 
 impl ProgramLines {
     /// Asks for an order of the sequences, and keeps it where it passes the check.
-    fn new<O: Orders>(
+    fn ordered<O: Orders>(
         alloc: Global,
         orders: &mut O,
-        table: Unordered,
+        sequences: Arc<Vec<LineSequence>>,
+        files: ProgramFiles,
     ) -> std::result::Result<ProgramLines, AllocError>
-        requires { AreRising (table_view table).sequences }
-        ensures table { IfOk result (λ l. l.table ≡ table_view table) }
-        ensures accepted { IfOk result (λ l. IsAccepted O.pair_places (map begin_key (spans_of l.table.sequences)) l.ordered) }
+        requires { AreRising (arc_value sequences).items }
+        ensures table { IfOk result (λ l. l.table ≡ table_with (arc_value sequences).items files) }
+        ensures accepted { IfOk result (IsOrderedBy O.pair_places) }
     {
-        let Unordered { sequences, files } = table;
         let spans = spans_of(alloc, sequences.as_slice())?;
         let order = RangeIndex::build(alloc, orders, spans)?;
-        let sequences = Arc::new(alloc, sequences)?;
         let index = Arc::new(alloc, order)?;
         Ok(ProgramLines {
             sequences,
@@ -165,8 +102,28 @@ impl ProgramLines {
         })
     }
 
+    /// The table of a line program that was run, as a unit reads it; InvalidDwarf exactly where the string of a file has
+    /// no value.
+    #[tactic(auto, unfolding(crate::specs::ProgramTables::table_in))]
+    pub fn of_run<O: Orders>(
+        alloc: Global,
+        orders: &mut O,
+        sections: &Sections<'_, '_>,
+        header: &UnitHeader,
+        root: &UnitRoot,
+        run: ProgramRun,
+    ) -> Result<ProgramLines>
+        ensures value { GivesTable (table_in sections.now header.now root.now run) result }
+        ensures accepted { IfOk result (IsOrderedBy O.pair_places) }
+    {
+        let files = run.files(alloc, sections, header, root)?;
+        let sequences = Arc::new(alloc, run.into_sequences())?;
+        Ok(ProgramLines::ordered(alloc, orders, sequences, files)?)
+    }
+
     /// The table of the line program at an offset, as a unit reads it; InvalidDwarf exactly where that, or the string of a
     /// file, has no value.
+    #[tactic(auto, unfolding(crate::specs::ProgramTables::program_at))]
     pub fn parse<O: Orders>(
         alloc: Global,
         orders: &mut O,
@@ -175,11 +132,11 @@ impl ProgramLines {
         root: &UnitRoot,
         at: u64,
     ) -> Result<ProgramLines>
-        ensures value { Gives (λ p. p.table) result (or_mark (program_at sections.now header.now root.now at) InvalidDwarf) }
-        ensures accepted { IfOk result (λ p. IsAccepted O.pair_places (map begin_key (spans_of p.table.sequences)) p.ordered) }
+        ensures value { GivesTable (program_at sections.now header.now root.now at) result }
+        ensures accepted { IfOk result (IsOrderedBy O.pair_places) }
     {
-        let table = table_at(alloc, sections, header, root, at)?;
-        Ok(ProgramLines::new(alloc, orders, table)?)
+        let run = ProgramRun::parse(alloc, &sections.line, at, header.address_size)?;
+        ProgramLines::of_run(alloc, orders, sections, header, root, run)
     }
 
     /// The same table once more.
@@ -203,22 +160,16 @@ impl ProgramLines {
         orders: &mut O,
     ) -> std::result::Result<ProgramLines, AllocError>
         ensures table { IfOk result (λ p. p.table ≡ self.now.table) }
-        ensures accepted { IfOk result (λ p. IsAccepted O.pair_places (map begin_key (spans_of p.table.sequences)) p.ordered) }
+        ensures accepted { IfOk result (IsOrderedBy O.pair_places) }
     {
         let spans = spans_of(alloc, self.sequences.as_slice())?;
         let ordered = is_accepted(alloc, orders, spans.as_slice())?;
         if ordered == self.index.is_ordered() {
             return self.share();
         }
-        let order = RangeIndex::build(alloc, orders, spans)?;
         let sequences = Arc::try_clone(&self.sequences)?;
         let files = self.files.share()?;
-        let index = Arc::new(alloc, order)?;
-        Ok(ProgramLines {
-            sequences,
-            files,
-            index,
-        })
+        ProgramLines::ordered(alloc, orders, sequences, files)
     }
 
     /// Whether the order of the sequences was accepted.

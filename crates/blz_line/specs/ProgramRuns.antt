@@ -1,0 +1,52 @@
+-- What a line program gives before the strings of its files are read: the same for each unit whose addresses have one size
+-- (DWARF 5 section 6.2).
+use Rattle.std.specs.Prelude.{ℕ, Bool, true, false, ◌||◌, List, Option, Some, Result}
+use Rattle.std.specs.List.{list_any}
+use Rattle.blz_error.specs.Fault.{Fault}
+use Rattle.blz_error.specs.declared.kind.ErrorKind.TheVariants.{InvalidDwarf}
+use Rattle.blz_model.specs.Part.{Gives, or_mark}
+use Rattle.blz_model.specs.Reads.{◌>>=◌}
+use Rattle.blz_info.specs.Contents.{Contents}
+use Rattle.blz_info.specs.declared.value.AttrValue.{AttrValue}
+use Rattle.blz_info.specs.declared.value.AttrValue.TheVariants.{StrIndex}
+use Rattle.blz_line.specs.declared.header.LineHeader.{LineHeader}
+use Rattle.blz_line.specs.declared.paths.FileEntry.{FileEntry}
+use Rattle.blz_line.specs.Headers.{header_at}
+use Rattle.blz_line.specs.Sequences.{Sequence}
+use Rattle.blz_line.specs.UnitLines.{program_of}
+
+-- the version of the header, its directories, the sequences, and the entries of the files
+pub record RunParts : Type 0 where
+  pub version : ℕ
+  pub directories : List FileEntry
+  pub sequences : List Sequence
+  pub entries : List FileEntry
+
+-- what the program of a header gives
+unfoldable pub run_of : Contents → LineHeader → Option RunParts
+run_of s h = do
+  state ← program_of s h
+  Some (record { version = h.version; directories = h.paths.directories; sequences = state.sequences; entries = state.files })
+
+-- what the program at an offset gives
+unfoldable pub run_at : Contents → ℕ → ℕ → Option RunParts
+run_at s at address_size = do
+  header ← header_at s at address_size
+  run_of s header
+
+-- A call gives a run, or InvalidDwarf exactly where there is none.
+abbrev pub GivesRun : Option RunParts → Result RunParts Fault → Type 0
+GivesRun run result = Gives (λ (r : RunParts). r) result (or_mark run InvalidDwarf)
+
+-- a string that is found by its index in the string offsets of a unit
+abbrev pub is_index : AttrValue → Bool
+is_index (StrIndex index) = true
+is_index _ = false
+
+-- Whether a path of some entries is such a string.
+abbrev pub has_index : List FileEntry → Bool
+has_index entries = list_any (λ (e : FileEntry). is_index e.path) entries
+
+-- Whether the names of the files may need the string offsets of a unit.
+abbrev pub by_index : RunParts → Bool
+by_index run = has_index run.directories || has_index run.entries
