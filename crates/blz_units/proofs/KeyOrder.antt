@@ -1,17 +1,18 @@
 -- Keys that compare as equal are one.
 use Rattle.std.proofs.Common.{◌≡◌, ℕ, Bool, true, false, Some, None, Ordering, Less, Equal, Greater, refl, ap}
+use Rattle.std.specs.Option.{option_cmp}
 use Rattle.std.specs.Ordering.{bool_cmp, nat_cmp, ordering_then}
 use Rattle.std.proofs.lemmas.Map.Lookups.{CmpEqualImpliesEq, exact_unsigned}
 use Rattle.blz_units.specs.RangeChains.{piece_cmp}
 use Rattle.blz_units.specs.RootKeys.{list_cmp, root_cmp}
 use Rattle.blz_units.specs.SharedLists.{key_cmp}
-use Rattle.blz_units.specs.Sharing.{program_cmp}
+use Rattle.blz_units.specs.ProgramKeys.{program_cmp}
 use Rattle.blz_units.specs.contracts.root_key.RangesKeyOrd.TheImpl as ranges
-use Rattle.blz_units.specs.contracts.shared_lines.LinesKeyOrd.TheImpl as lines
+use Rattle.blz_units.specs.contracts.program_key.StringsKeyOrd.TheImpl as strings
 use Rattle.blz_units.specs.contracts.shared_lists.ListsPlaceOrd.TheImpl as places
 use Rattle.blz_units.specs.declared.root_key.RangesKey.TheVariants.{Listed, Bounded, Unbounded}
 use Rattle.blz_units.specs.declared.root_key.RootKey.TheVariants.{ByRanges, ByLines}
-use Rattle.blz_units.specs.declared.shared_lines.ProgramKey.{ProgramKey}
+use Rattle.blz_units.specs.declared.program_key.ProgramKey.{ProgramKey}
 use Rattle.blz_units.specs.declared.shared_lists.ListsPlace.TheVariants.{InFile, InPiece, InSup}
 
 both : (a b : Ordering) → ordering_then a b ≡ Equal → (a ≡ Equal) × (b ≡ Equal)
@@ -93,19 +94,24 @@ exact_piece x y e =
 
 -- ---- a line program
 
-exact_lines : CmpEqualImpliesEq lines.ghosts.cmp
-exact_lines x y e =
-    let size = number x.address_size y.address_size _ e in
-    let wide = flag x.wide y.wide _ size.1 in
+exact_strings : CmpEqualImpliesEq strings.ghosts.cmp
+exact_strings x y e =
+    let wide = flag x.wide y.wide _ e in
     let base = exact_unsigned x.str_offsets_base y.str_offsets_base wide.1 in
-    λ i. record { address_size = size.0 i; wide = wide.0 i; str_offsets_base = base i }
+    λ i. record { wide = wide.0 i; str_offsets_base = base i }
+
+exact_maybe : CmpEqualImpliesEq (option_cmp strings.ghosts.cmp)
+exact_maybe None None e = refl
+exact_maybe None (Some y) e = absurd cc
+exact_maybe (Some x) None e = absurd cc
+exact_maybe (Some x) (Some y) e = ap Some (exact_strings x y e)
 
 pub exact_program : CmpEqualImpliesEq program_cmp
 exact_program x y e =
-    let first = both (lines.ghosts.cmp x.lines y.lines) _ e in
-    let lines = exact_lines x.lines y.lines first.0 in
-    let offset = exact_unsigned x.offset y.offset first.1 in
-    λ i. record { lines = lines i; offset = offset i }
+    let offset = number x.offset y.offset _ e in
+    let size = number x.address_size y.address_size _ offset.1 in
+    let found = exact_maybe x.strings y.strings size.1 in
+    λ i. record { offset = offset.0 i; address_size = size.0 i; strings = found i }
 
 -- ---- a root
 

@@ -18,12 +18,12 @@ pub mod SizedSteps
 pub mod LineHeaders
 pub mod SharedPackage
 pub mod Shared
-pub mod SharedLines
 pub mod KeyOrder
 pub mod SameLists
 pub mod RootKeys
 pub mod Chained
 pub mod ChainPieces
 pub mod RootTold
+pub mod LinesTold
 pub mod SharedLists
 pub mod SharedPrograms

@@ -1,5 +1,5 @@
 -- What the root of a unit announces depends on its key alone.
-use Rattle.std.proofs.Common.{◌≡◌, ℕ, ◌<◌, List, [], ◌∷◌, length, Option, Some, None, option_map, refl, sym, ap, ◌∙◌, arith}
+use Rattle.std.proofs.Common.{◌≡◌, ℕ, ◌<◌, List, [], ◌∷◌, length, Option, Some, None, refl, sym, ap, ◌∙◌, arith}
 use Rattle.std.specs.Option.{option_to_list}
 use Rattle.blz_model.specs.Reads.{◌>>=◌}
 use Rattle.blz_entry.specs.RangeLists.{bounds_of, not_empty, ranges_by, ranges_of, spans_from}
@@ -10,17 +10,14 @@ use Rattle.blz_functions.specs.Leaves.{UnitParts, lying, ranges_in, spans_behind
 use Rattle.blz_info.specs.FileSections.{FileSections}
 use Rattle.blz_info.specs.declared.section.Sections.{Sections}
 use Rattle.blz_info.specs.declared.units.UnitHeader.{UnitHeader}
-use Rattle.blz_line.specs.UnitLines.{maybe_table}
 use Rattle.blz_ranges.specs.declared.span.Span.{Span}
-use Rattle.blz_units.specs.RootKeys.{bounded_by, list_key, program_at, program_key, ranges_by_key, ranges_key, tail_key, IsKeyOf}
-use Rattle.blz_units.specs.UnitTables.{lines_in, or_sequences, sequences_of}
+use Rattle.blz_units.specs.RootKeys.{bounded_by, list_key, ranges_by_key, ranges_key, tail_key, IsKeyOf}
+use Rattle.blz_units.specs.UnitTables.{or_sequences}
 use Rattle.blz_units.specs.declared.root_key.ListKey.{ListKey}
-use Rattle.blz_units.specs.declared.shared_lines.ProgramKey.{ProgramKey}
 use Rattle.blz_units.specs.declared.root_key.RangesKey.{RangesKey}
 use Rattle.blz_units.specs.declared.root_key.RangesKey.TheVariants.{Listed, Bounded, Unbounded}
-use Rattle.blz_units.specs.declared.root_key.RootKey.TheVariants.{ByRanges, ByLines}
+use Rattle.blz_units.specs.declared.root_key.RootKey.TheVariants.{ByRanges}
 use Rattle.blz_units.proofs.SameLists.{tail_same}
-use Rattle.blz_units.proofs.SharedLines.{lines_same}
 
 -- ---- what is read by the key of a list
 
@@ -79,39 +76,12 @@ ranges_same : (u v : UnitParts) → v.sections ≡ u.sections → ranges_key u �
 unfolding ranges_in ranges_of
 ranges_same u v at e = by_same u v u.root.ranges.ranges_offset v.root.ranges.ranges_offset at e
 
--- ---- the lines
-
-abbrev lines_by : UnitParts → Option ℕ → List Span
-lines_by u o = sequences_of (maybe_table (lying u.sections) u.header u.root o)
-
-some_program : ProgramKey → Option ProgramKey → ProgramKey
-some_program other None = other
-some_program other (Some key) = key
-
-lines_by_same : (u v : UnitParts) (o p : Option ℕ) → v.sections ≡ u.sections → option_map (program_at u) o ≡ option_map (program_at v) p → lines_by v p ≡ lines_by u o
-unfolding some_program
-lines_by_same u v None None at e = refl
-lines_by_same u v None (Some offset) at e = absurd cc
-lines_by_same u v (Some offset) None at e = absurd cc
-lines_by_same u v (Some offset) (Some other) at e =
-    let key : program_at u offset ≡ program_at v other = ap (some_program (program_at u offset)) e in
-    ap (λ (s : FileSections). sequences_of (maybe_table (lying s) v.header v.root (Some other))) at
-    ∙ (ap (λ (k : ProgramKey). sequences_of (maybe_table (lying u.sections) v.header v.root (Some k.offset))) (sym key)
-    ∙ lines_same (lying u.sections) v.header u.header v.root u.root offset (sym (ap (λ (k : ProgramKey). k.lines) key)))
-
-sequences_same : (u v : UnitParts) → v.sections ≡ u.sections → program_key u ≡ program_key v → sequences_of (lines_in v) ≡ sequences_of (lines_in u)
-sequences_same u v at e = lines_by_same u v u.root.line v.root.line at e
-
 -- ---- what a root announces
 
-abbrev or_lines : UnitParts → Option (List Span) → Option (List Span)
+abbrev pub or_lines : UnitParts → Option (List Span) → Option (List Span)
 or_lines u o = o >>= λ spans. Some (or_sequences u spans)
 
 -- a root with a range is told by its ranges
 pub ranges_tell : (u : UnitParts) (spans : List Span) → ranges_in u u.root.ranges ≡ Some spans → 0 < length spans → IsKeyOf u (ByRanges (ranges_key u))
 ranges_tell u [] is some = absurd (omega arith)
 ranges_tell u (x ∷ spans) is some = λ v at told. ap (or_lines v) (ranges_same u v at told ∙ is) ∙ sym (ap (or_lines u) is)
-
--- and one without by its lines
-pub lines_tell : (u : UnitParts) → ranges_in u u.root.ranges ≡ Some [] → IsKeyOf u (ByLines (program_key u))
-lines_tell u none = λ v at told. ap (or_lines v) told.0 ∙ (ap (λ (l : List Span). Some l) (sequences_same u v at told.1) ∙ sym (ap (or_lines u) none))

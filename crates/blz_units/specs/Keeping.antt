@@ -31,9 +31,13 @@ use Rattle.blz_units.specs.declared.root_key.RootKey.{RootKey}
 abbrev pub IsKnown : KnownRoots → KnownRoot → Type 0
 IsKnown roots known = get root_cmp roots.roots known.key ≡ Some known.keeper
 
+-- A key that was met tells what a unit announces.
+abbrev pub IsMetOf : KnownRoots → UnitParts → KnownRoot → Type 0
+IsMetOf roots u known = IsKnown roots known × IsToldBy known.key u
+
 -- What is told of a root is what its unit announces, and a key with it tells the same of each unit.
 abbrev pub IsRootTold : UnitParts → KnownRoots → RangeChains → UnitRanges → Type 0
-IsRootTold u roots chains (Again known) = IsKnown roots known × IsToldBy known.key u
+IsRootTold u roots chains (Again known) = IsMetOf roots u known
 IsRootTold u roots chains (Spans spans key) = (root_spans u ≡ Some spans.items) × IfSome key (IsKeyOf u)
 IsRootTold u roots chains (Chained front place) = IsLastIn chains (root_spans u) front.items place
 
@@ -43,6 +47,10 @@ TellsRoot u roots chains result = MatchResult result (IsRootTold u roots chains)
 -- So it is told by lines, whatever the chains are.
 abbrev pub IsToldByLines : UnitParts → KnownRoots → UnitRanges → Type 0
 IsToldByLines u roots told = (chains : RangeChains) → IsRootTold u roots chains told
+
+-- The same whatever roots were met.
+abbrev pub IsToldAnew : UnitParts → UnitRanges → Type 0
+IsToldAnew u told = (roots : KnownRoots) → IsToldByLines u roots told
 
 -- ---- what is told of a unit
 

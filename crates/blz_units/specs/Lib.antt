@@ -3,6 +3,7 @@ pub mod SizedLists
 pub mod SharedTables
 pub mod Sharing
 pub mod SharedPackage
+pub mod ProgramKeys
 pub mod RootKeys
 pub mod RangeChains
 pub mod Keeping

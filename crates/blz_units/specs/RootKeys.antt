@@ -1,5 +1,5 @@
 -- By what the root of a unit tells what the unit announces: as little of the unit as that depends on.
-use Rattle.std.specs.Prelude.{◌≡◌, ℕ, List, [], Option, Some, None, option_map}
+use Rattle.std.specs.Prelude.{◌≡◌, ℕ, List, [], Option, Some, None}
 use Rattle.std.specs.declared.cmp.Ordering.{Ordering}
 use Rattle.blz_entry.specs.RangeLists.{bounds_of, not_empty}
 use Rattle.blz_entry.specs.declared.range_tail.RangeTail.{RangeTail}
@@ -7,14 +7,14 @@ use Rattle.blz_functions.specs.Leaves.{UnitParts, ranges_in, spans_behind}
 use Rattle.blz_info.specs.FileSections.{FileSections}
 use Rattle.blz_ranges.specs.declared.span.Span.{Span}
 use Rattle.blz_units.specs.declared.root_key.ListKey.{ListKey}
-use Rattle.blz_units.specs.declared.shared_lines.ProgramKey.{ProgramKey}
+use Rattle.blz_units.specs.declared.program_key.ProgramKey.{ProgramKey}
 use Rattle.blz_units.specs.declared.root_key.RangesKey.{RangesKey}
 use Rattle.blz_units.specs.declared.root_key.RangesKey.TheVariants.{Listed, Bounded, Unbounded}
 use Rattle.blz_units.specs.contracts.root_key.ListKeyOrd.TheImpl as lists
 use Rattle.blz_units.specs.contracts.root_key.RootKeyOrd.TheImpl as order
 use Rattle.blz_units.specs.declared.root_key.RootKey.{RootKey}
 use Rattle.blz_units.specs.declared.root_key.RootKey.TheVariants.{ByRanges, ByLines}
-use Rattle.blz_units.specs.Sharing.{lines_key}
+use Rattle.blz_units.specs.ProgramKeys.{IsReader}
 use Rattle.blz_units.specs.UnitTables.{root_spans}
 
 -- how a unit reads the list of ranges at an offset
@@ -63,12 +63,10 @@ ranges_by_key u (Some offset) = Listed (list_key u offset)
 abbrev pub ranges_key : UnitParts → RangesKey
 ranges_key u = ranges_by_key u u.root.ranges.ranges_offset
 
--- how a unit reads its line program
-abbrev pub program_at : UnitParts → ℕ → ProgramKey
-program_at u at = record { lines = lines_key u.header u.root; offset = at }
-
-abbrev pub program_key : UnitParts → Option ProgramKey
-program_key u = option_map (program_at u) u.root.line
+-- The line program of a unit is the one of a key, which the unit is one of; none where it has none.
+abbrev pub HasProgram : Option ProgramKey → UnitParts → Type 0
+HasProgram None u = u.root.line ≡ None
+HasProgram (Some key) u = (u.root.line ≡ Some key.offset) × IsReader key u.header u.root
 
 -- keys stand in the order of their fields
 abbrev pub root_cmp : RootKey → RootKey → Ordering
@@ -77,7 +75,7 @@ root_cmp = order.ghosts.cmp
 -- A key tells what a unit announces: what tells its ranges where it has some, and its line program where it has none.
 abbrev pub IsToldBy : RootKey → UnitParts → Type 0
 IsToldBy (ByRanges ranges) u = ranges ≡ ranges_key u
-IsToldBy (ByLines program) u = (ranges_in u u.root.ranges ≡ Some []) × (program ≡ program_key u)
+IsToldBy (ByLines program) u = (ranges_in u u.root.ranges ≡ Some []) × HasProgram program u
 
 -- Each unit of the same sections that is told by a key announces what the unit does.
 abbrev pub IsKeyOf : UnitParts → RootKey → Type 0

@@ -1,39 +1,34 @@
 //! What a unit announces.
-ghost use Rattle.std.specs.Prelude.{◌≡◌, ◌≢◌, ◌+◌, ◌<◌, ◌++◌, [], true, false, length, Option, None, Some, IfOk, IfSome, MatchResult, OnOk, option_map};
+ghost use Rattle.std.specs.Prelude.{◌≡◌, ◌≢◌, ◌+◌, ◌<◌, true, false, length, Option, None, Some, IfOk, IfSome, MatchResult};
 ghost use Rattle.blz_error.specs.declared.kind.ErrorKind.TheVariants.{OutOfMemory};
-ghost use Rattle.blz_model.specs.Part.{Good, Gives};
+ghost use Rattle.blz_model.specs.Part.{Good};
 ghost use Rattle.blz_info.specs.Marks.{or_invalid};
-ghost use Rattle.blz_line.specs.Lookups.{span_of, spans_of};
-ghost use Rattle.blz_line.specs.UnitLines.{OrderedLines};
 ghost use Rattle.blz_units.specs.BuiltUnits.{built, built_view, files_view, BuiltFits, IsReadable};
 ghost use Rattle.blz_units.specs.KeptParts.{IsPartOf};
-ghost use Rattle.blz_functions.specs.Leaves.{ranges_in};
 ghost use Rattle.blz_functions.specs.Opened.{open_view};
-ghost use Rattle.blz_units.specs.Keeping.{HasPartOf, IsToldByLines, TellsBuilt, TellsRoot, TellsUnit};
+ghost use Rattle.blz_units.specs.Keeping.{HasPartOf, TellsBuilt, TellsRoot, TellsUnit};
 ghost use Rattle.blz_units.specs.RangeChains.{count_in, AreChains, KeepsChains};
 ghost use Rattle.blz_units.specs.Sharing.{AreShared};
 ghost use Rattle.blz_model.specs.declared.cache.Cache.TheVariants.{Empty};
 ghost use Rattle.blz_units.specs.declared.announcement.UnitRanges.TheVariants.{Spans};
 ghost use Rattle.blz_units.specs.declared.dwarf.Origin.TheVariants.{Main};
 ghost use Rattle.blz_units.specs.UnitLists.{IsInPlace};
-ghost use Rattle.blz_units.specs.UnitTables.{announces, by_root, is_type, is_partial, lines_in, sequences_of};
+ghost use Rattle.blz_units.specs.UnitTables.{announces, by_root, is_type, is_partial};
 
 use crate::address_sets::AddressSets;
+use crate::announced_lines::ranges_by_lines;
 use crate::announcement::{Announcement, UnitRanges};
 use crate::built_unit::{BuiltUnit, may_be_split};
 use crate::dwarf::{Dwarf, Origin};
 use crate::known_roots::KnownRoots;
 use crate::range_chains::{ListPlace, RangeChains, ToldRanges};
-use crate::root_key::{RootKey, program_key, ranges_key};
-use crate::shared_lines::{ProgramSpans, lines_key};
+use crate::root_key::{RootKey, ranges_key};
 use crate::shared_parts::SharedParts;
-use blz_bytes::AsTheyStand;
 use blz_entry::{Span, UnitHeader, UnitKind};
 use blz_error::{Error, ErrorKind, Result};
 use blz_functions::OpenUnit;
-use blz_line::{LineSequence, Lines};
 use blz_model::Cache;
-use std::alloc::{AllocError, Global};
+use std::alloc::Global;
 
 /// Whether a unit is a type unit.
 pub fn is_type(kind: UnitKind) -> bool
@@ -70,120 +65,6 @@ fn unless_memory(fault: Error) -> Result<()>
     }
 }
 
-fn span_of(sequence: &LineSequence) -> Span
-    ensures { result ≡ span_of sequence.now }
-{
-    Span {
-        begin: sequence.start,
-        end: sequence.end,
-    }
-}
-
-/// Appends what sequences cover.
-fn append_spans(
-    sequences: &[LineSequence],
-    out: &mut Vec<Span>,
-) -> std::result::Result<(), AllocError>
-    ensures { OnOk result (out.new.items ≡ out.old.items ++ spans_of sequences.now) }
-{
-    for sequence in sequences {
-        out.push(span_of(sequence))?;
-    }
-    Ok(())
-}
-
-/// The lines of a unit.
-fn lines_of(alloc: Global, unit: &OpenUnit<'_, '_>) -> Result<Option<Lines>>
-    ensures { Gives (λ lines. option_map (λ (l : OrderedLines). l.table) lines) result (or_invalid (lines_in (open_view unit.now))) }
-{
-    Lines::parse(
-        alloc,
-        &mut AsTheyStand,
-        &unit.sections,
-        &unit.header,
-        &unit.root,
-    )
-}
-
-/// Appends what the sequences of the lines of a unit cover, where it has lines that have a value.
-fn append_lines(alloc: Global, unit: &OpenUnit<'_, '_>, out: &mut Vec<Span>) -> Result<()>
-    ensures { MatchResult result (λ _. out.new.items ≡ out.old.items ++ sequences_of (lines_in (open_view unit.now))) (λ e. e.kind ≡ OutOfMemory) }
-{
-    match lines_of(alloc, unit) {
-        Ok(Some(lines)) => {
-            append_spans(lines.sequences(), out)?;
-            Ok(())
-        }
-        Ok(None) => Ok(()),
-        Err(fault) => unless_memory(fault),
-    }
-}
-
-/// Reads what the lines of a unit cover, appends it, and keeps it for the units that share the line program.
-fn append_and_keep(
-    alloc: Global,
-    shared: &mut SharedParts,
-    unit: &OpenUnit<'_, '_>,
-    at: u64,
-    out: &mut Vec<Span>,
-) -> Result<()>
-    requires line { unit.now.root.line ≡ Some at }
-    requires shared { AreShared (open_view unit.now).sections shared.old }
-    ensures value { MatchResult result (λ _. out.new.items ≡ out.old.items ++ sequences_of (lines_in (open_view unit.now))) (λ e. e.kind ≡ OutOfMemory) }
-    ensures shared { AreShared (open_view unit.now).sections shared.new }
-{
-    let key = lines_key(&unit.header, &unit.root);
-    let mut spans = Vec::new(alloc);
-    append_lines(alloc, unit, &mut spans)?;
-    out.extend_from_slice(spans.as_slice())?;
-    shared.keep_spans(unit, at, ProgramSpans { key, spans })?;
-    Ok(())
-}
-
-/// Appends what the lines of a unit cover, as it is kept of their line program where another unit shares it.
-fn append_shared(
-    alloc: Global,
-    shared: &mut SharedParts,
-    unit: &OpenUnit<'_, '_>,
-    out: &mut Vec<Span>,
-) -> Result<()>
-    requires { AreShared (open_view unit.now).sections shared.old }
-    ensures value { MatchResult result (λ _. out.new.items ≡ out.old.items ++ sequences_of (lines_in (open_view unit.now))) (λ e. e.kind ≡ OutOfMemory) }
-    ensures shared { AreShared (open_view unit.now).sections shared.new }
-{
-    let Some(at) = unit.root.line else {
-        return Ok(());
-    };
-    match shared.kept_spans(at, lines_key(&unit.header, &unit.root)) {
-        Some(spans) => {
-            out.extend_from_slice(spans)?;
-            Ok(())
-        }
-        None => append_and_keep(alloc, shared, unit, at, out),
-    }
-}
-
-/// What the sequences of the lines of a unit without ranges cover: nothing is read where its line program was met.
-fn ranges_by_lines(
-    alloc: Global,
-    shared: &mut SharedParts,
-    unit: &OpenUnit<'_, '_>,
-    roots: &KnownRoots,
-) -> Result<UnitRanges>
-    requires none { ranges_in (open_view unit.now) unit.now.root.ranges ≡ Some [] }
-    requires shared { AreShared (open_view unit.now).sections shared.old }
-    ensures value { MatchResult result (IsToldByLines (open_view unit.now) roots.now) (λ e. e.kind ≡ OutOfMemory) }
-    ensures shared { AreShared (open_view unit.now).sections shared.new }
-{
-    let key = RootKey::ByLines(program_key(unit));
-    if let Some(known) = roots.find(key) {
-        return Ok(UnitRanges::Again(known));
-    }
-    let mut spans = Vec::new(alloc);
-    append_shared(alloc, shared, unit, &mut spans)?;
-    Ok(UnitRanges::Spans(spans, Some(key)))
-}
-
 /// Whether neither some ranges nor those of a list in chains are any.
 fn has_none(front: &[Span], place: ListPlace) -> bool
     ensures none { result ≡ true → length front.now + count_in place ≡ 0 }
@@ -196,16 +77,13 @@ fn has_none(front: &[Span], place: ListPlace) -> bool
 /// is read where the key of its ranges was met.
 fn root_ranges(
     alloc: Global,
-    shared: &mut SharedParts,
     unit: &OpenUnit<'_, '_>,
     roots: &KnownRoots,
     chains: &mut RangeChains,
 ) -> Result<UnitRanges>
-    requires shared { AreShared (open_view unit.now).sections shared.old }
     requires chains { AreChains (open_view unit.now).sections chains.old }
     ensures value { TellsRoot (open_view unit.now) roots.now chains.new result }
     ensures kept { IfOk result (λ _. KeepsChains (open_view unit.now).sections chains.old chains.new) }
-    ensures shared { AreShared (open_view unit.now).sections shared.new }
 {
     let key = RootKey::ByRanges(ranges_key(unit));
     if let Some(known) = roots.find(key) {
@@ -214,13 +92,13 @@ fn root_ranges(
     match chains.ranges_of(alloc, unit)? {
         ToldRanges::Read(spans) => {
             if spans.is_empty() {
-                return ranges_by_lines(alloc, shared, unit, roots);
+                return ranges_by_lines(alloc, unit, roots);
             }
             Ok(UnitRanges::Spans(spans, Some(key)))
         },
         ToldRanges::InChain(front, place) => {
             if has_none(front.as_slice(), place) {
-                return ranges_by_lines(alloc, shared, unit, roots);
+                return ranges_by_lines(alloc, unit, roots);
             }
             Ok(UnitRanges::Chained(front, place))
         },
@@ -231,7 +109,6 @@ fn root_ranges(
 fn unit_ranges(
     alloc: Global,
     dwarf: &Dwarf<'_, '_>,
-    shared: &mut SharedParts,
     unit: &BuiltUnit,
     roots: &KnownRoots,
     chains: &mut RangeChains,
@@ -239,13 +116,11 @@ fn unit_ranges(
     requires readable { IsReadable dwarf.now }
     requires fits { BuiltFits (files_view dwarf.now) unit.now }
     requires main { unit.now.origin ≡ Main }
-    requires shared { AreShared (files_view dwarf.now).main shared.old }
     requires chains { AreChains (files_view dwarf.now).main chains.old }
     ensures value { TellsRoot (built_view (files_view dwarf.now) unit.now) roots.now chains.new result }
     ensures kept { IfOk result (λ _. KeepsChains (files_view dwarf.now).main chains.old chains.new) }
-    ensures shared { AreShared (files_view dwarf.now).main shared.new }
 {
-    root_ranges(alloc, shared, &unit.open(dwarf), roots, chains)
+    root_ranges(alloc, &unit.open(dwarf), roots, chains)
 }
 
 /// What is kept of a unit that was built: nothing where its functions may stand in a package, or where there was no room
@@ -270,7 +145,7 @@ fn kept_of(
 fn announced_by(
     alloc: Global,
     dwarf: &Dwarf<'_, '_>,
-    shared: &mut SharedParts,
+    shared: &SharedParts,
     header: &UnitHeader,
     unit: BuiltUnit,
     roots: &KnownRoots,
@@ -280,14 +155,12 @@ fn announced_by(
     requires fits { BuiltFits (files_view dwarf.now) unit }
     requires main { unit.origin ≡ Main }
     requires is { or_invalid (built (files_view dwarf.now).main header.now) ≡ Good (built_view (files_view dwarf.now) unit) }
-    requires shared { AreShared (files_view dwarf.now).main shared.old }
     requires chains { AreChains (files_view dwarf.now).main chains.old }
     ensures told { TellsBuilt (files_view dwarf.now).main roots.now chains.new (by_root (built (files_view dwarf.now).main header.now)) result }
     ensures part { IfOk result (HasPartOf (files_view dwarf.now) header.now) }
     ensures kept { IfOk result (λ _. KeepsChains (files_view dwarf.now).main chains.old chains.new) }
-    ensures shared { AreShared (files_view dwarf.now).main shared.new }
 {
-    let ranges = unit_ranges(alloc, dwarf, shared, &unit, roots, chains)?;
+    let ranges = unit_ranges(alloc, dwarf, &unit, roots, chains)?;
     let part = kept_of(dwarf, shared, header, unit);
     Ok(Announcement { ranges, part })
 }

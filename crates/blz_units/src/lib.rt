@@ -2,6 +2,7 @@
 #![tactic(auto)]
 
 mod address_sets;
+mod announced_lines;
 mod announcement;
 mod announcing;
 pub mod built_unit;
@@ -18,9 +19,10 @@ pub mod look;
 mod named_lists;
 mod packed_places;
 mod passed_list;
+mod program_key;
 mod range_chains;
+mod read_program;
 mod root_key;
-mod shared_lines;
 pub mod shared_lists;
 pub mod shared_package;
 pub mod shared_parts;

@@ -2,9 +2,9 @@
 ghost use Rattle.std.specs.Prelude.{◌≡◌};
 ghost use Rattle.blz_entry.specs.RangeLists.{bounds_of, not_empty};
 ghost use Rattle.blz_functions.specs.Opened.{open_view};
-ghost use Rattle.blz_units.specs.RootKeys.{bounded_by, list_key, program_key, ranges_key, tail_key};
+ghost use Rattle.blz_units.specs.RootKeys.{bounded_by, list_key, ranges_key, tail_key};
 
-use crate::shared_lines::{ProgramKey, lines_key};
+use crate::program_key::ProgramKey;
 use blz_entry::{RangeAttributes, RangeTail};
 use blz_functions::OpenUnit;
 
@@ -84,18 +84,5 @@ pub fn ranges_key(unit: &OpenUnit<'_, '_>) -> RangesKey
     match unit.root.ranges.ranges_offset {
         Some(offset) => RangesKey::Listed(list_key(unit, offset)),
         None => bounded_by(&unit.root.ranges),
-    }
-}
-
-/// The line program of a unit.
-pub fn program_key(unit: &OpenUnit<'_, '_>) -> Option<ProgramKey>
-    ensures { result ≡ program_key (open_view unit.now) }
-{
-    match unit.root.line {
-        Some(offset) => Some(ProgramKey {
-            lines: lines_key(&unit.header, &unit.root),
-            offset,
-        }),
-        None => None,
     }
 }

@@ -4,19 +4,14 @@ ghost use Rattle.blz_info.specs.FileSections.{FileSections};
 ghost use Rattle.blz_units.specs.Sharing.{AreShared};
 
 use crate::line_headers::LineHeaders;
-use crate::shared_lines::ProgramKey;
 use crate::shared_tables::SharedTables;
-use blz_entry::Span;
 use std::alloc::Global;
-use std::collections::BTreeMap;
 
-/// The tables of abbreviations that were read, the line programs that have headers, and what the programs of units without
-/// ranges cover.
+/// The tables of abbreviations that were read, and the line programs that have headers.
 #[derive(Drop)]
 pub struct SharedParts {
     pub tables: SharedTables,
     pub headers: LineHeaders,
-    pub spans: BTreeMap<ProgramKey, Vec<Span>>,
 }
 
 impl SharedParts {
@@ -28,7 +23,6 @@ impl SharedParts {
         SharedParts {
             tables: SharedTables::new(alloc),
             headers: LineHeaders::new(alloc),
-            spans: BTreeMap::new(alloc),
         }
     }
 }

@@ -1,23 +1,23 @@
 //! Line programs, read once for all units that read them alike.
-ghost use Rattle.std.specs.Prelude.{◌≡◌, ◌≢◌, map, None, option_map, IfOk, IfSome};
-ghost use Rattle.blz_error.specs.declared.kind.ErrorKind.TheVariants.{InvalidDwarf, OutOfMemory};
+ghost use Rattle.std.specs.Prelude.{map, option_map, IfOk, IfSome};
 ghost use Rattle.blz_info.specs.FileSections.{FileSections, sections_view};
 ghost use Rattle.blz_line.specs.Lookups.{spans_of};
-ghost use Rattle.blz_line.specs.ProgramTables.{program_at};
+ghost use Rattle.blz_line.specs.ProgramTables.{program_at, GivesTable, IsOrderedBy};
 ghost use Rattle.blz_line.specs.UnitLines.{OrderedLines, lines_of};
-ghost use Rattle.blz_model.specs.Part.{Gives, or_mark};
+ghost use Rattle.blz_model.specs.Part.{Gives};
 ghost use Rattle.blz_ranges.specs.Keyed.{IsAccepted, begin_key};
-ghost use Rattle.blz_units.specs.SharedPrograms.{ArePrograms, IsProgramAt};
+ghost use Rattle.blz_units.specs.SharedPrograms.{ArePrograms, IsFound, IsProgramAt};
 
-use crate::shared_lines::{ProgramKey, lines_key};
+use crate::program_key::ProgramKey;
+use crate::read_program::ReadProgram;
 use blz_bytes::Orders;
 use blz_entry::{Sections, UnitHeader, UnitRoot, invalid};
-use blz_error::{Error, ErrorKind, Result};
+use blz_error::Result;
 use blz_line::{Lines, ProgramLines};
 use std::alloc::{AllocError, Global};
 use std::collections::BTreeMap;
 
-/// The tables of line programs, by how they are read; none where a program has no value.
+/// The tables of line programs, by the units that read them alike; none where a program has no value.
 #[derive(Drop)]
 pub struct SharedPrograms {
     pub kept: BTreeMap<ProgramKey, Option<ProgramLines>>,
@@ -45,13 +45,13 @@ impl SharedPrograms {
         Ok(())
     }
 
-    /// Keeps that the program of a key has no value, if that is why it can't be read.
-    fn keep_fault(&mut self, key: ProgramKey, fault: &Error) -> std::result::Result<(), AllocError>
-        ensures { (s : FileSections) → (fault.now.kind ≢ OutOfMemory → IsProgramAt s key None) → ArePrograms s self.old → ArePrograms s self.new }
+    /// What is kept of the line program at an offset, for all units or for those that find their strings as one does.
+    fn find(&self, header: &UnitHeader, root: &UnitRoot, at: u64) -> Option<&Option<ProgramLines>>
+        ensures { IfSome result (λ p. IsFound self.now header.now root.now at p.now) }
     {
-        match fault.kind() {
-            ErrorKind::OutOfMemory => Ok(()),
-            _ => self.keep(key, None),
+        match self.kept.get(&ProgramKey::for_all(header, at)) {
+            Some(program) => Some(program),
+            None => self.kept.get(&ProgramKey::for_unit(header, root, at)),
         }
     }
 
@@ -66,25 +66,20 @@ impl SharedPrograms {
         at: u64,
     ) -> Result<ProgramLines>
         requires { ArePrograms (sections_view sections.now) self.old }
-        ensures value { Gives (λ p. p.table) result (or_mark (program_at sections.now header.now root.now at) InvalidDwarf) }
-        ensures accepted { IfOk result (λ p. IsAccepted O.pair_places (map begin_key (spans_of p.table.sequences)) p.ordered) }
+        ensures value { GivesTable (program_at sections.now header.now root.now at) result }
+        ensures accepted { IfOk result (IsOrderedBy O.pair_places) }
         ensures kept { ArePrograms (sections_view sections.now) self.new }
     {
-        let key = ProgramKey {
-            lines: lines_key(header, root),
-            offset: at,
+        let ReadProgram { key, program } = ReadProgram::read(
+            alloc, orders, sections, header, root, at,
+        )?;
+        let Some(program) = program else {
+            self.keep(key, None)?;
+            return Err(invalid("a line program has no value"));
         };
-        match ProgramLines::parse(alloc, orders, sections, header, root, at) {
-            Ok(program) => {
-                let kept = program.share()?;
-                self.keep(key, Some(kept))?;
-                Ok(program)
-            },
-            Err(fault) => {
-                self.keep_fault(key, &fault)?;
-                Err(fault)
-            },
-        }
+        let kept = program.share()?;
+        self.keep(key, Some(kept))?;
+        Ok(program)
     }
 
     /// The table of the line program at an offset, as a unit reads it. InvalidDwarf exactly where that, or the string of a
@@ -99,15 +94,11 @@ impl SharedPrograms {
         at: u64,
     ) -> Result<ProgramLines>
         requires { ArePrograms (sections_view sections.now) self.old }
-        ensures value { Gives (λ p. p.table) result (or_mark (program_at sections.now header.now root.now at) InvalidDwarf) }
-        ensures accepted { IfOk result (λ p. IsAccepted O.pair_places (map begin_key (spans_of p.table.sequences)) p.ordered) }
+        ensures value { GivesTable (program_at sections.now header.now root.now at) result }
+        ensures accepted { IfOk result (IsOrderedBy O.pair_places) }
         ensures kept { ArePrograms (sections_view sections.now) self.new }
     {
-        let key = ProgramKey {
-            lines: lines_key(header, root),
-            offset: at,
-        };
-        match self.kept.get(&key) {
+        match self.find(header, root, at) {
             Some(Some(program)) => Ok(program.asked_again(alloc, orders)?),
             Some(None) => Err(invalid("a line program has no value")),
             None => self.read_anew(alloc, orders, sections, header, root, at),

@@ -2,4 +2,4 @@ use Rattle.blz_units.proofs.Shared.{new_shared}
 use Rattle.blz_units.proofs.shared_parts.SharedParts.new.Goals as goal
 
 pub returns-clause-shared : goal.returns-clause-shared
-returns-clause-shared c = λ s. new_shared s _ (c.new.ensures.tables s.«abbrev».bytes) (c.new-2.ensures s.line) c.new-3.ensures.empty
+returns-clause-shared c = λ s. new_shared s _ (c.new.ensures.tables s.«abbrev».bytes) (c.new-2.ensures s.line)

@@ -1,0 +1,113 @@
+//! What the lines of a unit without ranges announce.
+ghost use Rattle.std.specs.Prelude.{◌≡◌, ◌++◌, [], Some, IfOk, IfSome, OnOk};
+ghost use Rattle.blz_functions.specs.Leaves.{ranges_in};
+ghost use Rattle.blz_functions.specs.Opened.{open_view};
+ghost use Rattle.blz_line.specs.Lookups.{span_of, spans_of};
+ghost use Rattle.blz_units.specs.Keeping.{IsMetOf, IsToldAnew, IsToldByLines};
+ghost use Rattle.blz_units.specs.SharedPrograms.{covered_by, table_of, ButForMemory};
+
+use crate::announcement::UnitRanges;
+use crate::known_roots::{KnownRoot, KnownRoots};
+use crate::program_key::ProgramKey;
+use crate::read_program::ReadProgram;
+use crate::root_key::RootKey;
+use blz_bytes::AsTheyStand;
+use blz_entry::Span;
+use blz_error::Result;
+use blz_functions::OpenUnit;
+use blz_line::{LineSequence, ProgramLines};
+use std::alloc::{AllocError, Global};
+
+fn span_of(sequence: &LineSequence) -> Span
+    ensures { result ≡ span_of sequence.now }
+{
+    Span {
+        begin: sequence.start,
+        end: sequence.end,
+    }
+}
+
+/// Appends what sequences cover.
+fn append_spans(
+    sequences: &[LineSequence],
+    out: &mut Vec<Span>,
+) -> std::result::Result<(), AllocError>
+    ensures { OnOk result (out.new.items ≡ out.old.items ++ spans_of sequences.now) }
+{
+    for sequence in sequences {
+        out.push(span_of(sequence))?;
+    }
+    Ok(())
+}
+
+/// What the sequences of a line program cover, where it has a value.
+fn covered(
+    alloc: Global,
+    program: &Option<ProgramLines>,
+) -> std::result::Result<Vec<Span>, AllocError>
+    ensures { IfOk result (λ spans. spans.items ≡ covered_by (table_of program.now)) }
+{
+    let mut spans = Vec::new(alloc);
+    let Some(program) = program else {
+        return Ok(spans);
+    };
+    append_spans(program.sequences(), &mut spans)?;
+    Ok(spans)
+}
+
+/// What is known of the units that read the line program of a unit alike.
+fn known_program(unit: &OpenUnit<'_, '_>, roots: &KnownRoots) -> Option<KnownRoot>
+    requires { ranges_in (open_view unit.now) unit.now.root.ranges ≡ Some [] }
+    ensures { IfSome result (IsMetOf roots.now (open_view unit.now)) }
+{
+    let Some(at) = unit.root.line else {
+        return roots.find(RootKey::ByLines(None));
+    };
+    let all = ProgramKey::for_all(&unit.header, at);
+    match roots.find(RootKey::ByLines(Some(all))) {
+        Some(known) => Some(known),
+        None => {
+            let some = ProgramKey::for_unit(&unit.header, &unit.root, at);
+            roots.find(RootKey::ByLines(Some(some)))
+        }
+    }
+}
+
+/// What the sequences of the line program of a unit without ranges cover.
+fn program_ranges(alloc: Global, unit: &OpenUnit<'_, '_>, at: u64) -> Result<UnitRanges>
+    requires none { ranges_in (open_view unit.now) unit.now.root.ranges ≡ Some [] }
+    requires line { unit.now.root.line ≡ Some at }
+    ensures { ButForMemory (IsToldAnew (open_view unit.now)) result }
+{
+    let ReadProgram { key, program } = ReadProgram::read(
+        alloc,
+        &mut AsTheyStand,
+        &unit.sections,
+        &unit.header,
+        &unit.root,
+        at,
+    )?;
+    let spans = covered(alloc, &program)?;
+    Ok(UnitRanges::Spans(spans, Some(RootKey::ByLines(Some(key)))))
+}
+
+/// What the sequences of the lines of a unit without ranges cover: nothing is read where its line program was met.
+pub fn ranges_by_lines(
+    alloc: Global,
+    unit: &OpenUnit<'_, '_>,
+    roots: &KnownRoots,
+) -> Result<UnitRanges>
+    requires { ranges_in (open_view unit.now) unit.now.root.ranges ≡ Some [] }
+    ensures { ButForMemory (IsToldByLines (open_view unit.now) roots.now) result }
+{
+    if let Some(known) = known_program(unit, roots) {
+        return Ok(UnitRanges::Again(known));
+    }
+    match unit.root.line {
+        Some(at) => program_ranges(alloc, unit, at),
+        None => {
+            let spans = Vec::new(alloc);
+            Ok(UnitRanges::Spans(spans, Some(RootKey::ByLines(None))))
+        }
+    }
+}

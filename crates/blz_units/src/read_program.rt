@@ -1,0 +1,75 @@
+//! A line program, read for all units that read it alike.
+ghost use Rattle.std.specs.Prelude.{◌≡◌, IfOk, IfSome};
+ghost use Rattle.blz_info.specs.FileSections.{sections_view};
+ghost use Rattle.blz_line.specs.ProgramRuns.{by_index};
+ghost use Rattle.blz_line.specs.ProgramTables.{IsOrderedBy};
+ghost use Rattle.blz_units.specs.ProgramKeys.{key_by};
+ghost use Rattle.blz_units.specs.SharedPrograms.{ButForMemory, IsReadAt, IsReadOrNone};
+
+use crate::program_key::ProgramKey;
+use blz_bytes::Orders;
+use blz_entry::{Sections, UnitHeader, UnitRoot};
+use blz_error::{ErrorKind, Result};
+use blz_line::{ProgramLines, ProgramRun};
+use std::alloc::Global;
+
+/// What a line program gives, and the units that find the same.
+#[derive(Drop)]
+pub struct ReadProgram {
+    pub key: ProgramKey,
+    /// None where it has no value.
+    pub program: Option<ProgramLines>,
+}
+
+/// What was read; none where that has no value. Want of memory is given on.
+fn or_none<T: Drop>(read: Result<T>) -> Result<Option<T>>
+    ensures { ButForMemory (IsReadOrNone read) result }
+{
+    match read {
+        Ok(value) => Ok(Some(value)),
+        Err(fault) => match fault.kind() {
+            ErrorKind::OutOfMemory => Err(fault),
+            _ => Ok(None),
+        },
+    }
+}
+
+/// The units that find what one does in a run.
+fn key_of(run: &ProgramRun, header: &UnitHeader, root: &UnitRoot, at: u64) -> ProgramKey
+    ensures { result ≡ key_by (by_index run.now) header.now root.now at }
+{
+    if run.is_by_index() {
+        ProgramKey::for_unit(header, root, at)
+    } else {
+        ProgramKey::for_all(header, at)
+    }
+}
+
+impl ReadProgram {
+    /// The line program at an offset, as a unit reads it.
+    pub fn read<O: Orders>(
+        alloc: Global,
+        orders: &mut O,
+        sections: &Sections<'_, '_>,
+        header: &UnitHeader,
+        root: &UnitRoot,
+        at: u64,
+    ) -> Result<ReadProgram>
+        ensures value { ButForMemory (IsReadAt (sections_view sections.now) header.now root.now at) result }
+        ensures accepted { IfOk result (λ r. IfSome r.program (IsOrderedBy O.pair_places)) }
+    {
+        let run = ProgramRun::parse(alloc, &sections.line, at, header.address_size);
+        let Some(run) = or_none(run)? else {
+            return Ok(ReadProgram {
+                key: ProgramKey::for_all(header, at),
+                program: None,
+            });
+        };
+        let key = key_of(&run, header, root, at);
+        let program = ProgramLines::of_run(alloc, orders, sections, header, root, run);
+        Ok(ReadProgram {
+            key,
+            program: or_none(program)?,
+        })
+    }
+}
