@@ -1,7 +1,7 @@
 -- All ranges of all parts, by those that are kept.
-use Rattle.std.proofs.Common.{◌≡◌, ℕ, zero, suc, ◌+◌, ◌<◌, eqb, List, [], ◌∷◌, ◌++◌, length, Some, refl, sym, ap, subst, ◌∙◌, arith, inl, inr, ◌⊎◌}
+use Rattle.std.proofs.Common.{◌≡◌, ℕ, zero, suc, ◌+◌, ◌<◌, ◌≤◌, eqb, List, [], ◌∷◌, ◌++◌, length, Some, refl, sym, ap, subst, ◌∙◌, arith, inl, inr, ◌⊎◌}
 use Rattle.std.specs.List.{slice_get}
-use Rattle.std.proofs.lemmas.Bool.{cases_Bool, eqb-true, eq-eqb}
+use Rattle.std.proofs.lemmas.Bool.{cases_Bool, cases_lt, eqb-true, eq-eqb}
 use Rattle.std.proofs.lemmas.Option.{slice_get_within}
 use Rattle.blz_ranges.specs.declared.span.Span.{Span}
 use Rattle.blz_ranges.specs.Owned.{Owned}
@@ -20,7 +20,7 @@ in_either [] ys q x e = inr (record { at = q; place = omega arith; is = e })
 in_either (y ∷ xs) ys zero x e = inl e
 in_either (y ∷ xs) ys (suc q) x e = elim (in_either xs ys q x e) [ inl h ↦ inl h | inr h ↦ inr (record { at = h.at; place = omega (arith, h.place); is = h.is }) ]
 
-in_back : {A : Type 0} (xs ys : List A) (q i : ℕ) (x : A) → q ≡ length xs + i → slice_get ys i ≡ Some x → slice_get (xs ++ ys) q ≡ Some x
+pub in_back : {A : Type 0} (xs ys : List A) (q i : ℕ) (x : A) → q ≡ length xs + i → slice_get ys i ≡ Some x → slice_get (xs ++ ys) q ≡ Some x
 in_back [] ys q i x at e = let z : i ≡ q = omega arith in subst (λ n. slice_get ys n ≡ Some x) z e
 in_back (y ∷ xs) ys zero i x at e = absurd (omega arith)
 in_back (y ∷ xs) ys (suc q) i x at e = in_back xs ys q i x (omega arith) e
@@ -62,7 +62,7 @@ here part keeper at x kept c own e = record {
   is = ap (λ (y : Owned Span). Some y) (same_owner x keeper own) ∙ ap (λ (d : Copy). Some (record { item = d.span; owner = keeper })) e;
 }
 
-copy_told : (part keeper at : ℕ) (kept : List (Owned Span)) (q : ℕ) (c : Copy) → slice_get (copies_of part keeper at kept) q ≡ Some c → IsCopyOf part keeper at kept c
+pub copy_told : (part keeper at : ℕ) (kept : List (Owned Span)) (q : ℕ) (c : Copy) → slice_get (copies_of part keeper at kept) q ≡ Some c → IsCopyOf part keeper at kept c
 unfolding copies_of
 copy_told part keeper at [] q c e = absurd cc
 copy_told part keeper at (x ∷ kept) q c e =
@@ -75,7 +75,7 @@ copy_told part keeper at (x ∷ kept) q c e =
     front zero e own rest = let same : copy part at x.item ≡ c = cc in here part keeper at x kept c own same
     front (suc q) e own rest = one_on part keeper at x kept c (rest q e)
 
-copy_there : (part keeper at : ℕ) (kept : List (Owned Span)) (i place : ℕ) (x : Owned Span) → place ≡ at + i → slice_get kept i ≡ Some x → x.owner ≡ keeper → Stands (copies_of part keeper at kept) (copy part place x.item)
+pub copy_there : (part keeper at : ℕ) (kept : List (Owned Span)) (i place : ℕ) (x : Owned Span) → place ≡ at + i → slice_get kept i ≡ Some x → x.owner ≡ keeper → Stands (copies_of part keeper at kept) (copy part place x.item)
 unfolding copies_of
 copy_there part keeper at [] i place x p e own = absurd cc
 copy_there part keeper at (y ∷ kept) zero place x p e own =
@@ -182,6 +182,31 @@ are_copies kept keepers = record {
   there = λ part keeper place s has is. there_in kept 0 keepers part part keeper place s (omega arith) has is;
   sorted = λ i j c d lt x y. sorted_in kept 0 keepers i j c d lt x y;
 }
+
+-- one that comes before another stands before it
+pub sorted_before : (list : List Copy) → AreSorted list → (p q : ℕ) (c d : Copy) → slice_get list p ≡ Some c → slice_get list q ≡ Some d → Before c d → p < q
+sorted_before list sorted p q c d is_c is_d h =
+    elim (cases_lt p q) [
+      | inl lt ↦ lt
+      | inr ge ↦ absurd (not_later ge (cases_lt q p) h)
+    ]
+  where
+    apart : Before d c → Before c d → ⊥
+    apart (inl x) (inl y) = omega arith
+    apart (inl x) (inr y) = let e = y.0 in omega arith
+    apart (inr x) (inl y) = let e = x.0 in omega arith
+    apart (inr x) (inr y) = let k = x.1 in let l = y.1 in omega arith
+
+    not_itself : c ≡ d → Before c d → ⊥
+    not_itself e (inl x) = let k : c.part ≡ d.part = ap (λ (y : Copy). y.part) e in omega arith
+    not_itself e (inr x) = let k : c.place ≡ d.place = ap (λ (y : Copy). y.place) e in let l = x.1 in omega arith
+
+    same : p ≡ q → c ≡ d
+    same e = let k : Some c ≡ Some d = sym is_c ∙ (ap (slice_get list) e ∙ is_d) in cc
+
+    not_later : q ≤ p → (q < p) ⊎ (p ≤ q) → Before c d → ⊥
+    not_later ge (inl lt) h = apart (sorted q p d c lt is_d is_c) h
+    not_later ge (inr le) h = not_itself (same (omega arith)) h
 
 -- ---- where a copy stands
 

@@ -13,11 +13,12 @@ use Rattle.blz_ranges.specs.Turns.{covering}
 use Rattle.blz_ranges.proofs.BestOf.{best_is_best}
 use Rattle.blz_ranges.proofs.InTurn.{turns}
 use Rattle.blz_announced.specs.Copies.{all_of_parts, announced_copies, copies, copies_of, same_number, told, AnnouncedParts, Copy, IsKept}
+use Rattle.blz_announced.specs.OfKeepers.{IsBestOr}
 use Rattle.blz_announced.specs.Seen.{by_owner, is_seen, seen, seen_by, seen_from, Holds, LeavesOut}
 use Rattle.blz_announced.specs.declared.announced_parts.Asked.{Asked}
 use Rattle.blz_announced.proofs.Copies.{are_copies}
 use Rattle.blz_announced.proofs.NextCopies.{full_item, has_copy, has_item, next_is, owner_told, some_is, After, IsFirst, IsNext}
-use Rattle.blz_announced.proofs.SeenRanges.{best_of_keeper, no_cover, seen_by_best, seen_not_once, there_mapped, IsBestOr}
+use Rattle.blz_announced.proofs.SeenRanges.{best_of_keeper, no_cover, seen_by_best, seen_not_once, there_mapped}
 use Rattle.blz_announced.proofs.SeenSteps.{first_from, from_here, from_next, other_after, AreAmong, FirstFrom, IsFrom}
 
 -- ---- lists of places, each with the next behind it
@@ -240,19 +241,19 @@ module _ (asked : Asked) (a : AnnouncedParts) where
 
   -- where the best range of a keeper stands among those of one of its parts
   told_before : (q : ℕ) (c : Copy) (keeper : ℕ) → slice_get list q ≡ Some c → slice_get a.keepers c.part ≡ Some keeper → IsKept kept_parts c.place c.span keeper → covers c.span asked.addr ≡ true → is_seen asked kept_parts c.place ≡ false
-      → (o : Option ℕ) → best_in (by_owner kept_parts) keeper asked.addr ≡ o → IsBestOr kept_parts keeper asked.addr o → IsTold (told list) (told list_seen) asked.addr q c.span
-  told_before q c keeper is row kept_is reached hid None e h = absurd (h c.place c.span (record { is = kept_is; reached = reached }))
+      → (o : Option ℕ) → best_in (by_owner kept_parts) keeper asked.addr ≡ o → IsBestOr (λ at s. covers s asked.addr) kept_parts keeper o → IsTold (told list) (told list_seen) asked.addr q c.span
+  told_before q c keeper is row kept_is reached hid None e h = absurd (h c.place c.span (record { is = kept_is; passes = reached }))
   told_before q c keeper is row kept_is reached hid (Some p) e h =
       let are = are_copies kept_parts a.keepers in
       let there = are.there c.part keeper p h.span row h.own.is in
       let once = seen_not_once asked kept_parts c.place hid in
       let other : p ≡ c.place → ⊥ = λ same. false≢true (sym hid ∙ (seen_by_best asked kept_parts c.place keeper once (ap (option_map (λ (x : Owned Span). x.owner)) kept_is) ∙ (ap (λ (o : Option ℕ). same_number o (Some c.place)) e ∙ eq-eqb p c.place same))) in
-      let after = other_after p c.place h.span c.span other (h.first c.place c.span (record { is = kept_is; reached = reached })) in
+      let after = other_after p c.place h.span c.span other (h.first c.place c.span (record { is = kept_is; passes = reached })) in
       record {
         place = there.at;
         span = h.span;
         is = full_item list there.at there.is;
-        reached = h.own.reached;
+        reached = h.own.passes;
         before = full_after there.at there.is after;
         same = owner_told list there.at there.is ∙ sym (owner_told list q is);
         hides = λ t is_t covered. no_cover asked.addr (ap (λ (s : Span). covers s asked.addr) (sym (shown_none c hid) ∙ some_is (sym (shown_item q c is) ∙ is_t)) ∙ covered);

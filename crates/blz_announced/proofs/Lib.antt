@@ -4,11 +4,16 @@ pub mod PlaceSteps
 pub mod RepeatSteps
 pub mod RowSteps
 pub mod SeenSteps
+pub mod ListsOf
+pub mod ShiftedRanges
+pub mod ShiftedSearch
+pub mod OfKeepers
 pub mod SeenRanges
 pub mod BegunSteps
 pub mod BehindSteps
 pub mod LeftOver
 pub mod Beside
 pub mod TurnSteps
+pub mod ShiftedTurns
 pub mod PartsBefore
 pub mod UnitSteps

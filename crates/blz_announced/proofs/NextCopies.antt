@@ -12,7 +12,7 @@ use Rattle.blz_ranges.proofs.BestOf.{best_is, best_is_best}
 use Rattle.blz_announced.specs.declared.announced_parts.Place.{Place}
 use Rattle.blz_announced.specs.Copies.{begin_alike, begins_in, comes_first, full_place, no_longer, told, Copy, HaveKeepers, IsKept, IsLater, IsNextOwn, IsOwn, IsPlaced}
 use Rattle.blz_announced.specs.Repeats.{IsAlike, IsNextRepeat, NoRepeatBefore, RepeatsAt}
-use Rattle.blz_announced.proofs.Copies.{copy_place, AreCopies}
+use Rattle.blz_announced.proofs.Copies.{copy_place, sorted_before, AreCopies}
 
 -- ---- ranges after another one
 
@@ -252,25 +252,7 @@ module _ (kept : List (Owned Span)) (keepers : List ℕ) (list : List Copy) (row
   -- ---- the next one
 
   pub stands_before : (p q : ℕ) (c d : Copy) → slice_get list p ≡ Some c → slice_get list q ≡ Some d → (c.part < d.part) ⊎ ((c.part ≡ d.part) × (c.place < d.place)) → p < q
-  stands_before p q c d is_c is_d h =
-      elim (cases_lt p q) [
-        | inl lt ↦ lt
-        | inr ge ↦ absurd (not_later ge (cases_lt q p) h)
-      ]
-    where
-      apart : (d.part < c.part) ⊎ ((d.part ≡ c.part) × (d.place < c.place)) → (c.part < d.part) ⊎ ((c.part ≡ d.part) × (c.place < d.place)) → ⊥
-      apart (inl x) (inl y) = omega arith
-      apart (inl x) (inr y) = let e = y.0 in omega arith
-      apart (inr x) (inl y) = let e = x.0 in omega arith
-      apart (inr x) (inr y) = let k = x.1 in let l = y.1 in omega arith
-
-      not_itself : c ≡ d → (c.part < d.part) ⊎ ((c.part ≡ d.part) × (c.place < d.place)) → ⊥
-      not_itself e (inl x) = let k : c.part ≡ d.part = ap (λ (y : Copy). y.part) e in omega arith
-      not_itself e (inr x) = let k : c.place ≡ d.place = ap (λ (y : Copy). y.place) e in let l = x.1 in omega arith
-
-      not_later : q ≤ p → (q < p) ⊎ (p ≤ q) → (c.part < d.part) ⊎ ((c.part ≡ d.part) × (c.place < d.place)) → ⊥
-      not_later ge (inl lt) h = apart (are.sorted q p d c lt is_d is_c) h
-      not_later ge (inr le) h = let e : p ≡ q = omega arith in not_itself (some_is (sym is_c ∙ subst (λ (n : ℕ). slice_get list n ≡ Some d) (sym e) is_d)) h
+  stands_before p q c d is_c is_d h = sorted_before list are.sorted p q c d is_c is_d h
 
   same_keeper : (part other keeper next : ℕ) → part ≡ other → slice_get keepers part ≡ Some keeper → slice_get keepers other ≡ Some next → next ≡ keeper
   same_keeper part other keeper next e is_k is_n = some_is (sym is_n ∙ subst (λ (n : ℕ). slice_get keepers n ≡ Some keeper) e is_k)

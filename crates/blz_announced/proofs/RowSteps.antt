@@ -273,6 +273,8 @@ pub again_part : (k : KeptParts) (have : HaveKeepers k.ranges k.keepers) (keeper
 again_part k have keeper = λ spans list. record {
   all = again_all k.ranges k.keepers have keeper spans list.1;
   count = length-append k.keepers (keeper ∷ []);
+  rows = λ part own is. in_front k.keepers (keeper ∷ []) part own is;
+  lists = λ part own is. refl;
   others = again_others k keeper;
 }
 
@@ -284,6 +286,8 @@ list_part : (k : KeptParts) (have : HaveKeepers k.ranges k.keepers) (spans : Lis
 list_part k have spans = record {
   all = list_all k.ranges k.keepers have spans;
   count = length-append k.keepers (length k.keepers ∷ []);
+  rows = λ part own is. in_front k.keepers (length k.keepers ∷ []) part own is;
+  lists = λ part own is. other_list k.ranges k.keepers have own spans (have.own part own is);
   others = list_others k have spans;
 }
 

@@ -3,69 +3,28 @@ use Rattle.std.proofs.Common.{◌≡◌, ℕ, zero, suc, ◌+◌, ◌<◌, ◌�
 use Rattle.std.specs.Prelude.{option_map, if◌then◌else◌}
 use Rattle.std.specs.List.{slice_get}
 use Rattle.std.proofs.lemmas.Bool.{cases_Bool, and_parts, and_from, eqb-true, eq-eqb, lt-ltb, ltb-true, false≢true}
-use Rattle.std.proofs.lemmas.Option.{slice_get-map}
 use Rattle.blz_ranges.specs.declared.span.Span.{Span}
-use Rattle.blz_ranges.specs.Best.{best, covers, no_span, passes, NotAfter, IsBest, IsBestAt}
-use Rattle.blz_ranges.specs.Groups.{best_in, group_is, grouped, in_group, spans_of}
+use Rattle.blz_ranges.specs.Best.{best, covers, no_span, IsBest, IsBestAt}
+use Rattle.blz_ranges.specs.Groups.{best_in}
 use Rattle.blz_ranges.specs.Owned.{Owned, items_of, owner_at}
 use Rattle.blz_ranges.proofs.BestOf.{best_is, best_is_best}
 use Rattle.blz_announced.specs.Copies.{begins_in, begun, comes_first, kept_at, same_number, up_to, where_begins, AreEnds, HaveKeepers, IsKept, IsNextOwn, IsPlaced}
+use Rattle.blz_announced.specs.OfKeepers.{IsBestOf, IsBestOr}
 use Rattle.blz_announced.specs.Repeats.{IsAlike, IsFirstAlike, IsLast}
 use Rattle.blz_announced.specs.Seen.{by_owner, hidden, is_seen, seen, seen_from}
 use Rattle.blz_announced.specs.declared.announced_parts.Asked.{Asked}
 use Rattle.blz_announced.specs.declared.announced_parts.Place.{Place}
 use Rattle.blz_announced.proofs.NextCopies.{begins_is, comes_at, has_item, item_at, some_is, After, IsNext}
+use Rattle.blz_announced.proofs.OfKeepers.{best_of}
 use Rattle.blz_announced.proofs.SeenSteps.{both_first, AreAmong, FirstFrom, IsFrom}
 
 -- ---- the best range of a keeper
 
-grouped_at : (kept : List (Owned Span)) (p : ℕ) (x : Owned Span) → slice_get kept p ≡ Some x → slice_get (by_owner kept) p ≡ Some (grouped x.owner x.item)
-grouped_at kept p x is = slice_get-map (λ (y : Owned Span). grouped y.owner y.item) kept p ∙ ap (option_map (λ (y : Owned Span). grouped y.owner y.item)) is
+abbrev pub covering : ℕ → ℕ → Span → Bool
+covering addr at s = covers s addr
 
-spans_same : (kept : List (Owned Span)) → spans_of (by_owner kept) ≡ items_of kept
-spans_same [] = refl
-spans_same (x ∷ kept) = ap (λ (l : List Span). x.item ∷ l) (spans_same kept)
-
--- a range of a keeper that covers an address
-pub record IsOf (kept : List (Owned Span)) (keeper addr p : ℕ) (s : Span) : Type 0 where
-  pub is : IsKept kept p s keeper
-  pub reached : covers s addr ≡ true
-
-pub record IsBestOf (kept : List (Owned Span)) (keeper addr p : ℕ) : Type 0 where
-  pub span : Span
-  pub own : IsOf kept keeper addr p span
-  pub first : (q : ℕ) (t : Span) → IsOf kept keeper addr q t → NotAfter p span q t
-
-abbrev pub IsBestOr : List (Owned Span) → ℕ → ℕ → Option ℕ → Type 0
-IsBestOr kept keeper addr None = (q : ℕ) (t : Span) → IsOf kept keeper addr q t → ⊥
-IsBestOr kept keeper addr (Some p) = IsBestOf kept keeper addr p
-
-abbrev of_keeper : List (Owned Span) → ℕ → ℕ → ℕ → Span → Bool
-of_keeper kept keeper addr at s = in_group (by_owner kept) keeper (passes addr None) at s
-
-of_passes : (kept : List (Owned Span)) (keeper addr q : ℕ) (t : Span) → IsOf kept keeper addr q t → of_keeper kept keeper addr q t ≡ true
-of_passes kept keeper addr q t h = and_from _ _ (ap (group_is keeper) (grouped_at kept q (record { item = t; owner = keeper }) h.is) ∙ eq-eqb keeper keeper refl) h.reached
-
-of_item : (kept : List (Owned Span)) (keeper addr q : ℕ) (t : Span) → IsOf kept keeper addr q t → slice_get (spans_of (by_owner kept)) q ≡ Some t
-of_item kept keeper addr q t h = ap (λ (l : List Span). slice_get l q) (spans_same kept) ∙ item_at kept q h.is
-
-passes_of : (kept : List (Owned Span)) (keeper addr q : ℕ) (t : Span) → slice_get (spans_of (by_owner kept)) q ≡ Some t → of_keeper kept keeper addr q t ≡ true → IsOf kept keeper addr q t
-passes_of kept keeper addr q t is p =
-    let h = has_item kept q (ap (λ (l : List Span). slice_get l q) (sym (spans_same kept)) ∙ is) in
-    let both = and_parts _ _ p in
-    let own : h.keeper ≡ keeper = eqb-true h.keeper keeper (sym (ap (group_is keeper) (grouped_at kept q (record { item = t; owner = h.keeper }) h.is)) ∙ both.0) in
-    record { is = h.is ∙ ap (λ (n : ℕ). Some (record { item = t; owner = n })) own; reached = both.1 }
-
-best_or : (kept : List (Owned Span)) (keeper addr : ℕ) (o : Option ℕ) → IsBest (of_keeper kept keeper addr) (spans_of (by_owner kept)) o → IsBestOr kept keeper addr o
-best_or kept keeper addr None h = λ q t of. h q t (of_item kept keeper addr q t of) (of_passes kept keeper addr q t of)
-best_or kept keeper addr (Some p) h = record {
-  span = h.span;
-  own = passes_of kept keeper addr p h.span h.at h.passes;
-  first = λ q t of. h.first q t (of_item kept keeper addr q t of) (of_passes kept keeper addr q t of);
-}
-
-pub best_of_keeper : (kept : List (Owned Span)) (keeper addr : ℕ) (o : Option ℕ) → best_in (by_owner kept) keeper addr ≡ o → IsBestOr kept keeper addr o
-best_of_keeper kept keeper addr o e = best_or kept keeper addr o (subst (IsBest (of_keeper kept keeper addr) (spans_of (by_owner kept))) e (best_is_best (of_keeper kept keeper addr) (spans_of (by_owner kept))))
+pub best_of_keeper : (kept : List (Owned Span)) (keeper addr : ℕ) (o : Option ℕ) → best_in (by_owner kept) keeper addr ≡ o → IsBestOr (covering addr) kept keeper o
+best_of_keeper kept keeper addr o e = best_of (covering addr) kept keeper o e
 
 -- ---- what is seen
 
@@ -221,10 +180,10 @@ module _ (asked : Asked) (kept : List (Owned Span)) (once : asked.once ≡ true)
 
   alike_here : (keeper begin p : ℕ) → best_in (by_owner kept) keeper asked.addr ≡ Some p → begins_in kept begin p ≡ true → IsFirstAlike (seen asked kept) keeper asked.addr begin (Some p)
   alike_here keeper begin p e t =
-      let b : IsBestOf kept keeper asked.addr p = best_of_keeper kept keeper asked.addr (Some p) e in
+      let b : IsBestOf (covering asked.addr) kept keeper p = best_of_keeper kept keeper asked.addr (Some p) e in
       let is = seen_itself asked kept p b.own.is (best_seen p keeper b.span b.own.is e) in
       let begins : b.span.begin ≡ begin = eqb-true b.span.begin begin (sym (begins_is kept begin p (item_at kept p b.own.is)) ∙ t) in
-      (record { span = b.span; is = is; begins = begins; reached = b.own.reached }, λ q a. let same : p ≡ q = some_is (sym e ∙ seen_alike keeper begin q a) in omega arith)
+      (record { span = b.span; is = is; begins = begins; reached = b.own.passes }, λ q a. let same : p ≡ q = some_is (sym e ∙ seen_alike keeper begin q a) in omega arith)
 
   alike_other : (keeper begin p : ℕ) → best_in (by_owner kept) keeper asked.addr ≡ Some p → begins_in kept begin p ≡ false → IsFirstAlike (seen asked kept) keeper asked.addr begin None
   alike_other keeper begin p e f = λ q a.
@@ -248,11 +207,11 @@ among_kept asked kept = λ q t is reached.
 pub best_of_all : (asked : Asked) (kept : List (Owned Span)) → best (items_of kept) asked.addr ≡ best (items_of (seen asked kept)) asked.addr
 best_of_all asked kept = best_is (λ at s. covers s asked.addr) (items_of (seen asked kept)) (best (items_of kept) asked.addr) (by (best (items_of kept) asked.addr) (best_is_best (λ at s. covers s asked.addr) (items_of kept)))
   where
-    best_once : (p keeper : ℕ) (b : IsBestAt (λ at s. covers s asked.addr) (items_of kept) p) → IsKept kept p b.span keeper → (o : Option ℕ) → IsBestOr kept keeper asked.addr o → o ≡ Some p
-    best_once p keeper b is None h = absurd (h p b.span (record { is = is; reached = b.passes }))
+    best_once : (p keeper : ℕ) (b : IsBestAt (λ at s. covers s asked.addr) (items_of kept) p) → IsKept kept p b.span keeper → (o : Option ℕ) → IsBestOr (covering asked.addr) kept keeper o → o ≡ Some p
+    best_once p keeper b is None h = absurd (h p b.span (record { is = is; passes = b.passes }))
     best_once p keeper b is (Some q) h =
-        let k = b.first q h.span (item_at kept q h.own.is) h.own.reached in
-        let l = h.first p b.span (record { is = is; reached = b.passes }) in
+        let k = b.first q h.span (item_at kept q h.own.is) h.own.passes in
+        let l = h.first p b.span (record { is = is; passes = b.passes }) in
         ap (λ (n : ℕ). Some n) (sym (both_first p q b.span h.span k l))
 
     is_there : (p keeper : ℕ) (b : IsBestAt (λ at s. covers s asked.addr) (items_of kept) p) → IsKept kept p b.span keeper → IsKept (seen asked kept) p b.span keeper

@@ -118,7 +118,7 @@ turn_taken ranges a left t = taken ranges (places_left ranges a left) (λ p e. l
 pub part_next : (ranges : List (Owned Span)) (a : ℕ) (left : Left) (t : IsLeft ranges a left) (place : Option ℕ) → place ≡ slice_get (places_left ranges a left) 0 → owner_of ranges place ≡ slice_get (owners_of ranges (places_left ranges a left)) 0
 part_next ranges a left t place e = ap (λ o. owner_of ranges o) e ∙ (turn_taken ranges a left t).part
 
-parts_behind : (ranges : List (Owned Span)) (a : ℕ) (left : Left) (t : IsLeft ranges a left) (place : Option ℕ) → place ≡ slice_get (places_left ranges a left) 0 → owners_of ranges (places_left ranges a (left_behind place)) ≡ drop 1 (owners_of ranges (places_left ranges a left))
+pub parts_behind : (ranges : List (Owned Span)) (a : ℕ) (left : Left) (t : IsLeft ranges a left) (place : Option ℕ) → place ≡ slice_get (places_left ranges a left) 0 → owners_of ranges (places_left ranges a (left_behind place)) ≡ drop 1 (owners_of ranges (places_left ranges a left))
 parts_behind ranges a left t place e = ap (λ (l : List ℕ). owners_of ranges l) (places_behind ranges a left t place e) ∙ (turn_taken ranges a left t).left
 
 -- ---- what a call leaves

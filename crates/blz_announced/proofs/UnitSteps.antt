@@ -1,22 +1,27 @@
 -- The units of parts, and ranges told by them.
-use Rattle.std.proofs.Common.{◌≡◌, ℕ, zero, suc, ◌+◌, ◌<◌, ◌≤◌, List, [], ◌∷◌, ◌++◌, length, map, Option, Some, None, refl, sym, ap, subst, ◌∙◌, arith, inl, inr, append_assoc, length-append}
-use Rattle.std.specs.Prelude.{unwrap_or, option_map, true, IfOk, Result, Ok, Err}
+use Rattle.std.proofs.Common.{◌≡◌, ℕ, zero, suc, ◌+◌, ◌<◌, ◌≤◌, List, [], ◌∷◌, ◌++◌, length, map, Option, Some, None, refl, sym, ap, subst, ◌∙◌, arith, inl, inr, ◌⊎◌, append_assoc, length-append}
+use Rattle.std.specs.Prelude.{unwrap_or, option_map, true, IfOk, IfSome, Result, Ok, Err}
 use Rattle.std.specs.List.{slice_get}
 use Rattle.std.specs.Option.{option_to_list}
+use Rattle.std.proofs.lemmas.Bool.{cases_lt}
 use Rattle.std.proofs.lemmas.List.{length-map, map-append}
-use Rattle.std.proofs.lemmas.Option.{slice_get-map, slice_get_within}
+use Rattle.std.proofs.lemmas.Option.{get_or_from_slice_get, slice_get-map, slice_get_within}
 use Rattle.blz_ranges.specs.declared.span.Span.{Span}
 use Rattle.blz_ranges.specs.Groups.{AreApart}
 use Rattle.blz_ranges.specs.Owned.{Owned, items_of, own_all, owner_at, owners_of}
 use Rattle.blz_ranges.specs.Ranges.{OwnedRanges}
 use Rattle.blz_ranges.specs.Turns.{covering}
-use Rattle.blz_ranges.proofs.ListEnds.{at_end}
+use Rattle.blz_ranges.proofs.ListEnds.{at_end, in_front}
 use Rattle.blz_announced.specs.Announced.{to_tell, units_covering, Announcing, TakesFew}
-use Rattle.blz_announced.specs.Copies.{all_kept_parts, all_of_parts, all_ranges, copies, AnnouncedParts, Copy, IsOnePartMore, KeptParts}
+use Rattle.blz_announced.specs.Copies.{all_kept_parts, all_of_parts, all_ranges, copies, list_of, AnnouncedParts, Copy, IsOnePartMore, KeptParts}
 use Rattle.blz_announced.specs.Seen.{ArePartsOnce, Holds, LeavesOut}
-use Rattle.blz_announced.specs.Units.{all_by_units, all_kept, announced_by_units, by_units, kept_by_units, parts_kept, unit_of, units_to_tell, IsFilled, IsNoted, IsOnce, IsOnceMore, IsPartAgain, IsWithPart, IsWithUnit, KeptRanges, TellAlike}
-use Rattle.blz_announced.proofs.Copies.{are_copies}
-use Rattle.blz_announced.proofs.NextCopies.{mapped}
+use Rattle.blz_announced.specs.Shifts.{all_by_shifts, by_shifts, moved_by, moved_one, shift_of, shifted, AreNoted, CanBeShifted, MayMove, MeetShifted, Shiftable, StayWithin}
+use Rattle.blz_announced.specs.Units.{all_by_units, all_kept, all_shifted, announced_by_units, by_units, kept_by_units, parts_all, parts_kept, unit_of, units_to_tell, AreShifted, AreToldOnce, IsFilled, IsListOf, IsNoted, IsOnce, IsOnceMore, IsPartAgain, IsWithKeeper, IsWithPart, IsWithShifted, IsWithUnit, KeptRanges, TellAlike, Announced}
+use Rattle.blz_announced.specs.declared.shift.Shift.{Shift}
+use Rattle.blz_announced.proofs.Copies.{are_copies, in_back, there_at, Stands}
+use Rattle.blz_announced.proofs.ListsOf.{list_told, IsInKept}
+use Rattle.blz_announced.proofs.NextCopies.{full_item, mapped, some_is}
+use Rattle.blz_announced.proofs.ShiftedRanges.{by_none, moved_more, moved_none, AreBelow}
 
 -- ---- the units that are noted
 
@@ -57,9 +62,6 @@ noted_other old now part unit filled = record {
 
 -- ---- ranges by their units
 
-abbrev AreBelow : ℕ → List (Owned Span) → Type 0
-AreBelow count ranges = (p : ℕ) (x : Owned Span) → slice_get ranges p ≡ Some x → x.owner < count
-
 by_alike : (old new : List ℕ) (count : ℕ) (ranges : List (Owned Span)) → TellAlike old new count → AreBelow count ranges → by_units new ranges ≡ by_units old ranges
 by_alike old new count [] alike below = refl
 by_alike old new count (x ∷ ranges) alike below =
@@ -71,6 +73,10 @@ by_own units part unit [] e = refl
 by_own units part unit (s ∷ spans) e =
     ap (λ (n : ℕ). record { item = s; owner = n } ∷ by_units units (own_all part spans)) e
     ∙ ap (λ (l : List (Owned Span)). record { item = s; owner = unit } ∷ l) (by_own units part unit spans e)
+
+items_own : (n : ℕ) (spans : List Span) → items_of (own_all n spans) ≡ spans
+items_own n [] = refl
+items_own n (s ∷ spans) = ap (λ (l : List Span). s ∷ l) (items_own n spans)
 
 parts_below : (kept : List (Owned Span)) (keepers : List ℕ) → AreBelow (length keepers) (all_ranges kept keepers)
 parts_below kept keepers p x is =
@@ -100,17 +106,161 @@ owners_by units ranges (p ∷ places) = rw (owner_by units ranges p, owners_by u
 
 -- ---- one part more
 
--- the ranges of a unit with those of its part behind them
-pub part_more : (old : KeptRanges) (spans : List Span) (parts : KeptParts) (units : List ℕ) → IsOnePartMore (parts_kept old) spans parts → IsNoted old.units (length old.keepers) old.count units → IsWithPart old spans (kept_by_units parts units old.count)
-part_more old spans parts units more noted = record {
-  all =
-      ap (by_units units) more.all
-      ∙ map-append (λ (x : Owned Span). record { item = x.item; owner = unit_of units x.owner }) (all_kept_parts (parts_kept old)) (own_all (length old.keepers) spans)
-      ∙ ap (λ (l : List (Owned Span)). l ++ by_units units (own_all (length old.keepers) spans)) (by_alike old.units units (length old.keepers) (all_kept_parts (parts_kept old)) noted.before (parts_below old.ranges old.keepers))
-      ∙ ap (λ (l : List (Owned Span)). by_units old.units (all_kept_parts (parts_kept old)) ++ l) (by_own units (length old.keepers) old.count spans noted.here);
-  count = refl;
-  others = more.others;
+below_moved : (shifts : List (Option Shift)) (count : ℕ) (ranges : List (Owned Span)) → AreBelow count ranges → AreBelow count (by_shifts shifts ranges)
+below_moved shifts count ranges below p x is =
+    let h = mapped (moved_one shifts) ranges p x is in
+    let lt = below p h.0 h.1 in
+    let e = ap (λ (y : Owned Span). y.owner) h.2 in
+    omega arith
+
+-- the ranges of a unit with those of its part behind them, as that has them
+pub part_moved : (old : KeptRanges) (spans : List Span) (m : Option Shift) (parts : KeptParts) (units : List ℕ) (shifts : List (Option Shift)) → IsOnePartMore (parts_kept old) spans parts → IsNoted old.units (length old.keepers) old.count units
+    → ((other : ℕ) → other < length old.keepers → shift_of shifts other ≡ shift_of old.shifts other) → shift_of shifts (length old.keepers) ≡ m → IsWithPart old (map (moved_by m) spans) (kept_by_units parts units shifts old.count)
+part_moved old spans m parts units shifts more noted alike here =
+    let n = length old.keepers in
+    let all = all_kept_parts (parts_kept old) in
+    let below = parts_below old.ranges old.keepers in
+    let moved = map (moved_by m) spans in
+    record {
+      all =
+          ap (λ (l : List (Owned Span)). by_units units (by_shifts shifts l)) more.all
+          ∙ ap (by_units units) (moved_more old.shifts shifts n m all spans alike here below)
+          ∙ map-append (λ (x : Owned Span). record { item = x.item; owner = unit_of units x.owner }) (by_shifts old.shifts all) (own_all n moved)
+          ∙ ap (λ (l : List (Owned Span)). l ++ by_units units (own_all n moved)) (by_alike old.units units n (by_shifts old.shifts all) noted.before (below_moved old.shifts n all below))
+          ∙ ap (λ (l : List (Owned Span)). by_units old.units (by_shifts old.shifts all) ++ l) (by_own units n old.count moved noted.here);
+      count = refl;
+      others = more.others;
+    }
+
+none_past : (shifts : List (Option Shift)) (part : ℕ) → length shifts ≤ part → shift_of shifts part ≡ None
+none_past [] part le = refl
+none_past (m ∷ shifts) zero le = absurd (omega arith)
+none_past (m ∷ shifts) (suc part) le = none_past shifts part (omega arith)
+
+pub part_more : (old : KeptRanges) (spans : List Span) (parts : KeptParts) (units : List ℕ) → length old.shifts ≤ length old.keepers → IsOnePartMore (parts_kept old) spans parts → IsNoted old.units (length old.keepers) old.count units → IsWithPart old spans (kept_by_units parts units old.shifts old.count)
+part_more old spans parts units within more noted =
+    subst (λ (l : List Span). IsWithPart old l (kept_by_units parts units old.shifts old.count)) (moved_none spans)
+    (part_moved old spans None parts units old.shifts more noted (λ other lt. refl) (none_past old.shifts (length old.keepers) within))
+
+-- ---- what holds of parts whose ranges are moved
+
+same_row : (old new : KeptParts) (spans : List Span) → IsOnePartMore old spans new → (part keeper : ℕ) → part < length old.keepers → slice_get new.keepers part ≡ Some keeper → slice_get old.keepers part ≡ Some keeper
+same_row old new spans more part keeper lt is =
+    let k = there_at old.keepers part lt in
+    k.1 ∙ (sym (more.rows part k.0 k.1) ∙ is)
+
+prefix_apart : (xs ys : List (Owned Span)) → AreApart (items_of (xs ++ ys)) → AreApart (items_of xs)
+prefix_apart xs ys apart = record {
+  nonempty = λ p s is. apart.nonempty p s (front p s is);
+  apart = λ p q s t differ is_p is_q. apart.apart p q s t differ (front p s is_p) (front q t is_q);
 }
+  where
+    front : (p : ℕ) (s : Span) → slice_get (items_of xs) p ≡ Some s → slice_get (items_of (xs ++ ys)) p ≡ Some s
+    front p s is = ap (λ (l : List Span). slice_get l p) (map-append (λ (x : Owned Span). x.item) xs ys) ∙ in_front (items_of xs) (items_of ys) p s is
+
+module _ (old new : KeptParts) (spans : List Span) (more : IsOnePartMore old spans new) (before after : List (Option Shift)) (m : Option Shift)
+    (alike : (other : ℕ) → other < length old.keepers → shift_of after other ≡ shift_of before other) (here : shift_of after (length old.keepers) ≡ m) where
+  all_more : all_shifted new after ≡ all_shifted old before ++ own_all (length old.keepers) (map (moved_by m) spans)
+  all_more = ap (by_shifts after) more.all ∙ moved_more before after (length old.keepers) m (all_kept_parts old) spans alike here (parts_below old.ranges old.keepers)
+
+  pub still_meet : (AreApart (items_of (all_shifted old before)) → ⊥) → AreApart (items_of (all_shifted new after)) → ⊥
+  still_meet meet apart = meet (prefix_apart (all_shifted old before) (own_all (length old.keepers) (map (moved_by m) spans)) (subst (λ (l : List (Owned Span)). AreApart (items_of l)) all_more apart))
+
+  pub still_stay : StayWithin old.ranges old.keepers before → ((keeper at : ℕ) (s : Span) → slice_get new.keepers (length old.keepers) ≡ Some keeper → slice_get (list_of new.ranges keeper) at ≡ Some s → MayMove m s) → StayWithin new.ranges new.keepers after
+  still_stay stay last part keeper at s row is = elim (cases_lt part (length old.keepers)) [
+    | inl lt ↦
+        let row_old = same_row old new spans more part keeper lt row in
+        let is_old = ap (λ (l : List Span). slice_get l at) (sym (more.lists part keeper row_old)) ∙ is in
+        subst (λ (o : Option Shift). MayMove o s) (sym (alike part lt)) (stay part keeper at s row_old is_old)
+    | inr ge ↦
+        let count = more.count in
+        let within = slice_get_within new.keepers part keeper row in
+        let e : part ≡ length old.keepers = omega arith in
+        subst (λ (o : Option Shift). MayMove o s) (sym (ap (shift_of after) e ∙ here)) (last keeper at s (ap (slice_get new.keepers) (sym e) ∙ row) is)
+  ]
+
+-- one part more that stays
+pub stays_shifted : (old new : KeptParts) (spans : List Span) (shifts : List (Option Shift)) → IsOnePartMore old spans new → AreShifted old shifts → AreShifted new shifts
+stays_shifted old new spans shifts more are =
+    let none = none_past shifts (length old.keepers) are.within in
+    record {
+      within = let w = are.within in let c = more.count in omega arith;
+      stay = still_stay old new spans more shifts shifts None (λ other lt. refl) none are.stay (λ keeper at s row is. tt);
+      meet = λ some. still_meet old new spans more shifts shifts None (λ other lt. refl) none (are.meet some);
+    }
+
+-- one part more that is moved
+module _ (old new : KeptParts) (keeper : ℕ) (shift : Shift) (row : slice_get old.keepers keeper ≡ Some keeper) (more : IsOnePartMore old (list_of old.ranges keeper) new) (row_new : slice_get new.keepers (length old.keepers) ≡ Some keeper)
+    (before after : List (Option Shift)) (noted : AreNoted before (length old.keepers) shift after) where
+  abbrev own_list : List Span
+  own_list = list_of old.ranges keeper
+
+  -- the range of the keeper itself, and the one that is moved
+  two_meet : before ≡ [] → MeetShifted own_list shift → AreApart (items_of (all_shifted new after)) → ⊥
+  two_meet none w apart = by (apart.apart here.at there w.span (shifted shift w.moved) differ first second)
+    where
+      all : List (Owned Span)
+      all = all_shifted old before
+
+      own : IsInKept old.ranges keeper w.span
+      own = list_told old.ranges keeper w.other w.span w.is
+
+      here : Stands (copies old.ranges 0 old.keepers) (record { part = keeper; place = own.place; span = w.span })
+      here = (are_copies old.ranges old.keepers).there keeper keeper own.place w.span row own.is
+
+      there : ℕ
+      there = length (all_shifted old before) + w.at
+
+      items : items_of (all_shifted new after) ≡ items_of (all_shifted old before) ++ items_of (own_all (length old.keepers) (map (shifted shift) own_list))
+      items = ap items_of (all_more old new own_list more before after (Some shift) noted.before noted.here) ∙ map-append (λ (x : Owned Span). x.item) (all_shifted old before) (own_all (length old.keepers) (map (shifted shift) own_list))
+
+      first_old : slice_get (items_of (all_shifted old before)) here.at ≡ Some w.span
+      first_old = ap (λ (l : List (Option Shift)). slice_get (items_of (by_shifts l (all_kept_parts old))) here.at) none
+          ∙ (ap (λ (l : List (Owned Span)). slice_get (items_of l) here.at) (by_none (all_kept_parts old)) ∙ full_item (copies old.ranges 0 old.keepers) here.at here.is)
+
+      first : slice_get (items_of (all_shifted new after)) here.at ≡ Some w.span
+      first = ap (λ (l : List Span). slice_get l here.at) items ∙ in_front (items_of (all_shifted old before)) (items_of (own_all (length old.keepers) (map (shifted shift) own_list))) here.at w.span first_old
+
+      second : slice_get (items_of (all_shifted new after)) (length (all_shifted old before) + w.at) ≡ Some (shifted shift w.moved)
+      second = ap (λ (l : List Span). slice_get l (length (all_shifted old before) + w.at)) items
+          ∙ in_back (items_of (all_shifted old before)) (items_of (own_all (length old.keepers) (map (shifted shift) own_list))) (length (all_shifted old before) + w.at) w.at (shifted shift w.moved)
+          (ap (λ (n : ℕ). n + w.at) (sym (length-map {B = Span} (all_shifted old before) (λ (x : Owned Span). x.item))))
+          (ap (λ (l : List Span). slice_get l w.at) (items_own (length old.keepers) (map (shifted shift) own_list)) ∙ (slice_get-map (shifted shift) own_list w.at ∙ ap (option_map (shifted shift)) w.is_moved))
+
+      differ : here.at ≡ length (all_shifted old before) + w.at → ⊥
+      differ e =
+          let lt = slice_get_within (items_of (all_shifted old before)) here.at w.span first_old in
+          let n = length-map {B = Span} (all_shifted old before) (λ (x : Owned Span). x.item) in
+          omega arith
+
+      by : (w.span.end ≤ (shifted shift w.moved).begin) ⊎ ((shifted shift w.moved).end ≤ w.span.begin) → ⊥
+      by (inl le) = w.meet.second le
+      by (inr le) = w.meet.first le
+
+  pub moves_shifted : CanBeShifted shift own_list → (0 < length before) ⊎ MeetShifted own_list shift → AreShifted old before → AreShifted new after
+  moves_shifted can may are = record {
+    within = let c = more.count in let n = noted.length_is in omega arith;
+    stay = still_stay old new own_list more before after (Some shift) noted.before noted.here are.stay last;
+    meet = λ some. meet may;
+  }
+    where
+      last : (k at : ℕ) (s : Span) → slice_get new.keepers (length old.keepers) ≡ Some k → slice_get (list_of new.ranges k) at ≡ Some s → Shiftable shift s
+      last k at s is_k is =
+          let e : k ≡ keeper = some_is (sym is_k ∙ row_new) in
+          let list = ap (list_of new.ranges) e ∙ more.lists keeper keeper row in
+          let here = ap (λ (l : List Span). slice_get l at) (sym list) ∙ is in
+          subst (Shiftable shift) (get_or_from_slice_get own_list at s s here) (can at s (slice_get_within own_list at s here))
+
+      meet : (0 < length before) ⊎ MeetShifted own_list shift → AreApart (items_of (all_shifted new after)) → ⊥
+      meet (inl some) = still_meet old new own_list more before after (Some shift) noted.before noted.here (are.meet some)
+      meet (inr w) = by before refl w
+        where
+          by : (l : List (Option Shift)) → before ≡ l → MeetShifted own_list shift → AreApart (items_of (all_shifted new after)) → ⊥
+          by [] e w = two_meet e w
+          by (m ∷ l) e w = still_meet old new own_list more before after (Some shift) noted.before noted.here (are.meet (some e))
+            where
+              some : before ≡ m ∷ l → 0 < length before
+              some e = let k = ap length e in omega arith
 
 -- ---- one unit more
 
@@ -159,10 +309,56 @@ leaves_by f before [] few out = ap (map f) out
 leaves_by f before (n ∷ all) few (inl h) = inl (holds_by f before n h.0, leaves_by f before all few h.1)
 leaves_by f before (n ∷ all) few (inr h) = inr (map f h.0, ap (map f) h.1, leaves_by f (n ∷ before) all h.0 h.2)
 
-pub once_by : (a : AnnouncedParts) (units : List ℕ) (addr : ℕ) (parts : Announcing) → ArePartsOnce a addr parts → IsOnce (announced_by_units a units) addr (units_to_tell units parts)
-once_by a units addr parts once = record {
-  announced = ap (all_by_units units) once.announced;
+pub once_by : (a : Announced) (addr : ℕ) (parts : Announcing) → AreToldOnce a addr parts → IsOnce a addr (units_to_tell a.units parts)
+once_by a addr parts once = record {
+  announced = ap (all_by_units a.units) once.announced;
   address = once.address;
   fresh = once.fresh;
-  without = rw (covering_by units (all_of_parts a) addr) (leaves_by (unit_of units) [] (units_covering (all_of_parts a) addr) parts.left once.without);
+  without = rw (covering_by a.units (parts_all a) addr) (leaves_by (unit_of a.units) [] (units_covering (parts_all a) addr) parts.left once.without);
 }
+
+-- nothing is left out
+leaves_none : (before all : List ℕ) → LeavesOut before all all
+leaves_none before [] = refl
+leaves_none before (n ∷ all) = inr (all, refl, leaves_none (n ∷ before) all)
+
+pub all_once : (a : Announced) (addr : ℕ) (parts : Announcing) → parts ≡ to_tell (parts_all a) addr → AreToldOnce a addr parts
+all_once a addr parts e = rw e (record { announced = refl; address = refl; fresh = refl; without = leaves_none [] (units_covering (parts_all a) addr) })
+
+-- ---- where no ranges are moved
+
+pub none_noted : {A : Type 0} (list : List A) → length list ≡ 0 → list ≡ []
+none_noted [] e = refl
+none_noted (x ∷ list) e = absurd (omega arith)
+
+unmoved : (all : OwnedRanges) → all_by_shifts [] all ≡ all
+unmoved all = ap (λ (l : List (Owned Span)). record { ranges = l; ordered = all.ordered }) (by_none all.ranges)
+
+pub parts_unmoved : (parts : AnnouncedParts) (units : List ℕ) (shifts : List (Option Shift)) → shifts ≡ [] → parts_all (announced_by_units parts units shifts) ≡ all_of_parts parts
+parts_unmoved parts units shifts e = ap (λ (l : List (Option Shift)). all_by_shifts l (all_of_parts parts)) e ∙ unmoved (all_of_parts parts)
+
+pub once_unmoved : (parts : AnnouncedParts) (units : List ℕ) (shifts : List (Option Shift)) (addr : ℕ) (told : Announcing) → shifts ≡ [] → ArePartsOnce parts addr told → AreToldOnce (announced_by_units parts units shifts) addr told
+once_unmoved parts units shifts addr told e once =
+    let same = parts_unmoved parts units shifts e in
+    record {
+      announced = once.announced ∙ sym same;
+      address = once.address;
+      fresh = once.fresh;
+      without = subst (λ (all : OwnedRanges). LeavesOut [] (units_covering all addr) told.left) (sym same) once.without;
+    }
+
+-- ---- a unit whose ranges are moved
+
+pub unit_shifted : {E : Type 0} (old part : KeptRanges) (keeper : ℕ) (shift : Shift) (result : Result KeptRanges E) → ((spans : List Span) → IsListOf old spans (Some keeper) → IsWithPart old (map (shifted shift) spans) part) → IfOk result (λ k. k ≡ record part { count = part.count + 1 })
+    → IfOk result (λ k. (spans : List Span) → IsListOf old spans (Some keeper) → IsWithUnit old (map (shifted shift) spans) k)
+unit_shifted old part keeper shift (Ok k) with_part ended = λ spans list. subst (IsWithUnit old (map (shifted shift) spans)) (sym ended) (unit_ended old part (map (shifted shift) spans) (with_part spans list))
+unit_shifted old part keeper shift (Err e) with_part ended = tt
+
+keeper_or : (k : KeptRanges) (spans : List Span) (o : Option ℕ) → IsListOf k spans o → IfSome o (λ keeper. IsListOf k spans (Some keeper))
+keeper_or k spans None is = tt
+keeper_or k spans (Some keeper) is = is
+
+pub shifted_read : (old : KeptRanges) (keeper : ℕ) (shift : Shift) (new : KeptRanges × Option ℕ) → IsWithKeeper old (map (shifted shift) (list_of old.ranges keeper)) new → (spans : List Span) → IsListOf old spans (Some keeper) → IsWithShifted old (map (shifted shift) spans) new
+shifted_read old keeper shift new w spans list =
+    let e = list.1 in
+    subst (λ (l : List Span). IsWithShifted old (map (shifted shift) l) new) e (record { with_unit = w.with_unit; list = keeper_or new.0 (map (shifted shift) (list_of old.ranges keeper)) new.1 w.list })

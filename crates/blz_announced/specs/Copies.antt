@@ -149,6 +149,8 @@ with_list k spans = record {
 pub record IsOnePartMore (old : KeptParts) (spans : List Span) (new : KeptParts) : Type 0 where
   pub all : all_kept_parts new ≡ all_kept_parts old ++ own_all (length old.keepers) spans
   pub count : length new.keepers ≡ length old.keepers + 1
+  pub rows : (part keeper : ℕ) → slice_get old.keepers part ≡ Some keeper → slice_get new.keepers part ≡ Some keeper
+  pub lists : (part keeper : ℕ) → slice_get old.keepers part ≡ Some keeper → list_of new.ranges keeper ≡ list_of old.ranges keeper
   pub others : (list : List Span) (keeper : Option ℕ) → IsPartList old list keeper → IsPartList new list keeper
 
 -- one part more, which announces what one with a keeper does

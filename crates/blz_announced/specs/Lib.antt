@@ -1,5 +1,10 @@
 pub mod Announced
 pub mod Asking
+pub mod OfKeepers
+pub mod PartsTold
+pub mod Searching
+pub mod ShiftedTurns
+pub mod Shifts
 pub mod Copies
 pub mod Repeats
 pub mod Seen

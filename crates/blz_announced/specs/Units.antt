@@ -1,14 +1,17 @@
 -- What units announce: each the lists of its parts, one behind the other. A list is kept once, for the first part that
 -- announces it, and ranges are sought among those of parts.
-use Rattle.std.specs.Prelude.{◌≡◌, ℕ, ◌+◌, ◌<◌, ◌≤◌, ◌++◌, length, true, List, [], map, Option, Some, unwrap_or}
+use Rattle.std.specs.Prelude.{◌≡◌, ℕ, ◌+◌, ◌<◌, ◌≤◌, ◌++◌, length, true, List, [], map, Option, Some, IfSome, ◌⊎◌, unwrap_or}
 use Rattle.std.specs.List.{slice_get}
 use Rattle.blz_bytes.specs.declared.orders.Key.{Key}
 use Rattle.blz_ranges.specs.declared.span.Span.{Span}
-use Rattle.blz_ranges.specs.Owned.{Owned, own_all}
+use Rattle.blz_ranges.specs.Groups.{AreApart}
+use Rattle.blz_ranges.specs.Owned.{Owned, items_of, own_all}
 use Rattle.blz_ranges.specs.Ranges.{OwnedRanges}
 use Rattle.blz_announced.specs.Announced.{units_covering, Announcing}
-use Rattle.blz_announced.specs.Copies.{all_kept_parts, all_of_parts, AnnouncedParts, ArePartsOrderedBy, IsPartList, KeptParts}
+use Rattle.blz_announced.specs.Copies.{all_kept_parts, all_of_parts, list_of, AnnouncedParts, ArePartsOrderedBy, IsPartList, KeptParts}
 use Rattle.blz_announced.specs.Seen.{LeavesOut}
+use Rattle.blz_announced.specs.Shifts.{all_by_shifts, by_shifts, shifted, MeetShifted, StayWithin}
+use Rattle.blz_announced.specs.declared.shift.Shift.{Shift}
 
 -- ---- the units of parts
 
@@ -49,26 +52,43 @@ units_to_tell units parts = record {
 
 -- ---- while units are read
 
--- the ranges of the keepers of parts, for each part its keeper and its unit, and how many units were read
+-- the ranges of the keepers of parts, for each part its keeper, its unit, and how its ranges are moved, and how many units
+-- were read
 pub record KeptRanges : Type 0 where
   pub ranges : List (Owned Span)
   pub keepers : List ℕ
   pub units : List ℕ
+  pub shifts : List (Option Shift)
   pub count : ℕ
 
 abbrev pub no_ranges : KeptRanges
-no_ranges = record { ranges = []; keepers = []; units = []; count = 0 }
+no_ranges = record { ranges = []; keepers = []; units = []; shifts = []; count = 0 }
 
 -- the same by what it is made of
-abbrev pub kept_by_units : KeptParts → List ℕ → ℕ → KeptRanges
-kept_by_units parts units count = record { ranges = parts.ranges; keepers = parts.keepers; units = units; count = count }
+abbrev pub kept_by_units : KeptParts → List ℕ → List (Option Shift) → ℕ → KeptRanges
+kept_by_units parts units shifts count =
+    record { ranges = parts.ranges; keepers = parts.keepers; units = units; shifts = shifts; count = count }
 
 abbrev pub parts_kept : KeptRanges → KeptParts
 parts_kept k = record { ranges = k.ranges; keepers = k.keepers }
 
+-- all ranges of all parts, each as its part has it
+abbrev pub all_shifted : KeptParts → List (Option Shift) → List (Owned Span)
+all_shifted parts shifts = by_shifts shifts (all_kept_parts parts)
+
 -- all ranges of all units
 abbrev pub all_kept : KeptRanges → List (Owned Span)
-all_kept k = by_units k.units (all_kept_parts (parts_kept k))
+all_kept k = by_units k.units (all_shifted (parts_kept k) k.shifts)
+
+-- Where ranges of a part are moved, some two of all ranges share an address.
+pub record AreShifted (parts : KeptParts) (shifts : List (Option Shift)) : Type 0 where
+  pub within : length shifts ≤ length parts.keepers
+  pub stay : StayWithin parts.ranges parts.keepers shifts
+  pub meet : 0 < length shifts → AreApart (items_of (all_shifted parts shifts)) → ⊥
+
+pub record AreKeptByUnits (parts : KeptParts) (units : List ℕ) (shifts : List (Option Shift)) : Type 0 where
+  pub noted : length units ≤ length parts.keepers
+  pub shifted : AreShifted parts shifts
 
 -- A part announces some ranges if it has that keeper, and none without one.
 abbrev pub IsListOf : KeptRanges → List Span → Option ℕ → Type 0
@@ -103,6 +123,24 @@ pub record IsWithUnit (old : KeptRanges) (spans : List Span) (new : KeptRanges) 
 abbrev pub IsOnceMore : KeptRanges → Option ℕ → KeptRanges → Type 0
 IsOnceMore old keeper new = (spans : List Span) → IsListOf old spans keeper → IsWithUnit old spans new
 
+-- One part more may be kept as one that announces what another does, moved: some two ranges share an address then.
+abbrev pub MayBeShifted : KeptRanges → ℕ → Shift → Type 0
+MayBeShifted k keeper shift = (0 < length k.shifts) ⊎ MeetShifted (list_of k.ranges keeper) shift
+
+-- one unit more, which announces what one with a keeper does, each range moved
+abbrev pub IsShiftedMore : KeptRanges → ℕ → Shift → KeptRanges → Type 0
+IsShiftedMore old keeper shift new =
+    (spans : List Span) → IsListOf old spans (Some keeper) → IsWithUnit old (map (shifted shift) spans) new
+
+-- one unit more, with the keeper of its ranges where they have one
+pub record IsWithShifted (old : KeptRanges) (spans : List Span) (new : KeptRanges × Option ℕ) : Type 0 where
+  pub with_unit : IsWithUnit old spans new.0
+  pub list : IfSome new.1 (λ keeper. IsListOf new.0 spans (Some keeper))
+
+abbrev pub IsShiftedUnit : KeptRanges → ℕ → Shift → KeptRanges × Option ℕ → Type 0
+IsShiftedUnit old keeper shift new =
+    (spans : List Span) → IsListOf old spans (Some keeper) → IsWithShifted old (map (shifted shift) spans) new
+
 -- one unit more, with its keeper
 pub record IsWithKeeper (old : KeptRanges) (spans : List Span) (new : KeptRanges × Option ℕ) : Type 0 where
   pub with_unit : IsWithUnit old spans new.0
@@ -110,28 +148,45 @@ pub record IsWithKeeper (old : KeptRanges) (spans : List Span) (new : KeptRanges
 
 -- ---- once all units are read
 
--- the ranges of the keepers of parts, and for each part its keeper and its unit
+-- the ranges of the keepers of parts, and for each part its keeper, its unit, and how its ranges are moved
 pub record Announced : Type 0 where
   pub kept : OwnedRanges
   pub keepers : List ℕ
   pub units : List ℕ
+  pub shifts : List (Option Shift)
 
 -- the same by what it is made of
-abbrev pub announced_by_units : AnnouncedParts → List ℕ → Announced
-announced_by_units parts units = record { kept = parts.kept; keepers = parts.keepers; units = units }
+abbrev pub announced_by_units : AnnouncedParts → List ℕ → List (Option Shift) → Announced
+announced_by_units parts units shifts =
+    record { kept = parts.kept; keepers = parts.keepers; units = units; shifts = shifts }
 
 abbrev pub parts_announced : Announced → AnnouncedParts
 parts_announced a = record { kept = a.kept; keepers = a.keepers }
 
+-- all ranges of all parts
+abbrev pub parts_all : Announced → OwnedRanges
+parts_all a = all_by_shifts a.shifts (all_of_parts (parts_announced a))
+
 -- all ranges of all units
 abbrev pub announced_all : Announced → OwnedRanges
-announced_all a = all_by_units a.units (all_of_parts (parts_announced a))
+announced_all a = all_by_units a.units (parts_all a)
+
+-- the parts as they were kept while units were read
+abbrev pub kept_parts : AnnouncedParts → KeptParts
+kept_parts a = record { ranges = a.kept.ranges; keepers = a.keepers }
 
 -- whether the order of the ranges that are kept was accepted
 abbrev pub IsOrderedBy : Option (List Key → List ℕ) → Announced → Type 0
 IsOrderedBy told a = ArePartsOrderedBy told (parts_announced a)
 
--- the units that announce an address, before the first is asked for, without some that stand there again
+-- the parts that announce an address, before the first is asked for, without some that stand there again
+pub record AreToldOnce (a : Announced) (addr : ℕ) (parts : Announcing) : Type 0 where
+  pub announced : parts.announced ≡ parts_all a
+  pub address : parts.address ≡ addr
+  pub fresh : parts.fresh ≡ true
+  pub without : LeavesOut [] (units_covering (parts_all a) addr) parts.left
+
+-- the same of units
 pub record IsOnce (a : Announced) (addr : ℕ) (units : Announcing) : Type 0 where
   pub announced : units.announced ≡ announced_all a
   pub address : units.address ≡ addr

@@ -4,6 +4,7 @@ ghost use Rattle.blz_announced.specs.Units.{all_kept, announced_all, IsOrderedBy
 
 use crate::announced_parts::AnnouncedParts;
 use crate::kept_ranges::KeptRanges;
+use crate::shift::Shift;
 use blz_bytes::Orders;
 use blz_ranges::fitted;
 use std::alloc::{AllocError, Global};
@@ -15,14 +16,18 @@ pub struct Announced {
     pub(crate) parts: AnnouncedParts,
     /// The unit of each part, as far as they are noted.
     pub(crate) units: Vec<usize>,
+    /// How the ranges of each part are moved, as far as that is noted.
+    pub(crate) shifts: Vec<Option<Shift>>,
 }
 
 impl Model for Announced {
-    ghost use Rattle.blz_announced.specs.Units.{announced_by_units, Announced};
+    ghost use Rattle.blz_announced.specs.Units.{announced_by_units, kept_parts, Announced, AreShifted};
 
     ghost Value = { Announced };
 
-    ghost view = { λ a. announced_by_units a.parts a.units.items };
+    ghost view = { λ a. announced_by_units a.parts a.units.items a.shifts.items };
+
+    ghost invariant = { λ a. AreShifted (kept_parts a.parts) a.shifts.items };
 }
 
 impl Announced {
@@ -35,10 +40,15 @@ impl Announced {
         ensures all { IfOk result (λ a. (announced_all a).ranges ≡ all_kept ranges) }
         ensures accepted { IfOk result (IsOrderedBy O.pair_places) }
     {
-        let (parts, units) = ranges.into_parts();
+        let (parts, units, shifts) = ranges.into_parts();
         let (spans, owners, keepers) = parts.into_parts();
         let parts = AnnouncedParts::build(alloc, orders, spans, owners, keepers)?;
         let units = fitted(units);
-        Ok(Announced { parts, units })
+        let shifts = fitted(shifts);
+        Ok(Announced {
+            parts,
+            units,
+            shifts,
+        })
     }
 }

@@ -1,10 +1,12 @@
 //! The ranges that parts announce. What several parts announce is kept once.
-ghost use Rattle.std.specs.Prelude.{◌≡◌, ◌≤◌, ◌-◌, length, None, IfOk, IfSome};
+ghost use Rattle.std.specs.Prelude.{◌≡◌, ◌≤◌, ◌-◌, length, None, Some, IfOk, IfSome};
+ghost use Rattle.blz_ranges.specs.Best.{passes};
 ghost use Rattle.blz_ranges.specs.Owned.{items_of, owned, owner_at};
 ghost use Rattle.blz_announced.specs.Announced.{TakesFew};
 ghost use Rattle.blz_announced.specs.Turns.{part_at};
 ghost use Rattle.blz_announced.specs.Asking.{EndsPart, FirstIsUpTo, HasPlace, IsBestPlace, IsLastPlace, IsNextPlace, IsOwnUpTo, IsPart};
 ghost use Rattle.blz_announced.specs.Copies.{all_of_parts, begins_in, begun, kept_at, moved, span_at, AreKeepers, ArePartsOrderedBy};
+ghost use Rattle.blz_announced.specs.OfKeepers.{IsBestOr};
 ghost use Rattle.blz_announced.specs.Seen.{by_owner};
 
 mod alike;
@@ -15,7 +17,7 @@ use crate::announced_parts::repeats::{Near, near_of, part_near, repeats_by_keepe
 use crate::comparing::{begin_alike, behind, no_longer};
 use crate::keepers::Keepers;
 use blz_bytes::{Orders, Steps};
-use blz_ranges::{GroupIndex, Grouped, RangeIndex, Span, fitted, group_keys, number_at};
+use blz_ranges::{GroupIndex, Grouped, Placed, RangeIndex, Span, fitted, group_keys, number_at};
 use std::alloc::{AllocError, Global};
 use std::marker::Model;
 use std::sync::ledger::Ledger;
@@ -143,6 +145,47 @@ impl AnnouncedParts {
         })
     }
 
+    /// How many ranges are kept.
+    pub(crate) fn count(&self) -> usize
+        ensures { result ≡ length self.now.kept.ranges }
+    {
+        self.owners.len()
+    }
+
+    /// The keepers of parts.
+    pub(crate) fn keepers(&self) -> &[usize]
+        ensures { result.now ≡ self.now.keepers }
+    {
+        self.keepers.of_parts.as_slice()
+    }
+
+    /// Of the ranges of a keeper that cover an address the best one.
+    pub(crate) fn best_of<L: Ledger>(
+        &self,
+        keeper: usize,
+        addr: u64,
+        steps: &mut Steps<L>,
+    ) -> Option<usize>
+        ensures best { IsBestOr (passes addr None) self.now.kept.ranges keeper result }
+        ensures later { steps.old ≤ steps.new }
+    {
+        self.by_keeper.best_in(keeper, addr, steps)
+    }
+
+    /// The best of those that come after one which need not be of the list.
+    pub(crate) fn next_of_keeper<L: Ledger>(
+        &self,
+        keeper: usize,
+        addr: u64,
+        after: Placed,
+        steps: &mut Steps<L>,
+    ) -> Option<usize>
+        ensures next { IsBestOr (passes addr (Some after)) self.now.kept.ranges keeper result }
+        ensures later { steps.old ≤ steps.new }
+    {
+        self.by_keeper.after_in(keeper, addr, after, steps)
+    }
+
     /// The keeper of the range at a place.
     fn keeper(&self, place: usize) -> Option<usize>
         ensures { result ≡ owner_at self.now.kept.ranges place }
@@ -151,7 +194,7 @@ impl AnnouncedParts {
     }
 
     /// The range at a place, for one step.
-    fn span<L: Ledger>(&self, place: usize, steps: &mut Steps<L>) -> Option<Span>
+    pub(crate) fn span<L: Ledger>(&self, place: usize, steps: &mut Steps<L>) -> Option<Span>
         ensures span { result ≡ span_at self.now.kept.ranges place }
         ensures later { steps.old ≤ steps.new }
     {

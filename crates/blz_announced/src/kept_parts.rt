@@ -1,9 +1,9 @@
 //! The ranges that parts announce, while the parts are read.
-ghost use Rattle.std.specs.Prelude.{◌≡◌, ◌<◌, [], length, IfOk, IfSome, Some};
+ghost use Rattle.std.specs.Prelude.{◌≡◌, ◌+◌, ◌<◌, ◌≤◌, [], length, take, drop, IfOk, IfSome, Some};
 ghost use Rattle.std.specs.Bool.{OnTrue};
 ghost use Rattle.std.specs.List.{slice_get};
-ghost use Rattle.blz_ranges.specs.Owned.{owned};
-ghost use Rattle.blz_announced.specs.Copies.{AreKeepers, IsPartList, IsSamePartMore, IsKeptPartMore};
+ghost use Rattle.blz_ranges.specs.Owned.{items_of, owned};
+ghost use Rattle.blz_announced.specs.Copies.{list_of, AreKeepers, IsPartList, IsSamePartMore, IsKeptPartMore};
 
 use crate::keepers::Keepers;
 use blz_ranges::{Span, own};
@@ -31,6 +31,15 @@ impl Model for KeptParts {
     ghost view = { λ k. kept_of k.spans.items k.owners.items k.keepers.of_parts.items };
 
     ghost invariant = { λ k. AreKeptOnce k.spans.items k.owners.items k.keepers k.last k.from };
+}
+
+/// So many ranges of a list, from a place on.
+fn part_of(list: &[Span], start: usize, count: usize) -> &[Span]
+    requires { start + count ≤ length list.now }
+    ensures { result.now ≡ take count (drop start list.now) }
+{
+    let behind = &list[start..];
+    &behind[..count]
 }
 
 /// Whether two lists of ranges are the same.
@@ -68,6 +77,32 @@ impl KeptParts {
         self.keepers.of_parts.len()
     }
 
+    /// How many ranges are kept.
+    pub fn len(&self) -> usize
+        ensures { result ≡ length self.now.ranges }
+    {
+        self.owners.len()
+    }
+
+    /// Where the ranges of a keeper begin, and how many they are.
+    fn bounds_of(&self, keeper: usize) -> (usize, usize)
+        requires { slice_get self.now.keepers keeper ≡ Some keeper }
+        ensures within { result.0 + result.1 ≤ length self.now.ranges }
+        ensures list { take result.1 (drop result.0 (items_of self.now.ranges)) ≡ list_of self.now.ranges keeper }
+    {
+        let start = self.keepers.start(keeper);
+        (start, self.keepers.ends[keeper] - start)
+    }
+
+    /// The ranges of a keeper.
+    pub fn list_of(&self, keeper: usize) -> &[Span]
+        requires { slice_get self.now.keepers keeper ≡ Some keeper }
+        ensures { result.now ≡ list_of self.now.ranges keeper }
+    {
+        let (start, count) = self.bounds_of(keeper);
+        part_of(self.spans.as_slice(), start, count)
+    }
+
     /// The keeper of a list, where it is the last that was kept.
     fn keeper_of(&self, spans: &[Span]) -> Option<usize>
         ensures { IfSome result (λ keeper. IsPartList self.now spans.now (Some keeper)) }
@@ -85,7 +120,8 @@ impl KeptParts {
     /// One part more, which announces what one with a keeper does.
     pub fn again(mut self, keeper: usize) -> Result<KeptParts, AllocError>
         requires { slice_get self.keepers keeper ≡ Some keeper }
-        ensures { IfOk result (IsSamePartMore self keeper) }
+        ensures same { IfOk result (IsSamePartMore self keeper) }
+        ensures row { IfOk result (λ k. slice_get k.keepers (length self.keepers) ≡ Some keeper) }
     {
         let part = self.keepers.of_parts.len();
         self.keepers.of_parts.push(keeper)?;

@@ -1,10 +1,16 @@
 //! The ranges that units announce, while the units are read.
-ghost use Rattle.std.specs.Prelude.{◌≡◌, ◌+◌, IfOk, IfSome, Some};
+ghost use Rattle.std.specs.Prelude.{◌≡◌, ◌≢◌, ◌+◌, [], IfOk, IfSome, Some, map, true};
+ghost use Rattle.std.specs.Bool.{OnTrue};
 ghost use Rattle.std.specs.List.{slice_get};
-ghost use Rattle.blz_announced.specs.Units.{no_ranges, parts_kept, IsOnceMore, IsPartAgain, IsWithKeeper, IsWithKeptPart};
+ghost use Rattle.blz_announced.specs.Copies.{list_of};
+ghost use Rattle.blz_announced.specs.Shifts.{shifted, CanBeShifted};
+ghost use Rattle.blz_announced.specs.Units.{no_ranges, parts_kept, IsOnceMore, AreShifted, IsPartAgain, IsShiftedMore, IsShiftedUnit, IsWithKeeper, IsWithKeptPart, MayBeShifted};
 
 use crate::kept_parts::KeptParts;
+use crate::meeting::meet_shifted;
 use crate::part_units::noted;
+use crate::shift;
+use crate::shift::Shift;
 use blz_ranges::Span;
 use std::alloc::{AllocError, Global};
 use std::marker::Model;
@@ -15,19 +21,35 @@ pub struct KeptRanges {
     parts: KeptParts,
     /// The unit of each part, as far as they are noted.
     units: Vec<usize>,
+    /// How the ranges of each part are moved, as far as that is noted.
+    shifts: Vec<Option<Shift>>,
     /// How many units were read.
     count: usize,
 }
 
 impl Model for KeptRanges {
-    ghost use Rattle.std.specs.Prelude.{◌≤◌, length};
-    ghost use Rattle.blz_announced.specs.Units.{kept_by_units, KeptRanges};
+    ghost use Rattle.blz_announced.specs.Units.{kept_by_units, AreKeptByUnits, KeptRanges};
 
     ghost Value = { KeptRanges };
 
-    ghost view = { λ k. kept_by_units k.parts k.units.items k.count };
+    ghost view = { λ k. kept_by_units k.parts k.units.items k.shifts.items k.count };
 
-    ghost invariant = { λ k. length k.units.items ≤ length k.parts.keepers };
+    ghost invariant = { λ k. AreKeptByUnits k.parts k.units.items k.shifts.items };
+}
+
+/// From so many ranges on, parts that announce what others do, moved, are kept as such.
+const MANY_RANGES: usize = 65_536;
+
+/// The ranges of a list, each moved.
+fn shifted_list(alloc: Global, list: &[Span], shift: Shift) -> Result<Vec<Span>, AllocError>
+    requires { CanBeShifted shift list.now }
+    ensures { IfOk result (λ v. v.items ≡ map (shifted shift) list.now) }
+{
+    let mut spans = Vec::with_capacity(alloc, list.len())?;
+    for at in 0..list.len() {
+        spans.push(shift.shifted(list[at]))?;
+    }
+    Ok(spans)
 }
 
 impl KeptRanges {
@@ -38,6 +60,7 @@ impl KeptRanges {
         KeptRanges {
             parts: KeptParts::new(alloc),
             units: Vec::new(alloc),
+            shifts: Vec::new(alloc),
             count: 0,
         }
     }
@@ -51,6 +74,7 @@ impl KeptRanges {
         let ranges = KeptRanges {
             parts,
             units,
+            shifts: self.shifts,
             count: self.count,
         };
         Ok((ranges, keeper))
@@ -66,6 +90,7 @@ impl KeptRanges {
         Ok(KeptRanges {
             parts,
             units,
+            shifts: self.shifts,
             count: self.count,
         })
     }
@@ -80,6 +105,7 @@ impl KeptRanges {
         Ok(KeptRanges {
             parts: self.parts,
             units: self.units,
+            shifts: self.shifts,
             count,
         })
     }
@@ -110,11 +136,66 @@ impl KeptRanges {
         Ok((ranges, keeper))
     }
 
-    /// What the parts announce, and the units of these.
-    pub(crate) fn into_parts(self) -> (KeptParts, Vec<usize>)
+    /// Whether one part more may be kept as one that announces what another does, moved: where some two ranges share an
+    /// address, so that no few looks are owed for one of them.
+    fn may_shift(&self, keeper: usize, shift: Shift) -> bool
+        requires keeper { slice_get self.now.keepers keeper ≡ Some keeper }
+        requires stays { CanBeShifted shift (list_of self.now.ranges keeper) }
+        ensures { OnTrue result (MayBeShifted self.now keeper shift) }
+    {
+        if self.parts.len() < MANY_RANGES {
+            return false;
+        }
+        !self.shifts.is_empty() || meet_shifted(self.parts.list_of(keeper), shift)
+    }
+
+    /// One unit more, of one part that announces what another one does, moved.
+    fn with_shift(self, keeper: usize, shift: Shift) -> Result<KeptRanges, AllocError>
+        requires keeper { slice_get self.keepers keeper ≡ Some keeper }
+        requires stays { CanBeShifted shift (list_of self.ranges keeper) }
+        requires may { MayBeShifted self keeper shift }
+        ensures { IfOk result (IsShiftedMore self keeper shift) }
+    {
+        let part = self.parts.count();
+        let units = noted(self.units, part, self.count)?;
+        let shifts = shift::noted(self.shifts, part, shift)?;
+        let parts = self.parts.again(keeper)?;
+        let ranges = KeptRanges {
+            parts,
+            units,
+            shifts,
+            count: self.count,
+        };
+        ranges.end_unit()
+    }
+
+    /// One unit more, which announces what one with a keeper does, each range moved. Gives the keeper of these ranges, where
+    /// they have one.
+    pub fn shifted_unit(
+        self,
+        alloc: Global,
+        keeper: usize,
+        shift: Shift,
+    ) -> Result<(KeptRanges, Option<usize>), AllocError>
+        requires keeper { slice_get self.keepers keeper ≡ Some keeper }
+        requires stays { CanBeShifted shift (list_of self.ranges keeper) }
+        ensures { IfOk result (IsShiftedUnit self keeper shift) }
+    {
+        if self.may_shift(keeper, shift) {
+            let ranges = self.with_shift(keeper, shift)?;
+            return Ok((ranges, None));
+        }
+        let spans = shifted_list(alloc, self.parts.list_of(keeper), shift)?;
+        self.with_unit(spans.as_slice())
+    }
+
+    /// What the parts announce, the units of these, and how they are moved.
+    pub(crate) fn into_parts(self) -> (KeptParts, Vec<usize>, Vec<Option<Shift>>)
         ensures parts { result.0 ≡ parts_kept self }
         ensures units { result.1.items ≡ self.units }
+        ensures shifts { result.2.items ≡ self.shifts }
+        ensures are { AreShifted result.0 result.2.items }
     {
-        (self.parts, self.units)
+        (self.parts, self.units, self.shifts)
     }
 }

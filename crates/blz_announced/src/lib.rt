@@ -7,10 +7,15 @@ mod comparing;
 mod keepers;
 mod kept_parts;
 mod kept_ranges;
+mod meeting;
 mod part_units;
 mod parts_at;
+mod shift;
+mod shifted_at;
+mod shifted_parts;
 mod units_at;
 
 pub use announced::Announced;
 pub use kept_ranges::KeptRanges;
+pub use shift::Shift;
 pub use units_at::UnitsAt;

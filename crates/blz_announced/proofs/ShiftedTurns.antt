@@ -1,0 +1,229 @@
+-- The ranges that cover an address one after the other, where the ranges of some parts are moved.
+use Rattle.std.proofs.Common.{◌≡◌, ℕ, ◌<◌, Bool, true, false, List, length, drop, Option, Some, None, refl, sym, ap, subst, ◌∙◌, arith, inl, inr}
+use Rattle.std.specs.Prelude.{option_map, IfSome}
+use Rattle.std.specs.List.{slice_get}
+use Rattle.std.proofs.lemmas.Bool.{cases_lt}
+use Rattle.std.proofs.lemmas.Option.{slice_get-map, slice_get_within}
+use Rattle.blz_ranges.specs.declared.span.Span.{Span}
+use Rattle.blz_ranges.specs.Best.{covers, IsBest, NotAfter}
+use Rattle.blz_ranges.specs.Owned.{Owned, items_of, owners_of}
+use Rattle.blz_ranges.specs.Ranges.{owner_of}
+use Rattle.blz_ranges.proofs.BestOf.{best_is}
+use Rattle.blz_announced.specs.Announced.{TakesFew}
+use Rattle.blz_announced.specs.Copies.{all_of_parts, announced_copies, told, AnnouncedParts, Copy}
+use Rattle.blz_announced.specs.Searching.{ComesAfter, IsFirstOr, IsReached}
+use Rattle.blz_announced.specs.ShiftedTurns.{full_place_of, is_first, left_at, part_of, places_to_come, shifted_ranges, step_behind, told_shifted, IsReachedStep, IsStepOf, IsStepReached}
+use Rattle.blz_announced.specs.Shifts.{all_by_shifts, moved_by, shift_of}
+use Rattle.blz_announced.specs.Turns.{left_behind, places_left, IsLeft}
+use Rattle.blz_announced.specs.declared.shift.Shift.{Shift}
+use Rattle.blz_announced.specs.declared.shifted_at.Step.{Step}
+use Rattle.blz_announced.specs.declared.shifted_at.Step.TheVariants.{First, After, Over}
+use Rattle.blz_announced.specs.declared.shifted_parts.Reached.{Reached}
+use Rattle.blz_announced.proofs.Copies.{are_copies, copy_place, sorted_before, AreCopies}
+use Rattle.blz_announced.proofs.NextCopies.{is_next, mapped, owner_told, After as Behind, IsNext}
+use Rattle.blz_announced.proofs.ShiftedRanges.{is_moved, moved_at, owner_moved}
+use Rattle.blz_announced.proofs.TurnSteps.{after_place, first_place, part_next, parts_behind, seen, turn_kept}
+
+module _ (a : AnnouncedParts) (shifts : List (Option Shift)) (addr : ℕ) where
+  abbrev list : List Copy
+  list = announced_copies a
+
+  abbrev ranges : List (Owned Span)
+  ranges = shifted_ranges a shifts
+
+  abbrev all : List Span
+  all = items_of ranges
+
+  are : AreCopies a.kept.ranges a.keepers list
+  are = are_copies a.kept.ranges a.keepers
+
+  abbrev as_told : Copy → Owned Span
+  as_told c = record { item = c.span; owner = c.part }
+
+  abbrev moved : Copy → Span
+  moved c = moved_by (shift_of shifts c.part) c.span
+
+  -- a range among all is one of a part, moved
+  record IsAt (q : ℕ) (t : Span) : Type 0 where
+    pub copy : Copy
+    pub is : slice_get list q ≡ Some copy
+    pub span_is : moved copy ≡ t
+
+  is_at : (q : ℕ) (t : Span) → slice_get all q ≡ Some t → IsAt q t
+  is_at q t e =
+      let h = is_moved shifts (told list) q t e in
+      let c = mapped as_told list q h.item h.is in
+      record { copy = c.0; is = c.1; span_is = ap (λ (x : Owned Span). moved_by (shift_of shifts x.owner) x.item) c.2 ∙ h.span_is }
+
+  told_at : (q : ℕ) (c : Copy) → slice_get list q ≡ Some c → slice_get (told list) q ≡ Some (as_told c)
+  told_at q c e = slice_get-map as_told list q ∙ ap (option_map as_told) e
+
+  full_at : (q : ℕ) (c : Copy) → slice_get list q ≡ Some c → slice_get all q ≡ Some (moved c)
+  full_at q c e = moved_at shifts (told list) q (as_told c) (told_at q c e)
+
+  -- ---- what was found, among all
+
+  abbrev as_reached : Copy → Reached
+  as_reached c = record { at = record { place = c.place; part = c.part }; begin = (moved c).begin }
+
+  reached_of : (q : ℕ) (t : Span) (x : IsAt q t) → covers t addr ≡ true → IsReached a shifts addr (as_reached x.copy)
+  reached_of q t x reached =
+      let c = x.copy in
+      let h = are.told q c x.is in
+      let part : h.row ≡ c.part = omega (arith, h.part_is) in
+      record {
+        keeper = h.keeper;
+        span = c.span;
+        row = subst (λ (n : ℕ). slice_get a.keepers n ≡ Some h.keeper) part h.has;
+        is = h.is;
+        reached = subst (λ (s : Span). covers s addr ≡ true) (sym x.span_is) reached;
+        begins = refl;
+      }
+
+  within : (r : Reached) → IsReached a shifts addr r → r.at.part < length a.keepers
+  within r h = slice_get_within a.keepers r.at.part h.keeper h.row
+
+  abbrev copy_of : (r : Reached) → IsReached a shifts addr r → Copy
+  copy_of r h = record { part = r.at.part; place = r.at.place; span = h.span }
+
+  stands : (r : Reached) (h : IsReached a shifts addr r) → slice_get list (full_place_of a r) ≡ Some (copy_of r h)
+  stands r h =
+      let there = are.there r.at.part h.keeper r.at.place h.span h.row h.is in
+      let place = copy_place a.kept.ranges a.keepers list there.at (copy_of r h) are there.is in
+      subst (λ (n : ℕ). slice_get list n ≡ Some (copy_of r h)) (sym place) there.is
+
+  abbrev span_of : (r : Reached) → IsReached a shifts addr r → Span
+  span_of r h = moved (copy_of r h)
+
+  span_at : (r : Reached) (h : IsReached a shifts addr r) → slice_get all (full_place_of a r) ≡ Some (span_of r h)
+  span_at r h = full_at (full_place_of a r) (copy_of r h) (stands r h)
+
+  comes : (last : Reached) (h : IsReached a shifts addr last) (q : ℕ) (t : Span) (x : IsAt q t) → Behind (full_place_of a last) (span_of last h) q t → ComesAfter last (as_reached x.copy)
+  comes last h q t x (inl lt) = let e = ap (λ (s : Span). s.begin) x.span_is in let f = h.begins in inl (omega arith)
+  comes last h q t x (inr k) =
+      let e = ap (λ (s : Span). s.begin) x.span_is in
+      let f = h.begins in
+      let g = k.0 in
+      inr (omega arith, are.sorted (full_place_of a last) q (copy_of last h) x.copy k.1 (stands last h) x.is)
+
+  goes : (last : Reached) (h : IsReached a shifts addr last) (r : Reached) (k : IsReached a shifts addr r) → ComesAfter last r → Behind (full_place_of a last) (span_of last h) (full_place_of a r) (span_of r k)
+  goes last h r k (inl lt) = let e = h.begins in let f = k.begins in inl (omega arith)
+  goes last h r k (inr c) =
+      let e = h.begins in
+      let f = k.begins in
+      let g = c.0 in
+      inr (omega arith, sorted_before list are.sorted (full_place_of a last) (full_place_of a r) (copy_of last h) (copy_of r k) (stands last h) (stands r k) c.1)
+
+  not_sooner : (r : Reached) (k : IsReached a shifts addr r) (q : ℕ) (t : Span) (x : IsAt q t) → (ComesAfter (as_reached x.copy) r → ⊥) → NotAfter (full_place_of a r) (span_of r k) q t
+  not_sooner r k q t x never =
+      let e = ap (λ (s : Span). s.begin) x.span_is in
+      let f = k.begins in
+      record {
+        below = elim (cases_lt r.begin t.begin) [ inl lt ↦ absurd (never (inl (omega arith))) | inr ge ↦ omega arith ];
+        tie = λ same. elim (cases_lt q (full_place_of a r)) [
+          | inl lt ↦ absurd (never (inr (omega arith, are.sorted q (full_place_of a r) x.copy (copy_of r k) lt x.is (stands r k))))
+          | inr ge ↦ ge
+        ];
+      }
+
+  abbrev Anywhere : ℕ → Type 0
+  Anywhere p = p < length a.keepers
+
+  abbrev full : Option Reached → Option ℕ
+  full found = option_map (full_place_of a) found
+
+  best_found : (found : Option Reached) → IsFirstOr a shifts (record { addr = addr; after = None }) Anywhere found → IsBest (λ at s. covers s addr) all (full found)
+  best_found None f = λ q t is reached.
+      let x = is_at q t is in
+      let k = reached_of q t x reached in
+      f (as_reached x.copy) k (within (as_reached x.copy) k) tt
+  best_found (Some r) f = record {
+    span = span_of r f.reached;
+    at = span_at r f.reached;
+    passes = f.reached.reached;
+    first = λ q t is reached.
+        let x = is_at q t is in
+        let k = reached_of q t x reached in
+        not_sooner r f.reached q t x (λ sooner. f.first (as_reached x.copy) k (within (as_reached x.copy) k) tt sooner);
+  }
+
+  next_found : (last : Reached) (h : IsReached a shifts addr last) (found : Option Reached) → IsFirstOr a shifts (record { addr = addr; after = Some last }) Anywhere found → IsNext all addr (full_place_of a last) (span_of last h) (full found)
+  next_found last h None f = λ q t is reached behind.
+      let x = is_at q t is in
+      let k = reached_of q t x reached in
+      f (as_reached x.copy) k (within (as_reached x.copy) k) (comes last h q t x behind)
+  next_found last h (Some r) f = record {
+    span = span_of r f.reached;
+    at = span_at r f.reached;
+    reached = f.reached.reached;
+    behind = goes last h r f.reached f.behind;
+    first = λ q t is reached behind.
+        let x = is_at q t is in
+        let k = reached_of q t x reached in
+        not_sooner r f.reached q t x (λ sooner. f.first (as_reached x.copy) k (within (as_reached x.copy) k) (comes last h q t x behind) sooner);
+  }
+
+  reached_or : (after found : Option Reached) → IsFirstOr a shifts (record { addr = addr; after = after }) Anywhere found → IfSome found (IsReached a shifts addr)
+  reached_or after None f = tt
+  reached_or after (Some r) f = f.reached
+
+  -- ---- whose turn it is
+
+  pub first_reached : (found : Option Reached) → IsFirstOr a shifts (record { addr = addr; after = None }) Anywhere found → IsStepReached a shifts addr First found
+  first_reached found f = record {
+    is = best_is (λ at s. covers s addr) all (full found) (best_found found f) ∙ first_place ranges addr;
+    reached = reached_or None found f;
+  }
+
+  pub next_reached : (last : Reached) → IsStepOf a shifts addr (After last) → (found : Option Reached) → IsFirstOr a shifts (record { addr = addr; after = Some last }) Anywhere found → IsStepReached a shifts addr (After last) found
+  next_reached last s found f = record {
+    is = is_next all addr (full_place_of a last) (span_of last s.reached) (full found) (span_at last s.reached) (next_found last s.reached found f) ∙ after_place ranges addr (full_place_of a last) s.left;
+    reached = reached_or (Some last) found f;
+  }
+
+  pub over_reached : IsStepReached a shifts addr Over None
+  over_reached = record { is = refl; reached = tt }
+
+  -- ---- what a call leaves
+
+  left_after : (found : Option Reached) (o : Option ℕ) → full found ≡ o → left_at a (step_behind found) ≡ left_behind o
+  left_after None o e = ap left_behind e
+  left_after (Some r) o e = ap left_behind e
+
+  part_by : (found : Option Reached) (o : Option ℕ) → full found ≡ o → IfSome found (IsReached a shifts addr) → part_of found ≡ owner_of ranges o
+  part_by None o e h = ap (owner_of ranges) e
+  part_by (Some r) o e h = sym (owner_moved shifts (told list) (full_place_of a r) ∙ owner_told list (full_place_of a r) (stands r h)) ∙ ap (owner_of ranges) e
+
+  not_first : (found : Option Reached) → is_first (step_behind found) ≡ false
+  not_first None = refl
+  not_first (Some r) = refl
+
+  reached_step : (found : Option Reached) → IfSome found (IsReached a shifts addr) → IsReachedStep a shifts addr (step_behind found)
+  reached_step None h = tt
+  reached_step (Some r) h = h
+
+  module _ (step : Step) (s : IsStepOf a shifts addr step) (found : Option Reached) (h : IsStepReached a shifts addr step found) where
+    abbrev place : Option ℕ
+    place = slice_get (places_to_come a shifts addr step) 0
+
+    pub step_kept : IsStepOf a shifts addr (step_behind found)
+    step_kept = record {
+      some = s.some;
+      are = s.are;
+      left = subst (IsLeft ranges addr) (sym (left_after found place h.is)) (turn_kept ranges addr (left_at a step) s.left place refl);
+      reached = reached_step found h.reached;
+    }
+
+    pub part_is : part_of found ≡ slice_get (told_shifted a shifts addr step).left 0
+    part_is = part_by found place h.is h.reached ∙ part_next ranges addr (left_at a step) s.left place refl
+
+    pub step_seen : told_shifted a shifts addr (step_behind found) ≡ record (told_shifted a shifts addr step) { left = drop 1 (told_shifted a shifts addr step).left; fresh = false }
+    step_seen =
+        let all_left = (told_shifted a shifts addr step).left in
+        let parts = ap (λ l. owners_of ranges (places_left ranges addr l)) (left_after found place h.is) ∙ parts_behind ranges addr (left_at a step) s.left place refl in
+        ap (λ (l : List ℕ). seen (all_by_shifts shifts (all_of_parts a)) addr l (is_first (step_behind found))) parts
+        ∙ ap (λ (b : Bool). seen (all_by_shifts shifts (all_of_parts a)) addr (drop 1 all_left) b) (not_first found)
+
+  -- Some two ranges share an address, so no few looks are owed.
+  pub no_few : (step : Step) → IsStepOf a shifts addr step → (looks : ℕ) → TakesFew (all_by_shifts shifts (all_of_parts a)) looks
+  no_few step s looks = λ ordered apart. absurd (s.are.meet s.some apart)

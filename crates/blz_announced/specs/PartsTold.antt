@@ -1,0 +1,8 @@
+-- The parts that are still to be told, by whether the ranges of some are moved.
+use Rattle.blz_announced.specs.Announced.{Announcing}
+use Rattle.blz_announced.specs.declared.units_at.AnyParts.{AnyParts}
+use Rattle.blz_announced.specs.declared.units_at.AnyParts.TheVariants.{Found, Shifted}
+
+abbrev pub parts_told : AnyParts → Announcing
+parts_told (Found parts) = parts
+parts_told (Shifted parts) = parts

@@ -1,0 +1,170 @@
+//! The next range of an address where the ranges of some parts are moved: all parts are gone through.
+ghost use Rattle.std.specs.Prelude.{◌≡◌, ◌≤◌, ◌<◌, length, IfSome, Some};
+ghost use Rattle.std.specs.List.{slice_get};
+ghost use Rattle.blz_announced.specs.Copies.{span_at};
+ghost use Rattle.blz_announced.specs.Searching.{limit_of, place_in, reached_at, rest_of, sooner_of, IsFirstOr, IsReached, IsPlaceIn};
+ghost use Rattle.blz_announced.specs.Shifts.{shift_of, StayWithin};
+
+use crate::announced_parts::{AnnouncedParts, Place};
+use crate::comparing::behind;
+use crate::shift::{Shift, back_by, moved_by, shift_of};
+use blz_bytes::Steps;
+use blz_ranges::Placed;
+use std::sync::ledger::Ledger;
+
+/// A range that covers an address, and where it begins as its part has it.
+#[derive(Clone, Copy)]
+pub struct Reached {
+    pub at: Place,
+    pub begin: u64,
+}
+
+/// What is asked: the ranges that cover an address, or those of them that come after one.
+#[derive(Clone, Copy)]
+pub struct Search {
+    pub addr: u64,
+    pub after: Option<Reached>,
+}
+
+/// Which of the ranges of a part come after the last one that was told.
+#[derive(Clone, Copy)]
+pub enum Rest {
+    All,
+    /// Those that come after this one, as their keeper has them.
+    After(Placed),
+    Nothing,
+}
+
+/// The sooner of two that were found, of which the second is of a later part.
+fn sooner_of(found: Option<Reached>, later: Option<Reached>) -> Option<Reached>
+    ensures { result ≡ sooner_of found later }
+{
+    let Some(next) = later else {
+        return found;
+    };
+    match found {
+        Some(best) => if best.begin < next.begin {
+            Some(next)
+        } else {
+            Some(best)
+        },
+        None => Some(next),
+    }
+}
+
+/// The number that all ranges of a part begin below which come after the last one, but for those that begin with it.
+fn limit_of(part: usize, last: Reached) -> u64
+    requires { last.at.part < part → last.begin < 18446744073709551615 }
+    ensures { result ≡ limit_of part last }
+{
+    if last.at.part < part {
+        last.begin + 1
+    } else {
+        last.begin
+    }
+}
+
+/// The place behind which the ranges come that begin with it: none where the last one is of another part.
+fn place_in(count: usize, part: usize, last: Reached) -> usize
+    ensures { result ≡ place_in count part last }
+{
+    if last.at.part == part {
+        last.at.place
+    } else {
+        count
+    }
+}
+
+/// Which ranges of a part come after the last one, of so many that are kept.
+fn rest_of(count: usize, part: usize, shift: Option<Shift>, search: Search) -> Rest
+    ensures { result ≡ rest_of count part shift search.addr search.after }
+{
+    let Some(last) = search.after else {
+        return Rest::All;
+    };
+    if last.at.part < part && last.begin >= search.addr {
+        return Rest::All;
+    }
+    match back_by(shift, limit_of(part, last)) {
+        Some(begin) => Rest::After(behind(place_in(count, part, last), begin)),
+        None => Rest::Nothing,
+    }
+}
+
+/// The parts, and how their ranges are moved.
+#[derive(Clone, Copy)]
+pub struct ShiftedParts<'u> {
+    pub parts: &'u AnnouncedParts,
+    pub shifts: &'u [Option<Shift>],
+}
+
+impl ShiftedParts<'_> {
+    /// Of the ranges of a part that cover the address the next one's place among those that are kept.
+    fn place_of_next<L: Ledger>(
+        &self,
+        part: usize,
+        keeper: usize,
+        search: Search,
+        steps: &mut Steps<L>,
+    ) -> Option<usize>
+        requires row { slice_get self.now.parts.now.keepers part ≡ Some keeper }
+        requires stay { StayWithin self.now.parts.now.kept.ranges self.now.parts.now.keepers self.now.shifts.now }
+        requires last { IfSome search.after (IsReached self.now.parts.now self.now.shifts.now search.addr) }
+        ensures place { IsPlaceIn self.now.parts.now self.now.shifts.now search part result }
+        ensures later { steps.old ≤ steps.new }
+    {
+        let shift = shift_of(self.shifts, part);
+        let Some(addr) = back_by(shift, search.addr) else {
+            return None;
+        };
+        match rest_of(self.parts.count(), part, shift, search) {
+            Rest::All => self.parts.best_of(keeper, addr, steps),
+            Rest::After(after) => self.parts.next_of_keeper(keeper, addr, after, steps),
+            Rest::Nothing => None,
+        }
+    }
+
+    /// The same with where it begins.
+    fn next_in_part<L: Ledger>(
+        &self,
+        part: usize,
+        keeper: usize,
+        search: Search,
+        steps: &mut Steps<L>,
+    ) -> Option<Reached>
+        requires row { slice_get self.now.parts.now.keepers part ≡ Some keeper }
+        requires stay { StayWithin self.now.parts.now.kept.ranges self.now.parts.now.keepers self.now.shifts.now }
+        requires last { IfSome search.after (IsReached self.now.parts.now self.now.shifts.now search.addr) }
+        ensures next { IsFirstOr self.now.parts.now self.now.shifts.now search (λ p. p ≡ part) result }
+        ensures later { steps.old ≤ steps.new }
+    {
+        let Some(place) = self.place_of_next(part, keeper, search, steps) else {
+            return None;
+        };
+        let Some(span) = self.parts.span(place, steps) else {
+            return None;
+        };
+        let shift = shift_of(self.shifts, part);
+        let at = Place { place, part };
+        Some(Reached {
+            at,
+            begin: moved_by(shift, span).begin,
+        })
+    }
+
+    /// The next of all ranges that cover the address.
+    pub fn next<L: Ledger>(&self, search: Search, steps: &mut Steps<L>) -> Option<Reached>
+        requires stay { StayWithin self.now.parts.now.kept.ranges self.now.parts.now.keepers self.now.shifts.now }
+        requires last { IfSome search.after (IsReached self.now.parts.now self.now.shifts.now search.addr) }
+        ensures next { IsFirstOr self.now.parts.now self.now.shifts.now search (λ p. p < length self.now.parts.now.keepers) result }
+        ensures later { steps.old ≤ steps.new }
+    {
+        let keepers = self.parts.keepers();
+        let mut found = None;
+        for part in 0..keepers.len() {
+            let next = self.next_in_part(part, keepers[part], search, steps);
+            found = sooner_of(found, next);
+        }
+        found
+    }
+}
