@@ -4,6 +4,8 @@ pub mod PlaceSteps
 pub mod RepeatSteps
 pub mod RowSteps
 pub mod SeenSteps
+pub mod AheadLists
+pub mod AheadSteps
 pub mod ListsOf
 pub mod ShiftedRanges
 pub mod ShiftedSearch

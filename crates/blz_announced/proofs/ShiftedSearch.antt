@@ -2,7 +2,7 @@
 use Rattle.std.proofs.Common.{◌≡◌, ℕ, ◌+◌, ◌<◌, ◌≤◌, Bool, true, false, List, length, Option, Some, None, refl, sym, ap, subst, ◌∙◌, arith, inl, inr, ◌⊎◌}
 use Rattle.std.specs.Prelude.{◌&&◌, ◌==◌, nat_lt, nat_le, IfSome}
 use Rattle.std.specs.List.{slice_get}
-use Rattle.std.proofs.lemmas.Bool.{cases_Bool, cases_lt, and_parts, and_from, eqb-true, eq-eqb, le-leb, leb-true, lt-ltb, ltb-true, ltb-false, or_cases, or_left, or_right}
+use Rattle.std.proofs.lemmas.Bool.{cases_Bool, cases_lt, and_parts, and_from, eqb-true, eq-eqb, le-leb, leb-true, lt-ltb, ltb-true, or_cases, or_left, or_right}
 use Rattle.std.proofs.lemmas.Option.{slice_get_within}
 use Rattle.blz_ranges.specs.declared.placed.Placed.{Placed}
 use Rattle.blz_ranges.specs.declared.span.Span.{Span}
@@ -10,7 +10,7 @@ use Rattle.blz_ranges.specs.Best.{comes_after, covers, passes, NotAfter}
 use Rattle.blz_ranges.specs.Owned.{Owned}
 use Rattle.blz_announced.specs.Copies.{no_longer, AnnouncedParts, IsKept}
 use Rattle.blz_announced.specs.OfKeepers.{IsBestOr, IsOf}
-use Rattle.blz_announced.specs.Searching.{limit_of, place_in, reached_at, rest_from, rest_of, sooner_of, ComesAfter, IsBehind, IsFirst, IsFirstOr, IsPlaceIn, IsReached}
+use Rattle.blz_announced.specs.Searching.{limit_of, place_in, reached_at, rest_from, rest_of, ComesAfter, IsBehind, IsPlaceIn, IsReached}
 use Rattle.blz_announced.specs.Shifts.{back_by, moved_by, shift_of, MayMove, StayWithin}
 use Rattle.blz_announced.specs.declared.shift.Shift.{Shift}
 use Rattle.blz_announced.specs.declared.shifted_parts.Reached.{Reached}
@@ -259,49 +259,3 @@ module _ (a : AnnouncedParts) (shifts : List (Option Shift)) (part keeper : ℕ)
           let begins = r.begins in
           nothing_behind count part m search.addr addr back l (omega arith) (subst (λ (x : Option Reached). rest_of count part m search.addr x ≡ Nothing) e rest) q.at.place o.span (may q.at.place o.span o.is)
           (as_one q p (moved_by m o.span).begin o.begins (Some l) (rw e at behind))
-
--- ---- part by part
-
-module _ (a : AnnouncedParts) (shifts : List (Option Shift)) (search : Search) where
-  abbrev Among : ℕ → ℕ → Type 0
-  Among n p = p < n
-
-  pub none_yet : IsFirstOr a shifts search (Among 0) None
-  none_yet = λ q h lt behind. omega arith
-
-  in_either : (n p : ℕ) → p < n + 1 → (p < n) ⊎ (p ≡ n)
-  in_either n p lt = elim (cases_lt p n) [ inl less ↦ inl less | inr ge ↦ inr (omega arith) ]
-
-  wider : (n : ℕ) (r : Reached) → IsFirst a shifts search (Among n) r → ((q : Reached) → IsReached a shifts search.addr q → q.at.part ≡ n → IsBehind search.after q → ComesAfter q r → ⊥) → IsFirst a shifts search (Among (n + 1)) r
-  wider n r h here = record {
-    reached = h.reached;
-    among = let k = h.among in omega arith;
-    behind = h.behind;
-    first = λ q reached lt behind sooner. elim (in_either n q.at.part lt) [ inl less ↦ h.first q reached less behind sooner | inr same ↦ here q reached same behind sooner ];
-  }
-
-  next_on : (n : ℕ) (r : Reached) → IsFirst a shifts search (λ p. p ≡ n) r → ((q : Reached) → IsReached a shifts search.addr q → q.at.part < n → IsBehind search.after q → ComesAfter q r → ⊥) → IsFirst a shifts search (Among (n + 1)) r
-  next_on n r h before = record {
-    reached = h.reached;
-    among = let k = h.among in omega arith;
-    behind = h.behind;
-    first = λ q reached lt behind sooner. elim (in_either n q.at.part lt) [ inl less ↦ before q reached less behind sooner | inr same ↦ h.first q reached same behind sooner ];
-  }
-
-  pub one_part_more : (n : ℕ) (found next : Option Reached) → IsFirstOr a shifts search (Among n) found → IsFirstOr a shifts search (λ p. p ≡ n) next → IsFirstOr a shifts search (Among (n + 1)) (sooner_of found next)
-  one_part_more n None None f g = λ q h lt behind. elim (in_either n q.at.part lt) [ inl less ↦ f q h less behind | inr same ↦ g q h same behind ]
-  one_part_more n (Some best) None f g = wider n best f (λ q h same behind sooner. g q h same behind)
-  one_part_more n None (Some next) f g = next_on n next g (λ q h less behind sooner. f q h less behind)
-  one_part_more n (Some best) (Some next) f g = elim (cases_Bool (nat_lt best.begin next.begin)) [
-    | inl t ↦ let lt = ltb-true best.begin next.begin t in rw t (next_on n next g (λ q h less behind sooner. f.first q h less behind (inl (above q lt sooner))))
-    | inr e ↦ let le = ltb-false best.begin next.begin e in rw e (wider n best f (λ q h same behind sooner. g.first q h same behind (inl (above_best q le same f.among sooner))))
-  ]
-    where
-      above : (q : Reached) → best.begin < next.begin → ComesAfter q next → best.begin < q.begin
-      above q lt (inl less) = omega arith
-      above q lt (inr h) = let e = h.0 in omega arith
-
-      above_best : (q : Reached) → next.begin ≤ best.begin → q.at.part ≡ n → best.at.part < n → ComesAfter q best → next.begin < q.begin
-      above_best q le same lt (inl less) = omega arith
-      above_best q le same lt (inr (e, inl less)) = absurd (omega arith)
-      above_best q le same lt (inr (e, inr (p, less))) = absurd (omega arith)

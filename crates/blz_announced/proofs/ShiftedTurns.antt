@@ -12,7 +12,7 @@ use Rattle.blz_ranges.proofs.BestOf.{best_is}
 use Rattle.blz_announced.specs.Announced.{TakesFew}
 use Rattle.blz_announced.specs.Copies.{all_of_parts, announced_copies, told, AnnouncedParts, Copy}
 use Rattle.blz_announced.specs.Searching.{ComesAfter, IsFirstOr, IsReached}
-use Rattle.blz_announced.specs.ShiftedTurns.{full_place_of, is_first, left_at, part_of, places_to_come, shifted_ranges, step_behind, told_shifted, IsReachedStep, IsStepOf, IsStepReached}
+use Rattle.blz_announced.specs.ShiftedTurns.{full_place_of, is_first, is_over, last_of, left_at, part_of, places_to_come, shifted_ranges, step_behind, told_shifted, IsLeftAhead, IsReachedStep, IsStepOf, IsStepReached}
 use Rattle.blz_announced.specs.Shifts.{all_by_shifts, moved_by, shift_of}
 use Rattle.blz_announced.specs.Turns.{left_behind, places_left, IsLeft}
 use Rattle.blz_announced.specs.declared.shift.Shift.{Shift}
@@ -183,6 +183,26 @@ module _ (a : AnnouncedParts) (shifts : List (Option Shift)) (addr : ℕ) where
 
   pub over_reached : IsStepReached a shifts addr Over None
   over_reached = record { is = refl; reached = tt }
+
+  pub step_found : (step : Step) → is_over step ≡ false → IsStepOf a shifts addr step → (found : Option Reached) → IsFirstOr a shifts (record { addr = addr; after = last_of step }) Anywhere found → IsStepReached a shifts addr step found
+  step_found First e s found f = first_reached found f
+  step_found (After last) e s found f = next_reached last s found f
+  step_found Over e s found f = absurd cc
+
+  pub over_found : (step : Step) → is_over step ≡ true → IsStepReached a shifts addr step None
+  over_found First e = absurd cc
+  over_found (After last) e = absurd cc
+  over_found Over e = over_reached
+
+  pub over_left : (step : Step) → is_over step ≡ true → (list : List Reached) → IsLeftAhead a shifts addr step list → IsLeftAhead a shifts addr Over list
+  over_left First e list h = h
+  over_left (After last) e list h = absurd cc
+  over_left Over e list h = h
+
+  pub last_reached : (step : Step) → IsStepOf a shifts addr step → IfSome (last_of step) (IsReached a shifts addr)
+  last_reached First s = tt
+  last_reached (After last) s = s.reached
+  last_reached Over s = tt
 
   -- ---- what a call leaves
 

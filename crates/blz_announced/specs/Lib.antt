@@ -1,3 +1,4 @@
+pub mod Ahead
 pub mod Announced
 pub mod Asking
 pub mod OfKeepers

@@ -44,12 +44,6 @@ IsFirstOr a shifts search Among None =
     (q : Reached) → IsReached a shifts search.addr q → Among q.at.part → IsBehind search.after q → ⊥
 IsFirstOr a shifts search Among (Some r) = IsFirst a shifts search Among r
 
--- the sooner of two, of which the second is of a later part
-abbrev pub sooner_of : Option Reached → Option Reached → Option Reached
-sooner_of found None = found
-sooner_of None (Some next) = Some next
-sooner_of (Some best) (Some next) = if nat_lt best.begin next.begin then Some next else Some best
-
 -- ---- what comes after the last one, as a keeper has it
 
 abbrev pub limit_of : ℕ → Reached → ℕ

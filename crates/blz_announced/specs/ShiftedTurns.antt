@@ -3,6 +3,7 @@ use Rattle.std.specs.Prelude.{◌≡◌, ℕ, ◌<◌, Bool, true, false, List, 
 use Rattle.std.specs.List.{slice_get}
 use Rattle.blz_ranges.specs.Owned.{Owned, owners_of}
 use Rattle.blz_ranges.specs.declared.span.Span.{Span}
+use Rattle.blz_announced.specs.Ahead.{AreAhead}
 use Rattle.blz_announced.specs.Announced.{Announcing}
 use Rattle.blz_announced.specs.Copies.{all_of_parts, announced_copies, full_place, AnnouncedParts}
 use Rattle.blz_announced.specs.Searching.{IsReached}
@@ -68,3 +69,29 @@ step_behind (Some r) = After r
 abbrev pub part_of : Option Reached → Option ℕ
 part_of None = None
 part_of (Some r) = Some r.at.part
+
+-- ---- what is found ahead
+
+abbrev pub is_over : Step → Bool
+is_over First = false
+is_over (After r) = false
+is_over Over = true
+
+-- the last range that was told
+abbrev pub last_of : Step → Option Reached
+last_of First = None
+last_of (After r) = Some r
+last_of Over = None
+
+-- ranges that are ahead, if any, are the next ones
+abbrev pub IsLeftAhead : AnnouncedParts → List (Option Shift) → ℕ → Step → List Reached → Type 0
+IsLeftAhead a shifts addr step list = 0 < length list → AreAhead a shifts addr (last_of step) list
+
+pub record IsStepAhead (a : AnnouncedParts) (shifts : List (Option Shift)) (addr : ℕ) (step : Step) (list : List Reached) : Type 0 where
+  pub at : IsStepOf a shifts addr step
+  pub ahead : IsLeftAhead a shifts addr step list
+
+-- the first of those ahead is taken, and the others are the next ones behind it
+pub record TakesFirst (a : AnnouncedParts) (shifts : List (Option Shift)) (addr : ℕ) (old : List Reached) (result : Option Reached) (new : List Reached) : Type 0 where
+  pub first : result ≡ slice_get old 0
+  pub rest : (after : Option Reached) → AreAhead a shifts addr after old → IsLeftAhead a shifts addr (step_behind result) new

@@ -23,7 +23,7 @@ use std::marker::Model;
 use std::sync::ledger::Ledger;
 
 /// A range of a part that covers an address.
-#[derive(Clone, Copy)]
+#[derive(Clone, Copy, Default)]
 pub struct Place {
     /// Its place among the ranges that are kept.
     pub place: usize,

@@ -1,6 +1,7 @@
 //! What the units of a file announce: their ranges, kept once for all parts of units that announce the same.
 #![tactic(auto)]
 
+mod ahead;
 mod announced;
 mod announced_parts;
 mod comparing;

@@ -3,10 +3,13 @@ ghost use Rattle.std.specs.Prelude.{◌≡◌, ◌≤◌, ◌<◌, ◌-◌, true
 ghost use Rattle.std.specs.List.{slice_get};
 ghost use Rattle.blz_announced.specs.Announced.{to_tell, TakesFew};
 ghost use Rattle.blz_announced.specs.Copies.{all_of_parts};
-ghost use Rattle.blz_announced.specs.Shifts.{all_by_shifts};
-ghost use Rattle.blz_announced.specs.ShiftedTurns.{part_of, step_behind, IsStepOf, IsStepReached};
+ghost use Rattle.blz_announced.specs.Shifts.{all_by_shifts, StayWithin};
+ghost use Rattle.blz_announced.specs.Ahead.{AreAhead, EachIs};
+ghost use Rattle.blz_announced.specs.Searching.{IsReached};
+ghost use Rattle.blz_announced.specs.ShiftedTurns.{is_over, last_of, part_of, step_behind, IsLeftAhead, IsStepAhead, IsStepReached, TakesFirst};
 ghost use Rattle.blz_announced.specs.Units.{kept_parts, AreShifted};
 
+use crate::ahead::Ahead;
 use crate::announced_parts::AnnouncedParts;
 use crate::shift::Shift;
 use crate::shifted_parts::{Reached, Search, ShiftedParts};
@@ -46,38 +49,99 @@ pub struct ShiftedAt<'u> {
     of: ShiftedParts<'u>,
     addr: u64,
     step: Step,
+    ahead: Ahead,
 }
 
 impl<'u> Model for ShiftedAt<'u> {
     ghost use Rattle.blz_announced.specs.Announced.{Announcing};
-    ghost use Rattle.blz_announced.specs.ShiftedTurns.{told_shifted, IsStepOf};
+    ghost use Rattle.blz_announced.specs.ShiftedTurns.{told_shifted, IsStepAhead};
 
     ghost Value = { Announcing };
 
     ghost view = { λ u. told_shifted u.of.parts.now u.of.shifts.now u.addr u.step };
 
-    ghost invariant = { λ u. IsStepOf u.of.parts.now u.of.shifts.now u.addr u.step };
+    ghost invariant = { λ u. IsStepAhead u.of.parts.now u.of.shifts.now u.addr u.step u.ahead };
 }
 
-/// The range whose turn it is.
+fn is_over(step: Step) -> bool
+    ensures { result ≡ is_over step }
+{
+    match step {
+        Step::Over => true,
+        Step::First | Step::After(_) => false,
+    }
+}
+
+/// The last range that was told.
+fn last_of(step: Step) -> Option<Reached>
+    ensures { result ≡ last_of step }
+{
+    match step {
+        Step::First | Step::Over => None,
+        Step::After(last) => Some(last),
+    }
+}
+
+/// Takes the first of the ranges ahead, in whose place comes the next of its part.
+fn taken<L: Ledger>(
+    of: &ShiftedParts<'_>,
+    addr: u64,
+    ahead: &mut Ahead,
+    steps: &mut Steps<L>,
+) -> Option<Reached>
+    requires stay { StayWithin of.now.parts.now.kept.ranges of.now.parts.now.keepers of.now.shifts.now }
+    requires each { EachIs (IsReached of.now.parts.now of.now.shifts.now addr) ahead.old }
+    ensures taken { TakesFirst of.now.parts.now of.now.shifts.now addr ahead.old result ahead.new }
+    ensures later { steps.old ≤ steps.new }
+{
+    let Some(first) = ahead.take_first() else {
+        return None;
+    };
+    if !ahead.is_empty() {
+        if let Some(next) = of.next_of(addr, first, steps) {
+            ahead.put_before(next);
+        }
+    }
+    Some(first)
+}
+
+/// Goes through all parts for the next ranges, if none is ahead.
+fn fill<L: Ledger>(
+    of: &ShiftedParts<'_>,
+    addr: u64,
+    step: Step,
+    ahead: &mut Ahead,
+    steps: &mut Steps<L>,
+)
+    requires { IsStepAhead of.now.parts.now of.now.shifts.now addr step ahead.old }
+    ensures ahead { AreAhead of.now.parts.now of.now.shifts.now addr (last_of step) ahead.new }
+    ensures later { steps.old ≤ steps.new }
+{
+    if !ahead.is_empty() {
+        return;
+    }
+    let after = last_of(step);
+    *ahead = of.ahead(Search { addr, after }, steps);
+}
+
+/// The range whose turn it is: if none is ahead, all parts are gone through.
 fn next_reached<L: Ledger>(
     of: &ShiftedParts<'_>,
     addr: u64,
     step: Step,
+    ahead: &mut Ahead,
     steps: &mut Steps<L>,
 ) -> Option<Reached>
-    requires { IsStepOf of.now.parts.now of.now.shifts.now addr step }
+    requires { IsStepAhead of.now.parts.now of.now.shifts.now addr step ahead.old }
     ensures next { IsStepReached of.now.parts.now of.now.shifts.now addr step result }
+    ensures ahead { IsLeftAhead of.now.parts.now of.now.shifts.now addr (step_behind result) ahead.new }
     ensures later { steps.old ≤ steps.new }
 {
-    match step {
-        Step::First => of.next(Search { addr, after: None }, steps),
-        Step::After(last) => {
-            let after = Some(last);
-            of.next(Search { addr, after }, steps)
-        },
-        Step::Over => None,
+    if is_over(step) {
+        return None;
     }
+    fill(of, addr, step, ahead, steps);
+    taken(of, addr, ahead, steps)
 }
 
 impl<'u> ShiftedAt<'u> {
@@ -91,6 +155,7 @@ impl<'u> ShiftedAt<'u> {
             of: ShiftedParts { parts, shifts },
             addr,
             step: Step::First,
+            ahead: Ahead::new(),
         }
     }
 
@@ -101,7 +166,7 @@ impl<'u> ShiftedAt<'u> {
         ensures cost { self.old.fresh ≡ true → TakesFew self.old.announced (steps.new - steps.old) }
         ensures later { steps.old ≤ steps.new }
     {
-        let found = next_reached(&self.of, self.addr, self.step, steps);
+        let found = next_reached(&self.of, self.addr, self.step, &mut self.ahead, steps);
         self.step = step_behind(found);
         part_of(found)
     }

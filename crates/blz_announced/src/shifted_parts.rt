@@ -2,18 +2,20 @@
 ghost use Rattle.std.specs.Prelude.{◌≡◌, ◌≤◌, ◌<◌, length, IfSome, Some};
 ghost use Rattle.std.specs.List.{slice_get};
 ghost use Rattle.blz_announced.specs.Copies.{span_at};
-ghost use Rattle.blz_announced.specs.Searching.{limit_of, place_in, reached_at, rest_of, sooner_of, IsFirstOr, IsReached, IsPlaceIn};
+ghost use Rattle.blz_announced.specs.Ahead.{AreAhead};
+ghost use Rattle.blz_announced.specs.Searching.{limit_of, place_in, reached_at, rest_of, IsFirstOr, IsReached, IsPlaceIn};
 ghost use Rattle.blz_announced.specs.Shifts.{shift_of, StayWithin};
 
+use crate::ahead::Ahead;
 use crate::announced_parts::{AnnouncedParts, Place};
 use crate::comparing::behind;
 use crate::shift::{Shift, back_by, moved_by, shift_of};
 use blz_bytes::Steps;
-use blz_ranges::Placed;
+use blz_ranges::{Placed, number_at};
 use std::sync::ledger::Ledger;
 
 /// A range that covers an address, and where it begins as its part has it.
-#[derive(Clone, Copy)]
+#[derive(Clone, Copy, Default)]
 pub struct Reached {
     pub at: Place,
     pub begin: u64,
@@ -33,23 +35,6 @@ pub enum Rest {
     /// Those that come after this one, as their keeper has them.
     After(Placed),
     Nothing,
-}
-
-/// The sooner of two that were found, of which the second is of a later part.
-fn sooner_of(found: Option<Reached>, later: Option<Reached>) -> Option<Reached>
-    ensures { result ≡ sooner_of found later }
-{
-    let Some(next) = later else {
-        return found;
-    };
-    match found {
-        Some(best) => if best.begin < next.begin {
-            Some(next)
-        } else {
-            Some(best)
-        },
-        None => Some(next),
-    }
 }
 
 /// The number that all ranges of a part begin below which come after the last one, but for those that begin with it.
@@ -152,19 +137,40 @@ impl ShiftedParts<'_> {
         })
     }
 
-    /// The next of all ranges that cover the address.
-    pub fn next<L: Ledger>(&self, search: Search, steps: &mut Steps<L>) -> Option<Reached>
+    /// The next of all ranges that cover the address: of each part the first one, as far as there is room.
+    pub fn ahead<L: Ledger>(&self, search: Search, steps: &mut Steps<L>) -> Ahead
         requires stay { StayWithin self.now.parts.now.kept.ranges self.now.parts.now.keepers self.now.shifts.now }
         requires last { IfSome search.after (IsReached self.now.parts.now self.now.shifts.now search.addr) }
-        ensures next { IsFirstOr self.now.parts.now self.now.shifts.now search (λ p. p < length self.now.parts.now.keepers) result }
+        ensures ahead { AreAhead self.now.parts.now self.now.shifts.now search.addr search.after result }
         ensures later { steps.old ≤ steps.new }
     {
         let keepers = self.parts.keepers();
-        let mut found = None;
+        let mut ahead = Ahead::new();
         for part in 0..keepers.len() {
-            let next = self.next_in_part(part, keepers[part], search, steps);
-            found = sooner_of(found, next);
+            if let Some(next) = self.next_in_part(part, keepers[part], search, steps) {
+                ahead.put(next);
+            }
         }
-        found
+        ahead
+    }
+
+    /// The next range of the part of one that was told.
+    pub fn next_of<L: Ledger>(
+        &self,
+        addr: u64,
+        last: Reached,
+        steps: &mut Steps<L>,
+    ) -> Option<Reached>
+        requires stay { StayWithin self.now.parts.now.kept.ranges self.now.parts.now.keepers self.now.shifts.now }
+        requires last { IsReached self.now.parts.now self.now.shifts.now addr last }
+        ensures next { IsFirstOr self.now.parts.now self.now.shifts.now (record { addr = addr; after = Some last }) (λ p. p ≡ last.at.part) result }
+        ensures later { steps.old ≤ steps.new }
+    {
+        let part = last.at.part;
+        let Some(keeper) = number_at(self.parts.keepers(), part) else {
+            return None;
+        };
+        let after = Some(last);
+        self.next_in_part(part, keeper, Search { addr, after }, steps)
     }
 }

@@ -1,13 +1,16 @@
-use Rattle.blz_announced.proofs.ShiftedTurns.{first_reached, next_reached}
+use Rattle.std.proofs.Common.{sym, ◌∙◌}
+use Rattle.blz_announced.specs.ShiftedTurns.{last_of}
+use Rattle.blz_announced.proofs.AheadSteps.{each_reached, found_ahead}
+use Rattle.blz_announced.proofs.ShiftedTurns.{step_found}
 use Rattle.blz_announced.proofs.shifted_at.next_reached.Goals as goal
 
-pub returns-in-First-clause-next : goal.returns-in-First-clause-next
-returns-in-First-clause-next g c =
+pub taken-requires-clause-each : goal.taken-requires-clause-each
+taken-requires-clause-each g c =
     let of = c.args.of.now in
-    rw c.in-First.is (first_reached of.parts.now of.shifts.now c.args.addr c.next.result c.next.ensures.next)
+    each_reached of.parts.now of.shifts.now c.args.addr (last_of c.args.step) c.fill.new.ahead c.fill.ensures.ahead
 
-pub returns-in-After-clause-next : goal.returns-in-After-clause-next
-returns-in-After-clause-next g c =
+pub returns-clause-next : goal.returns-clause-next
+returns-clause-next g c =
     let of = c.args.of.now in
-    let s = rw c.in-After.is at c.requires in
-    rw c.in-After.is (next_reached of.parts.now of.shifts.now c.args.addr c.in-After.last s c.next-in-After.result c.next-in-After.ensures.next)
+    let found = found_ahead of.parts.now of.shifts.now c.args.addr (last_of c.args.step) c.fill.new.ahead c.fill.ensures.ahead in
+    rw c.taken.ensures.taken.first (step_found of.parts.now of.shifts.now c.args.addr c.args.step (sym c.is_over.ensures ∙ c.if-is_over.false) c.requires.at _ found)
