@@ -1,5 +1,5 @@
 -- One unit more among those that are kept.
-use Rattle.std.proofs.Common.{◌≡◌, ℕ, length, List, [], ◌∷◌, ◌++◌, Option, Some, None, refl, sym, ap, subst, ◌∙◌, arith}
+use Rattle.std.proofs.Common.{◌≡◌, ℕ, length, List, [], ◌∷◌, ◌++◌, map, Option, Some, None, refl, sym, ap, subst, ◌∙◌, arith}
 use Rattle.std.specs.Prelude.{IfOk, IfSome, Result, Ok, Err}
 use Rattle.std.specs.BTreeMap.{get, IsEmpty, Updates}
 use Rattle.std.specs.List.{slice_get}
@@ -16,19 +16,21 @@ use Rattle.blz_ranges.specs.Owned.{Owned, own_all}
 use Rattle.blz_ranges.specs.declared.span.Span.{Span}
 use Rattle.blz_info.specs.declared.units.UnitHeader.{UnitHeader}
 use Rattle.blz_info.proofs.Marked.{marks_on}
-use Rattle.blz_announced.specs.Units.{KeptRanges, all_kept, IsListOf, IsOnceMore, IsWithKeeper, IsWithUnit}
-use Rattle.blz_units.specs.Keeping.{Keeping, units_told, AreKnown, AreRoots, CanBeKept, IsAgain, IsNext, IsRootOf, IsTold, KeepsTold}
-use Rattle.blz_units.specs.RangeChains.{KeepsChains}
+use Rattle.blz_announced.specs.Shifts.{shifted, CanBeShifted}
+use Rattle.blz_announced.specs.Units.{KeptRanges, all_kept, IsListOf, IsOnceMore, IsShiftedUnit, IsWithKeeper, IsWithUnit}
+use Rattle.blz_units.specs.Keeping.{Keeping, units_told, AreKnown, AreRoots, CanBeKept, CanBeMoved, IsAgain, IsMoved, IsNext, IsRootOf, IsTold, KeepsTold, MovesTo, NotesKept}
 use Rattle.blz_units.specs.RootKeys.{root_cmp, AreSpansOf}
+use Rattle.blz_units.specs.RootLists.{KeepsLists}
 use Rattle.blz_units.specs.UnitLists.{EndBefore, IsInPlace}
 use Rattle.blz_units.specs.UnitTables.{KeptUnits, by_root, keep, root_spans}
+use Rattle.blz_units.specs.declared.announcement.MovedRoot.{MovedRoot}
 use Rattle.blz_units.specs.declared.announcement.UnitRanges.{UnitRanges}
-use Rattle.blz_units.specs.declared.announcement.UnitRanges.TheVariants.{Again, Spans, Chained}
+use Rattle.blz_units.specs.declared.announcement.UnitRanges.TheVariants.{Again, Moved, Spans, Chained}
 use Rattle.blz_units.specs.declared.known_roots.KnownRanges.{KnownRanges}
 use Rattle.blz_units.specs.declared.known_roots.KnownRoot.{KnownRoot}
 use Rattle.blz_units.specs.declared.known_roots.KnownRoots.{KnownRoots}
-use Rattle.blz_units.specs.declared.range_chains.RangeChains.{RangeChains}
 use Rattle.blz_units.specs.declared.root_key.RootKey.{RootKey}
+use Rattle.blz_units.specs.declared.root_lists.RootLists.{RootLists}
 use Rattle.blz_units.proofs.ChainPieces.{pieces_stay}
 use Rattle.blz_units.proofs.KeptValues.{if_empty, more_kept}
 use Rattle.blz_units.proofs.KeyOrder.{exact_root}
@@ -91,6 +93,34 @@ module _ (s : FileSections) (ranges : KeptRanges) (roots : KnownRoots) (are : Ar
     with_unit = more root.spans root.list;
   }
 
+-- ---- a unit whose ranges are those of such a key, moved
+
+moved_noted : (s : FileSections) (new : KeptRanges) (spans : List Span) (key : RootKey) (o : Option ℕ) → IfSome o (λ k. IsListOf new spans (Some k)) → AreSpansOf s spans key → IfSome o (λ k. IsRootOf s new (record { key = key; keeper = Some k }))
+moved_noted s new spans key None list are = tt
+moved_noted s new spans key (Some k) list are = record { spans = spans; list = list; are = are }
+
+module _ (s : FileSections) (ranges : KeptRanges) (roots : KnownRoots) (are : AreRoots s ranges roots) (m : MovedRoot) (o : Option (Option (List Span))) (told : IsMoved s roots m o) where
+  from_root : IsRootOf s ranges (record { key = m.from; keeper = Some m.keeper })
+  from_root = let at = told.moved.met in rw at at (are m.from)
+
+  moves : MovesTo told.unit m from_root.spans
+  moves = told.moved.moves from_root.spans (subst (λ (x : FileSections). AreSpansOf x from_root.spans m.from) (sym told.main) from_root.are)
+
+  moved_can : CanBeMoved ranges m
+  moved_can = record { keeper = from_root.list.0; stays = subst (CanBeShifted m.shift) (sym from_root.list.1) moves.can }
+
+  moved_next : (new : KeptRanges × Option ℕ) → IsShiftedUnit ranges m.keeper m.shift new → IsNext ranges new.0 o
+  moved_next new more = record {
+    spans = map (shifted m.shift) from_root.spans;
+    is = told.is ∙ root_told told.unit (map (shifted m.shift) from_root.spans) moves.is;
+    with_unit = (more from_root.spans from_root.list).with_unit;
+  }
+
+  moved_root : (new : KeptRanges × Option ℕ) → IsShiftedUnit ranges m.keeper m.shift new → IfSome new.1 (λ k. IsRootOf s new.0 (record { key = m.key; keeper = Some k }))
+  moved_root new more =
+      let spans = map (shifted m.shift) from_root.spans in
+      moved_noted s new.0 spans m.key new.1 (more from_root.spans from_root.list).list (λ v here by. told.moved.key v (here ∙ sym told.main) by ∙ moves.is)
+
 -- ---- where the units end
 
 module _ (k v : Keeping) (view : v ≡ k) (h : UnitHeader) (behind : EndBefore k.kept h.start) (in_place : IsInPlace h) where
@@ -116,21 +146,22 @@ root_more s ranges old new key keeper u are known = more_kept root_cmp exact_roo
 -- ---- all that is known
 
 -- lists were read
-pub known_read : (s : FileSections) (ranges : KeptRanges) (known : KnownRanges) (chains : RangeChains) → KeepsChains s known.chains chains → AreKnown s ranges known → AreKnown s ranges (record { roots = known.roots; chains = chains })
-known_read s ranges known chains keeps are = record { roots = are.roots; chains = keeps.are are.chains; pieces = keeps.pieces ranges are.pieces }
+pub known_read : (s : FileSections) (ranges : KeptRanges) (known : KnownRanges) (lists : RootLists) → KeepsLists s known.lists lists → AreKnown s ranges known → AreKnown s ranges (record { roots = known.roots; lists = lists })
+known_read s ranges known lists keeps are = record { roots = are.roots; lists = keeps.are are.lists; pieces = keeps.pieces ranges are.pieces }
 
 -- there is one unit more
 known_stays : (s : FileSections) (old new : KeptRanges) (known : KnownRanges) (o : Option (Option (List Span))) → IsNext old new o → AreKnown s old known → AreKnown s new known
 known_stays s old new known o next are = record {
   roots = roots_stay s old new known.roots o next are.roots;
-  chains = are.chains;
-  pieces = pieces_stay known.chains old new next.with_unit.others are.pieces;
+  lists = are.lists;
+  pieces = pieces_stay known.lists.chains old new next.with_unit.others are.pieces;
 }
 
 -- ---- what is told of it is kept
 
-pub can_keep : (s : FileSections) (ranges : KeptRanges) (known : KnownRanges) (o : Option (Option (List Span))) (told : UnitRanges) → AreKnown s ranges known → IsTold s known.roots known.chains o told → CanBeKept ranges known told
+pub can_keep : (s : FileSections) (ranges : KeptRanges) (known : KnownRanges) (o : Option (Option (List Span))) (told : UnitRanges) → AreKnown s ranges known → IsTold s known.roots known.lists.chains o told → CanBeKept ranges known told
 can_keep s ranges known o (Again met) are again = again_keeper s ranges known.roots are.roots met o again
+can_keep s ranges known o (Moved m) are told = moved_can s ranges known.roots are.roots m o told
 can_keep s ranges known o (Spans spans key) are is = tt
 can_keep s ranges known o (Chained front place) are chained = (chained.within, are.pieces)
 
@@ -145,8 +176,19 @@ keeps_again ranges known met (Err e) more = tt
 pub keeps_spans : (ranges : KeptRanges) (spans : Vec Span Global) (key : Option RootKey) (known : KnownRanges) (roots : KnownRoots) (new : KeptRanges × Option ℕ)
     → IsWithKeeper ranges spans.items new
     → ((s : FileSections) (kept : KeptRanges) → AreRoots s kept known.roots → IfSome key (λ k. IsRootOf s kept (record { key = k; keeper = new.1 })) → AreRoots s kept roots)
-    → KeepsTold ranges known (Spans spans key) new.0 (record { roots = roots; chains = known.chains })
+    → KeepsTold ranges known (Spans spans key) new.0 (record { roots = roots; lists = known.lists })
 keeps_spans ranges spans key known roots new more note = λ s o are told.
     let next : IsNext ranges new.0 o = record { spans = spans.items; is = told.0; with_unit = more.with_unit } in
     let stays = known_stays s ranges new.0 known o next are in
-    (next, record { roots = note s new.0 stays.roots (root_noted s ranges spans.items new key more told.1); chains = stays.chains; pieces = stays.pieces })
+    (next, record { roots = note s new.0 stays.roots (root_noted s ranges spans.items new key more told.1); lists = stays.lists; pieces = stays.pieces })
+
+-- the ranges of a key that was met, moved
+pub keeps_moved : (ranges : KeptRanges) (m : MovedRoot) (known : KnownRanges) (roots : KnownRoots) (new : KeptRanges × Option ℕ)
+    → IsShiftedUnit ranges m.keeper m.shift new
+    → NotesKept known.roots m.key new.1 roots
+    → KeepsTold ranges known (Moved m) new.0 (record { roots = roots; lists = known.lists })
+keeps_moved ranges m known roots new more note = λ s o are told.
+    let next = moved_next s ranges known.roots are.roots m o told new more in
+    let stays = known_stays s ranges new.0 known o next are in
+    let noted = moved_root s ranges known.roots are.roots m o told new more in
+    (next, record { roots = note s new.0 stays.roots noted; lists = stays.lists; pieces = stays.pieces })

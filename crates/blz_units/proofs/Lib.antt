@@ -25,5 +25,7 @@ pub mod Chained
 pub mod ChainPieces
 pub mod RootTold
 pub mod LinesTold
+pub mod RelativeLists
+pub mod MovedRoots
 pub mod SharedLists
 pub mod SharedPrograms

@@ -19,7 +19,7 @@ use Rattle.blz_units.specs.RangeChains.{chain_at, count_in, last_in, HasLast, Is
 use Rattle.blz_units.specs.RootKeys.{AreSpansOf, IsKeyOf}
 use Rattle.blz_units.specs.UnitTables.{by_root, lines_in, or_sequences, root_spans, sequences_of}
 use Rattle.blz_units.specs.declared.announcement.UnitRanges.{UnitRanges}
-use Rattle.blz_units.specs.declared.announcement.UnitRanges.TheVariants.{Again, Spans, Chained}
+use Rattle.blz_units.specs.declared.announcement.UnitRanges.TheVariants.{Again, Moved, Spans, Chained}
 use Rattle.blz_units.specs.declared.known_roots.KnownRoots.{KnownRoots}
 use Rattle.blz_units.specs.declared.range_chains.ChainPlace.{ChainPlace}
 use Rattle.blz_units.specs.declared.range_chains.ListPlace.{ListPlace}
@@ -86,6 +86,7 @@ key_told s u spans (Some key) at is told = λ v here by. told v (here ∙ sym at
 
 pub built_told : (s : FileSections) (u : UnitParts) (o : Option UnitParts) (roots : KnownRoots) (c : RangeChains) (told : UnitRanges) → o ≡ Some u → u.sections ≡ s → IsRootTold u roots c told → IsTold s roots c (by_root o) told
 built_told s u o roots c (Again known) is at h = record { unit = u; main = at; met = h.0; told = h.1; is = ap by_root is }
+built_told s u o roots c (Moved m) is at h = record { unit = u; main = at; moved = h; is = ap by_root is }
 built_told s u o roots c (Spans spans key) is at h = (ap by_root is ∙ ap as_told h.0, key_told s u spans.items key at h.0 h.1)
 built_told s u o roots c (Chained front place) is at h = record { within = h.within; is = ap by_root is ∙ ap as_told h.is }
 

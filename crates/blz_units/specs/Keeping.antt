@@ -1,5 +1,5 @@
 -- The units that are kept while they are read, with what is known of their roots.
-use Rattle.std.specs.Prelude.{◌≡◌, List, ◌++◌, Option, Some, None, IfSome, MatchResult, Result}
+use Rattle.std.specs.Prelude.{◌≡◌, ℕ, List, ◌++◌, Option, Some, None, map, IfSome, MatchResult, Result}
 use Rattle.std.specs.BTreeMap.{get}
 use Rattle.std.specs.List.{slice_get}
 use Rattle.blz_error.specs.Fault.{Fault}
@@ -10,14 +10,18 @@ use Rattle.blz_info.specs.Marks.{or_invalid}
 use Rattle.blz_model.specs.Part.{Fails}
 use Rattle.blz_ranges.specs.declared.span.Span.{Span}
 use Rattle.blz_units.specs.BuiltUnits.{Files}
+use Rattle.blz_announced.specs.Copies.{list_of}
+use Rattle.blz_announced.specs.Shifts.{shifted, CanBeShifted}
 use Rattle.blz_announced.specs.Units.{KeptRanges, all_kept, IsListOf, IsWithUnit}
 use Rattle.blz_units.specs.KeptParts.{IsPartOf}
-use Rattle.blz_units.specs.RangeChains.{list_in, AreChains, ArePieces, IsLastIn, IsWithin}
+use Rattle.blz_units.specs.RangeChains.{list_in, ArePieces, IsLastIn, IsWithin}
 use Rattle.blz_units.specs.RootKeys.{root_cmp, AreSpansOf, IsKeyOf, IsToldBy}
+use Rattle.blz_units.specs.RootLists.{AreRootLists}
 use Rattle.blz_units.specs.UnitTables.{KeptUnits, by_root, root_spans}
 use Rattle.blz_units.specs.declared.announcement.Announcement.{Announcement}
+use Rattle.blz_units.specs.declared.announcement.MovedRoot.{MovedRoot}
 use Rattle.blz_units.specs.declared.announcement.UnitRanges.{UnitRanges}
-use Rattle.blz_units.specs.declared.announcement.UnitRanges.TheVariants.{Again, Spans, Chained}
+use Rattle.blz_units.specs.declared.announcement.UnitRanges.TheVariants.{Again, Moved, Spans, Chained}
 use Rattle.blz_units.specs.declared.range_chains.ListPlace.{ListPlace}
 use Rattle.blz_units.specs.declared.range_chains.RangeChains.{RangeChains}
 use Rattle.blz_units.specs.declared.known_roots.KnownRanges.{KnownRanges}
@@ -35,9 +39,24 @@ IsKnown roots known = get root_cmp roots.roots known.key ≡ Some known.keeper
 abbrev pub IsMetOf : KnownRoots → UnitParts → KnownRoot → Type 0
 IsMetOf roots u known = IsKnown roots known × IsToldBy known.key u
 
+-- A unit announces the ranges of a key, whatever these are, each moved.
+pub record MovesTo (u : UnitParts) (m : MovedRoot) (spans : List Span) : Type 0 where
+  pub can : CanBeShifted m.shift spans
+  pub is : root_spans u ≡ Some (map (shifted m.shift) spans)
+
+-- A key was met, and a unit announces its ranges, moved; a key of its own tells what it announces.
+pub record IsRootMoved (u : UnitParts) (roots : KnownRoots) (m : MovedRoot) : Type 0 where
+  pub met : IsKnown roots (record { key = m.from; keeper = Some m.keeper })
+  pub moves : (spans : List Span) → AreSpansOf u.sections spans m.from → MovesTo u m spans
+  pub key : IsKeyOf u m.key
+
+abbrev pub MayMove : UnitParts → KnownRoots → Option MovedRoot → Type 0
+MayMove u roots o = IfSome o (IsRootMoved u roots)
+
 -- What is told of a root is what its unit announces, and a key with it tells the same of each unit.
 abbrev pub IsRootTold : UnitParts → KnownRoots → RangeChains → UnitRanges → Type 0
 IsRootTold u roots chains (Again known) = IsMetOf roots u known
+IsRootTold u roots chains (Moved m) = IsRootMoved u roots m
 IsRootTold u roots chains (Spans spans key) = (root_spans u ≡ Some spans.items) × IfSome key (IsKeyOf u)
 IsRootTold u roots chains (Chained front place) = IsLastIn chains (root_spans u) front.items place
 
@@ -62,6 +81,13 @@ pub record IsAgain (s : FileSections) (roots : KnownRoots) (known : KnownRoot) (
   pub told : IsToldBy known.key unit
   pub is : announced ≡ by_root (Some unit)
 
+-- A unit is built, and announces the ranges of a key that was met, moved.
+pub record IsMoved (s : FileSections) (roots : KnownRoots) (m : MovedRoot) (announced : Option (Option (List Span))) : Type 0 where
+  pub unit : UnitParts
+  pub main : unit.sections ≡ s
+  pub moved : IsRootMoved unit roots m
+  pub is : announced ≡ by_root (Some unit)
+
 -- It is some ranges, and then those of a place in chains.
 pub record IsChained (chains : RangeChains) (announced : Option (Option (List Span))) (front : List Span) (place : ListPlace) : Type 0 where
   pub within : IsWithin chains.chains.items place
@@ -70,6 +96,7 @@ pub record IsChained (chains : RangeChains) (announced : Option (Option (List Sp
 -- What is told of a unit is what it announces.
 abbrev pub IsTold : FileSections → KnownRoots → RangeChains → Option (Option (List Span)) → UnitRanges → Type 0
 IsTold s roots chains announced (Again known) = IsAgain s roots known announced
+IsTold s roots chains announced (Moved m) = IsMoved s roots m announced
 IsTold s roots chains announced (Spans spans key) = (announced ≡ Some (Some spans.items)) × IfSome key (AreSpansOf s spans.items)
 IsTold s roots chains announced (Chained front place) = IsChained chains announced front.items place
 
@@ -117,19 +144,30 @@ pub record IsRootOf (s : FileSections) (ranges : KeptRanges) (known : KnownRoot)
 abbrev pub AreRoots : FileSections → KeptRanges → KnownRoots → Type 0
 AreRoots s ranges roots = (key : RootKey) → IfSome (get root_cmp roots.roots key) (λ keeper. IsRootOf s ranges (record { key = key; keeper = keeper }))
 
--- What is known of the units so far: the keys that were met, and lists that run into one another.
+-- A key is noted if its units have a keeper.
+abbrev pub NotesKept : KnownRoots → RootKey → Option ℕ → KnownRoots → Type 0
+NotesKept old key keeper new = (s : FileSections) (ranges : KeptRanges) → AreRoots s ranges old
+    → IfSome keeper (λ k. IsRootOf s ranges (record { key = key; keeper = Some k })) → AreRoots s ranges new
+
+-- What is known of the units so far: the keys that were met, and the lists that their roots name.
 pub record AreKnown (s : FileSections) (ranges : KeptRanges) (known : KnownRanges) : Type 0 where
   pub roots : AreRoots s ranges known.roots
-  pub chains : AreChains s known.chains
-  pub pieces : ArePieces ranges known.chains
+  pub lists : AreRootLists s known.lists
+  pub pieces : ArePieces ranges known.lists.chains
+
+-- A keeper is one, and its ranges can be moved.
+pub record CanBeMoved (ranges : KeptRanges) (m : MovedRoot) : Type 0 where
+  pub keeper : slice_get ranges.keepers m.keeper ≡ Some m.keeper
+  pub stays : CanBeShifted m.shift (list_of ranges.ranges m.keeper)
 
 -- What is told of a unit can be kept: its keeper is one, and pieces of its chains are.
 abbrev pub CanBeKept : KeptRanges → KnownRanges → UnitRanges → Type 0
 CanBeKept ranges known (Again met) = IfSome met.keeper (λ keeper. slice_get ranges.keepers keeper ≡ Some keeper)
+CanBeKept ranges known (Moved m) = CanBeMoved ranges m
 CanBeKept ranges known (Spans spans key) = Unit {0}
-CanBeKept ranges known (Chained front place) = IsWithin known.chains.chains.items place × ArePieces ranges known.chains
+CanBeKept ranges known (Chained front place) = IsWithin known.lists.chains.chains.items place × ArePieces ranges known.lists.chains
 
 -- What is told of a unit is kept as what it announces, and what is known of the units stays so.
 abbrev pub KeepsTold : KeptRanges → KnownRanges → UnitRanges → KeptRanges → KnownRanges → Type 0
 KeepsTold ranges old told new known = (s : FileSections) (announced : Option (Option (List Span)))
-    → AreKnown s ranges old → IsTold s old.roots old.chains announced told → IsNext ranges new announced × AreKnown s new known
+    → AreKnown s ranges old → IsTold s old.roots old.lists.chains announced told → IsNext ranges new announced × AreKnown s new known

@@ -6,6 +6,8 @@ pub mod SharedPackage
 pub mod ProgramKeys
 pub mod RootKeys
 pub mod RangeChains
+pub mod RelativeLists
+pub mod RootLists
 pub mod Keeping
 pub mod Sets
 pub mod UnitTables

@@ -3,14 +3,29 @@ use crate::built_unit::BuiltUnit;
 use crate::known_roots::KnownRoot;
 use crate::range_chains::ListPlace;
 use crate::root_key::RootKey;
+use blz_announced::Shift;
 use blz_entry::Span;
 use blz_model::Cache;
+
+/// The ranges of a root, as those of a key that was met, moved.
+#[derive(Clone, Copy, Drop)]
+pub struct MovedRoot {
+    /// Its own key.
+    pub key: RootKey,
+    /// The key that was met.
+    pub from: RootKey,
+    /// The keeper of the units that have that.
+    pub keeper: usize,
+    pub shift: Shift,
+}
 
 /// What a unit announces.
 #[derive(Drop)]
 pub enum UnitRanges {
     /// What units do with a key that was met.
     Again(KnownRoot),
+    /// What units do with a key that was met, moved.
+    Moved(MovedRoot),
     /// Some ranges, with the key of its root where that tells them.
     Spans(Vec<Span>, Option<RootKey>),
     /// Some ranges, and then those of a list that is kept in chains.

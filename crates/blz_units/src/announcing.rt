@@ -7,7 +7,8 @@ ghost use Rattle.blz_units.specs.BuiltUnits.{built, built_view, files_view, Buil
 ghost use Rattle.blz_units.specs.KeptParts.{IsPartOf};
 ghost use Rattle.blz_functions.specs.Opened.{open_view};
 ghost use Rattle.blz_units.specs.Keeping.{HasPartOf, TellsBuilt, TellsRoot, TellsUnit};
-ghost use Rattle.blz_units.specs.RangeChains.{count_in, AreChains, KeepsChains};
+ghost use Rattle.blz_units.specs.RangeChains.{count_in};
+ghost use Rattle.blz_units.specs.RootLists.{AreRootLists, KeepsLists};
 ghost use Rattle.blz_units.specs.Sharing.{AreShared};
 ghost use Rattle.blz_model.specs.declared.cache.Cache.TheVariants.{Empty};
 ghost use Rattle.blz_units.specs.declared.announcement.UnitRanges.TheVariants.{Spans};
@@ -21,8 +22,9 @@ use crate::announcement::{Announcement, UnitRanges};
 use crate::built_unit::{BuiltUnit, may_be_split};
 use crate::dwarf::{Dwarf, Origin};
 use crate::known_roots::KnownRoots;
-use crate::range_chains::{ListPlace, RangeChains, ToldRanges};
+use crate::range_chains::{ListPlace, ToldRanges};
 use crate::root_key::{RootKey, ranges_key};
+use crate::root_lists::RootLists;
 use crate::shared_parts::SharedParts;
 use blz_entry::{Span, UnitHeader, UnitKind};
 use blz_error::{Error, ErrorKind, Result};
@@ -73,28 +75,25 @@ fn has_none(front: &[Span], place: ListPlace) -> bool
     front.is_empty() && place.front.count == 0 && place.rest.count == 0
 }
 
-/// What the root of a unit announces: its ranges, and where there are none what the sequences of its lines cover. Nothing
-/// is read where the key of its ranges was met.
-fn root_ranges(
+/// What the root of a unit announces: its ranges as they are read, and where there are none what the sequences of its lines
+/// cover.
+fn read_root(
     alloc: Global,
     unit: &OpenUnit<'_, '_>,
     roots: &KnownRoots,
-    chains: &mut RangeChains,
+    lists: &mut RootLists,
 ) -> Result<UnitRanges>
-    requires chains { AreChains (open_view unit.now).sections chains.old }
-    ensures value { TellsRoot (open_view unit.now) roots.now chains.new result }
-    ensures kept { IfOk result (λ _. KeepsChains (open_view unit.now).sections chains.old chains.new) }
+    requires lists { AreRootLists (open_view unit.now).sections lists.old }
+    ensures value { TellsRoot (open_view unit.now) roots.now lists.new.chains result }
+    ensures kept { IfOk result (λ _. KeepsLists (open_view unit.now).sections lists.old lists.new) }
 {
-    let key = RootKey::ByRanges(ranges_key(unit));
-    if let Some(known) = roots.find(key) {
-        return Ok(UnitRanges::Again(known));
-    }
-    match chains.ranges_of(alloc, unit)? {
+    match lists.chains.ranges_of(alloc, unit)? {
         ToldRanges::Read(spans) => {
             if spans.is_empty() {
                 return ranges_by_lines(alloc, unit, roots);
             }
-            Ok(UnitRanges::Spans(spans, Some(key)))
+            lists.relative.note(unit, spans.len())?;
+            Ok(UnitRanges::Spans(spans, Some(RootKey::ByRanges(ranges_key(unit)))))
         },
         ToldRanges::InChain(front, place) => {
             if has_none(front.as_slice(), place) {
@@ -105,22 +104,44 @@ fn root_ranges(
     }
 }
 
+/// What the root of a unit announces. Nothing is read where the key of its ranges was met, and only once how far a list
+/// reaches whose ranges are those of such a key, moved.
+fn root_ranges(
+    alloc: Global,
+    unit: &OpenUnit<'_, '_>,
+    roots: &KnownRoots,
+    lists: &mut RootLists,
+) -> Result<UnitRanges>
+    requires lists { AreRootLists (open_view unit.now).sections lists.old }
+    ensures value { TellsRoot (open_view unit.now) roots.now lists.new.chains result }
+    ensures kept { IfOk result (λ _. KeepsLists (open_view unit.now).sections lists.old lists.new) }
+{
+    let key = RootKey::ByRanges(ranges_key(unit));
+    if let Some(known) = roots.find(key) {
+        return Ok(UnitRanges::Again(known));
+    }
+    if let Some(moved) = lists.relative.moved(unit, roots)? {
+        return Ok(UnitRanges::Moved(moved));
+    }
+    read_root(alloc, unit, roots, lists)
+}
+
 /// The same of a unit of the main file that is built.
 fn unit_ranges(
     alloc: Global,
     dwarf: &Dwarf<'_, '_>,
     unit: &BuiltUnit,
     roots: &KnownRoots,
-    chains: &mut RangeChains,
+    lists: &mut RootLists,
 ) -> Result<UnitRanges>
     requires readable { IsReadable dwarf.now }
     requires fits { BuiltFits (files_view dwarf.now) unit.now }
     requires main { unit.now.origin ≡ Main }
-    requires chains { AreChains (files_view dwarf.now).main chains.old }
-    ensures value { TellsRoot (built_view (files_view dwarf.now) unit.now) roots.now chains.new result }
-    ensures kept { IfOk result (λ _. KeepsChains (files_view dwarf.now).main chains.old chains.new) }
+    requires lists { AreRootLists (files_view dwarf.now).main lists.old }
+    ensures value { TellsRoot (built_view (files_view dwarf.now) unit.now) roots.now lists.new.chains result }
+    ensures kept { IfOk result (λ _. KeepsLists (files_view dwarf.now).main lists.old lists.new) }
 {
-    root_ranges(alloc, &unit.open(dwarf), roots, chains)
+    root_ranges(alloc, &unit.open(dwarf), roots, lists)
 }
 
 /// What is kept of a unit that was built: nothing where its functions may stand in a package, or where there was no room
@@ -149,18 +170,18 @@ fn announced_by(
     header: &UnitHeader,
     unit: BuiltUnit,
     roots: &KnownRoots,
-    chains: &mut RangeChains,
+    lists: &mut RootLists,
 ) -> Result<Announcement>
     requires readable { IsReadable dwarf.now }
     requires fits { BuiltFits (files_view dwarf.now) unit }
     requires main { unit.origin ≡ Main }
     requires is { or_invalid (built (files_view dwarf.now).main header.now) ≡ Good (built_view (files_view dwarf.now) unit) }
-    requires chains { AreChains (files_view dwarf.now).main chains.old }
-    ensures told { TellsBuilt (files_view dwarf.now).main roots.now chains.new (by_root (built (files_view dwarf.now).main header.now)) result }
+    requires lists { AreRootLists (files_view dwarf.now).main lists.old }
+    ensures told { TellsBuilt (files_view dwarf.now).main roots.now lists.new.chains (by_root (built (files_view dwarf.now).main header.now)) result }
     ensures part { IfOk result (HasPartOf (files_view dwarf.now) header.now) }
-    ensures kept { IfOk result (λ _. KeepsChains (files_view dwarf.now).main chains.old chains.new) }
+    ensures kept { IfOk result (λ _. KeepsLists (files_view dwarf.now).main lists.old lists.new) }
 {
-    let ranges = unit_ranges(alloc, dwarf, &unit, roots, chains)?;
+    let ranges = unit_ranges(alloc, dwarf, &unit, roots, lists)?;
     let part = kept_of(dwarf, shared, header, unit);
     Ok(Announcement { ranges, part })
 }
@@ -172,20 +193,20 @@ fn announced_by_root(
     shared: &mut SharedParts,
     header: &UnitHeader,
     roots: &KnownRoots,
-    chains: &mut RangeChains,
+    lists: &mut RootLists,
 ) -> Result<Option<Announcement>>
     requires readable { IsReadable dwarf.now }
     requires in_place { IsInPlace header.now }
     requires shared { AreShared (files_view dwarf.now).main shared.old }
-    requires chains { AreChains (files_view dwarf.now).main chains.old }
-    ensures told { TellsUnit (files_view dwarf.now).main roots.now chains.new (by_root (built (files_view dwarf.now).main header.now)) result }
+    requires lists { AreRootLists (files_view dwarf.now).main lists.old }
+    ensures told { TellsUnit (files_view dwarf.now).main roots.now lists.new.chains (by_root (built (files_view dwarf.now).main header.now)) result }
     ensures part { IfOk result (λ told. IfSome told (HasPartOf (files_view dwarf.now) header.now)) }
-    ensures kept { IfOk result (λ _. KeepsChains (files_view dwarf.now).main chains.old chains.new) }
+    ensures kept { IfOk result (λ _. KeepsLists (files_view dwarf.now).main lists.old lists.new) }
     ensures shared { AreShared (files_view dwarf.now).main shared.new }
 {
     match BuiltUnit::of_file(alloc, dwarf, shared, Origin::Main, header) {
         Ok(unit) => {
-            let told = announced_by(alloc, dwarf, shared, header, unit, roots, chains)?;
+            let told = announced_by(alloc, dwarf, shared, header, unit, roots, lists)?;
             Ok(Some(told))
         },
         Err(fault) => {
@@ -216,15 +237,15 @@ pub fn announced(
     shared: &mut SharedParts,
     header: &UnitHeader,
     roots: &KnownRoots,
-    chains: &mut RangeChains,
+    lists: &mut RootLists,
 ) -> Result<Option<Announcement>>
     requires readable { IsReadable dwarf.now }
     requires in_place { IsInPlace header.now }
     requires shared { AreShared (files_view dwarf.now).main shared.old }
-    requires chains { AreChains (files_view dwarf.now).main chains.old }
-    ensures told { TellsUnit (files_view dwarf.now).main roots.now chains.new (announces (files_view dwarf.now).main sets.now header.now) result }
+    requires lists { AreRootLists (files_view dwarf.now).main lists.old }
+    ensures told { TellsUnit (files_view dwarf.now).main roots.now lists.new.chains (announces (files_view dwarf.now).main sets.now header.now) result }
     ensures part { IfOk result (λ told. IfSome told (HasPartOf (files_view dwarf.now) header.now)) }
-    ensures kept { IfOk result (λ _. KeepsChains (files_view dwarf.now).main chains.old chains.new) }
+    ensures kept { IfOk result (λ _. KeepsLists (files_view dwarf.now).main lists.old lists.new) }
     ensures shared { AreShared (files_view dwarf.now).main shared.new }
 {
     if is_type(header.kind) {
@@ -238,5 +259,5 @@ pub fn announced(
     if !spans.is_empty() {
         return Ok(Some(without_root(spans)));
     }
-    announced_by_root(alloc, dwarf, shared, header, roots, chains)
+    announced_by_root(alloc, dwarf, shared, header, roots, lists)
 }

@@ -93,7 +93,7 @@ impl KeptUnits {
             &mut built.shared,
             &header,
             &known.roots,
-            &mut known.chains,
+            &mut known.lists,
         )?;
         let Some(told) = told else {
             return Ok(KeptUnits { kept, ranges });

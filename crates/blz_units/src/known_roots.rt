@@ -3,11 +3,11 @@ ghost use Rattle.std.specs.Prelude.{◌≡◌, IfSome, IfOk};
 ghost use Rattle.std.specs.BTreeMap.{IsEmpty};
 ghost use Rattle.blz_info.specs.FileSections.{FileSections};
 ghost use Rattle.blz_announced.specs.Units.{KeptRanges};
-ghost use Rattle.blz_units.specs.Keeping.{AreKnown, AreRoots, CanBeKept, IsKnown, IsRootOf, KeepsTold};
+ghost use Rattle.blz_units.specs.Keeping.{AreKnown, AreRoots, CanBeKept, IsKnown, IsRootOf, KeepsTold, NotesKept};
 
 use crate::announcement::UnitRanges;
-use crate::range_chains::RangeChains;
 use crate::root_key::RootKey;
+use crate::root_lists::RootLists;
 use blz_announced::KeptRanges;
 use std::alloc::{AllocError, Global};
 use std::collections::BTreeMap;
@@ -60,13 +60,23 @@ impl KnownRoots {
             None => Ok(()),
         }
     }
+
+    /// Notes a key whose units have a keeper, if they do.
+    pub fn note_kept(&mut self, key: RootKey, keeper: Option<usize>) -> Result<(), AllocError>
+        ensures { IfOk result (λ _. NotesKept self.old key keeper self.new) }
+    {
+        match keeper {
+            Some(_) => self.note(Some(key), keeper),
+            None => Ok(()),
+        }
+    }
 }
 
-/// What is known of units while they are read: by the keys of their roots, and by their lists that run into one another.
+/// What is known of units while they are read: by the keys of their roots, and of the lists that these name.
 #[derive(Drop)]
 pub struct KnownRanges {
     pub roots: KnownRoots,
-    pub chains: RangeChains,
+    pub lists: RootLists,
 }
 
 impl KnownRanges {
@@ -76,7 +86,7 @@ impl KnownRanges {
     {
         KnownRanges {
             roots: KnownRoots::new(alloc),
-            chains: RangeChains::new(alloc),
+            lists: RootLists::new(alloc),
         }
     }
 
@@ -92,13 +102,20 @@ impl KnownRanges {
     {
         match told {
             UnitRanges::Again(known) => ranges.again(known.keeper),
+            UnitRanges::Moved(moved) => {
+                let (ranges, keeper) = ranges.shifted_unit(alloc, moved.keeper, moved.shift)?;
+                self.roots.note_kept(moved.key, keeper)?;
+                Ok(ranges)
+            },
             UnitRanges::Spans(spans, key) => {
                 let (ranges, keeper) = ranges.with_unit(spans.as_slice())?;
                 self.roots.note(key, keeper)?;
                 Ok(ranges)
             },
             UnitRanges::Chained(front, place) => {
-                self.chains.announce(alloc, ranges, front.as_slice(), place)
+                self.lists
+                    .chains
+                    .announce(alloc, ranges, front.as_slice(), place)
             },
         }
     }

@@ -33,7 +33,10 @@ pub struct PassedList {
 }
 
 /// The range of the entry that a list begins with, where it tells one, and the list behind it; None where the list ends.
-fn next_range(unit: &OpenUnit<'_, '_>, list: RangeTail) -> Result<Option<(Option<Span>, RangeTail)>>
+pub fn next_range(
+    unit: &OpenUnit<'_, '_>,
+    list: RangeTail,
+) -> Result<Option<(Option<Span>, RangeTail)>>
     ensures { Exactly (λ n. n) result (or_invalid (entry_behind (open_view unit.now) list)) }
 {
     list.next(&unit.sections, &unit.header, &unit.root)

@@ -14,4 +14,4 @@ returns-in_err-ranges-clause-told c =
 pub returns-clause-told : goal.returns-clause-told
 returns-clause-told c =
     let f = files_view c.args.dwarf.now in
-    built_told f.main (built_view f c.args.unit) (built f.main c.args.header.now) c.args.roots.now c.unit_ranges.new.chains c.in_ok-ranges.ranges (good_some _ _ c.requires.is) (ap (sections_from f) c.requires.main) c.in_ok-ranges.ensures.value
+    built_told f.main (built_view f c.args.unit) (built f.main c.args.header.now) c.args.roots.now c.unit_ranges.new.lists.chains c.in_ok-ranges.ranges (good_some _ _ c.requires.is) (ap (sections_from f) c.requires.main) c.in_ok-ranges.ensures.value

@@ -31,7 +31,7 @@ pub returns-in_default-clause-known : goal.returns-in_default-clause-known
 returns-in_default-clause-known c =
     let s = (files_view c.args.dwarf.now).main in
     let before = subst (λ (k : Keeping). AreKnown s k.ranges c.args.known.now) (sym c.self.view_is) c.requires.known in
-    known_read s c.self.inside.ranges c.args.known.now c.announced.new.chains c.in_ok-told.ensures.kept before
+    known_read s c.self.inside.ranges c.args.known.now c.announced.new.lists c.in_ok-told.ensures.kept before
 
 pub returns-in_default-clause-fits : goal.returns-in_default-clause-fits
 returns-in_default-clause-fits c =
@@ -45,7 +45,7 @@ pub keep-requires : goal.keep-requires
 keep-requires c =
     let s = (files_view c.args.dwarf.now).main in
     let before = subst (λ (k : Keeping). AreKnown s k.ranges c.args.known.now) (sym c.self.view_is) c.requires.known in
-    let read = known_read s c.self.inside.ranges c.args.known.now c.announced.new.chains c.in_ok-told.ensures.kept before in
+    let read = known_read s c.self.inside.ranges c.args.known.now c.announced.new.lists c.in_ok-told.ensures.kept before in
     let announced = announces s c.args.sets.now c.args.header in
     can_keep s c.self.inside.ranges _ announced c.in-Some.told.ranges read (rw c.in-Some.is at c.in_ok-told.ensures.told)
 
@@ -56,7 +56,7 @@ pub keep-requires-2-clause-count : goal.keep-requires-2-clause-count
 keep-requires-2-clause-count c =
     let s = (files_view c.args.dwarf.now).main in
     let before = subst (λ (k : Keeping). AreKnown s k.ranges c.args.known.now) (sym c.self.view_is) c.requires.known in
-    let read = known_read s c.self.inside.ranges c.args.known.now c.announced.new.chains c.in_ok-told.ensures.kept before in
+    let read = known_read s c.self.inside.ranges c.args.known.now c.announced.new.lists c.in_ok-told.ensures.kept before in
     let announced = announces s c.args.sets.now c.args.header in
     let next = c.in_ok-ranges.ensures s announced read (rw c.in-Some.is at c.in_ok-told.ensures.told) in
     let count = next.0.with_unit.count in
@@ -69,7 +69,7 @@ returns-clause-value c =
     let s = (files_view c.args.dwarf.now).main in
     let ranges = c.self.inside.ranges in
     let before = subst (λ (k : Keeping). AreKnown s k.ranges c.args.known.now) (sym c.self.view_is) c.requires.known in
-    let read = known_read s ranges c.args.known.now c.announced.new.chains c.in_ok-told.ensures.kept before in
+    let read = known_read s ranges c.args.known.now c.announced.new.lists c.in_ok-told.ensures.kept before in
     let announced = announces s c.args.sets.now c.args.header in
     let next = c.in_ok-ranges.ensures s announced read (rw c.in-Some.is at c.in_ok-told.ensures.told) in
     rw (← c.self.view_is, c.in_ok-keep.ensures) (ap or_invalid (next_more (record { kept = c.self.inside.kept; ranges = ranges }) c.args.header c.in_ok-ranges.ranges announced c.self.invariant next.0))
@@ -81,7 +81,7 @@ pub returns-clause-known : goal.returns-clause-known
 returns-clause-known c =
     let s = (files_view c.args.dwarf.now).main in
     let before = subst (λ (k : Keeping). AreKnown s k.ranges c.args.known.now) (sym c.self.view_is) c.requires.known in
-    let read = known_read s c.self.inside.ranges c.args.known.now c.announced.new.chains c.in_ok-told.ensures.kept before in
+    let read = known_read s c.self.inside.ranges c.args.known.now c.announced.new.lists c.in_ok-told.ensures.kept before in
     let announced = announces s c.args.sets.now c.args.header in
     let next = c.in_ok-ranges.ensures s announced read (rw c.in-Some.is at c.in_ok-told.ensures.told) in
     rw c.in_ok-keep.ensures next.1

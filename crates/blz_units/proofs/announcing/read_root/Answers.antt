@@ -5,15 +5,15 @@ use Rattle.blz_functions.specs.Opened.{open_view}
 use Rattle.blz_units.specs.RangeChains.{count_in}
 use Rattle.blz_units.proofs.RootKeys.{ranges_tell}
 use Rattle.blz_units.proofs.RootTold.{none_in_chain, root_by_ranges, root_fails, root_in_chain}
-use Rattle.blz_units.proofs.announcing.root_ranges.Goals as goal
+use Rattle.blz_units.proofs.announcing.read_root.Goals as goal
 
 pub returns-in_err-spans-clause-value : goal.returns-in_err-spans-clause-value
 returns-in_err-spans-clause-value c =
     let p = err_from_is_err_and c.from_residual.result c.from_residual.ensures.1 in
     rw (p.1, p.2) (root_fails (open_view c.args.unit.now) _ c.in_err-spans.ensures.told)
 
-pub returns-else-is_empty-clause-value : goal.returns-else-is_empty-clause-value
-returns-else-is_empty-clause-value c =
+pub returns-in_ok-note-in-Read-clause-value : goal.returns-in_ok-note-in-Read-clause-value
+returns-in_ok-note-in-Read-clause-value c =
     let u = open_view c.args.unit.now in
     let spans = c.in-Read.spans in
     let told = rw c.in-Read.is at c.in_ok-spans.ensures.told in

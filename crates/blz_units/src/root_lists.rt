@@ -1,0 +1,29 @@
+//! What is known of the lists of ranges that roots name.
+ghost use Rattle.blz_announced.specs.Units.{KeptRanges};
+ghost use Rattle.blz_info.specs.FileSections.{FileSections};
+ghost use Rattle.blz_units.specs.RangeChains.{ArePieces};
+ghost use Rattle.blz_units.specs.RootLists.{AreRootLists};
+
+use crate::range_chains::RangeChains;
+use crate::relative_lists::RelativeLists;
+use std::alloc::Global;
+
+/// Those that run into one another, and those that count from their base throughout.
+#[derive(Drop)]
+pub struct RootLists {
+    pub chains: RangeChains,
+    pub relative: RelativeLists,
+}
+
+impl RootLists {
+    /// Of no lists; takes no memory.
+    pub fn new(alloc: Global) -> RootLists
+        ensures lists { (s : FileSections) → AreRootLists s result }
+        ensures pieces { (ranges : KeptRanges) → ArePieces ranges result.chains }
+    {
+        RootLists {
+            chains: RangeChains::new(alloc),
+            relative: RelativeLists::new(alloc),
+        }
+    }
+}
