@@ -16,7 +16,7 @@ use Rattle.blz_announced.specs.Announced.{to_tell, units_covering, Announcing, T
 use Rattle.blz_announced.specs.Copies.{all_kept_parts, all_of_parts, all_ranges, copies, list_of, AnnouncedParts, Copy, IsOnePartMore, KeptParts}
 use Rattle.blz_announced.specs.Seen.{ArePartsOnce, Holds, LeavesOut}
 use Rattle.blz_announced.specs.Shifts.{all_by_shifts, by_shifts, moved_by, moved_one, shift_of, shifted, AreNoted, CanBeShifted, MayMove, MeetShifted, Shiftable, StayWithin}
-use Rattle.blz_announced.specs.Units.{all_by_units, all_kept, all_shifted, announced_by_units, by_units, kept_by_units, parts_all, parts_kept, unit_of, units_to_tell, AreShifted, AreToldOnce, IsFilled, IsListOf, IsNoted, IsOnce, IsOnceMore, IsPartAgain, IsWithKeeper, IsWithPart, IsWithShifted, IsWithUnit, KeptRanges, TellAlike, Announced}
+use Rattle.blz_announced.specs.Units.{all_by_units, all_kept, all_shifted, announced_by_units, by_units, kept_by_units, parts_all, parts_kept, unit_of, units_to_tell, AreShifted, AreToldOnce, IsFilled, IsListOf, IsNoted, IsOnce, IsOnceMore, IsPartAgain, IsShiftedPart, IsShiftedUnit, IsWithKeptPart, IsWithPart, IsWithShifted, IsWithShiftedPart, IsWithUnit, KeptRanges, TellAlike, Announced}
 use Rattle.blz_announced.specs.declared.shift.Shift.{Shift}
 use Rattle.blz_announced.proofs.Copies.{are_copies, in_back, there_at, Stands}
 use Rattle.blz_announced.proofs.ListsOf.{list_told, IsInKept}
@@ -349,16 +349,18 @@ once_unmoved parts units shifts addr told e once =
 
 -- ---- a unit whose ranges are moved
 
-pub unit_shifted : {E : Type 0} (old part : KeptRanges) (keeper : ℕ) (shift : Shift) (result : Result KeptRanges E) → ((spans : List Span) → IsListOf old spans (Some keeper) → IsWithPart old (map (shifted shift) spans) part) → IfOk result (λ k. k ≡ record part { count = part.count + 1 })
-    → IfOk result (λ k. (spans : List Span) → IsListOf old spans (Some keeper) → IsWithUnit old (map (shifted shift) spans) k)
-unit_shifted old part keeper shift (Ok k) with_part ended = λ spans list. subst (IsWithUnit old (map (shifted shift) spans)) (sym ended) (unit_ended old part (map (shifted shift) spans) (with_part spans list))
-unit_shifted old part keeper shift (Err e) with_part ended = tt
-
 keeper_or : (k : KeptRanges) (spans : List Span) (o : Option ℕ) → IsListOf k spans o → IfSome o (λ keeper. IsListOf k spans (Some keeper))
 keeper_or k spans None is = tt
 keeper_or k spans (Some keeper) is = is
 
-pub shifted_read : (old : KeptRanges) (keeper : ℕ) (shift : Shift) (new : KeptRanges × Option ℕ) → IsWithKeeper old (map (shifted shift) (list_of old.ranges keeper)) new → (spans : List Span) → IsListOf old spans (Some keeper) → IsWithShifted old (map (shifted shift) spans) new
-shifted_read old keeper shift new w spans list =
+pub shifted_read : (old : KeptRanges) (keeper : ℕ) (shift : Shift) (new : KeptRanges × Option ℕ) → IsWithKeptPart old (map (shifted shift) (list_of old.ranges keeper)) new → IsShiftedPart old keeper shift new
+shifted_read old keeper shift new w = λ spans list.
     let e = list.1 in
-    subst (λ (l : List Span). IsWithShifted old (map (shifted shift) l) new) e (record { with_unit = w.with_unit; list = keeper_or new.0 (map (shifted shift) (list_of old.ranges keeper)) new.1 w.list })
+    subst (λ (l : List Span). IsWithShiftedPart old (map (shifted shift) l) new) e (record { with_part = w.with_part; list = keeper_or new.0 (map (shifted shift) (list_of old.ranges keeper)) new.1 w.list })
+
+-- and the unit ends
+pub shifted_ended : (old part new : KeptRanges) (keeper : ℕ) (shift : Shift) (found : Option ℕ) → IsShiftedPart old keeper shift (part, found) → new ≡ record part { count = part.count + 1 } → IsShiftedUnit old keeper shift (new, found)
+shifted_ended old part new keeper shift found h e = λ spans list.
+    let w = h spans list in
+    let moved = map (shifted shift) spans in
+    subst (λ (k : KeptRanges). IsWithShifted old moved (k, found)) (sym e) (record { with_unit = unit_ended old part moved w.with_part; list = w.list })

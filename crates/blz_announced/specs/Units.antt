@@ -127,10 +127,19 @@ IsOnceMore old keeper new = (spans : List Span) → IsListOf old spans keeper �
 abbrev pub MayBeShifted : KeptRanges → ℕ → Shift → Type 0
 MayBeShifted k keeper shift = (0 < length k.shifts) ⊎ MeetShifted (list_of k.ranges keeper) shift
 
--- one unit more, which announces what one with a keeper does, each range moved
+-- one part more, which announces what one with a keeper does, each range moved
 abbrev pub IsShiftedMore : KeptRanges → ℕ → Shift → KeptRanges → Type 0
 IsShiftedMore old keeper shift new =
-    (spans : List Span) → IsListOf old spans (Some keeper) → IsWithUnit old (map (shifted shift) spans) new
+    (spans : List Span) → IsListOf old spans (Some keeper) → IsWithPart old (map (shifted shift) spans) new
+
+-- one part more, with the keeper of its ranges where they have one
+pub record IsWithShiftedPart (old : KeptRanges) (spans : List Span) (new : KeptRanges × Option ℕ) : Type 0 where
+  pub with_part : IsWithPart old spans new.0
+  pub list : IfSome new.1 (λ keeper. IsListOf new.0 spans (Some keeper))
+
+abbrev pub IsShiftedPart : KeptRanges → ℕ → Shift → KeptRanges × Option ℕ → Type 0
+IsShiftedPart old keeper shift new =
+    (spans : List Span) → IsListOf old spans (Some keeper) → IsWithShiftedPart old (map (shifted shift) spans) new
 
 -- one unit more, with the keeper of its ranges where they have one
 pub record IsWithShifted (old : KeptRanges) (spans : List Span) (new : KeptRanges × Option ℕ) : Type 0 where

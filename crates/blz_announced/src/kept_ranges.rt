@@ -4,7 +4,7 @@ ghost use Rattle.std.specs.Bool.{OnTrue};
 ghost use Rattle.std.specs.List.{slice_get};
 ghost use Rattle.blz_announced.specs.Copies.{list_of};
 ghost use Rattle.blz_announced.specs.Shifts.{shifted, CanBeShifted};
-ghost use Rattle.blz_announced.specs.Units.{no_ranges, parts_kept, IsOnceMore, AreShifted, IsPartAgain, IsShiftedMore, IsShiftedUnit, IsWithKeeper, IsWithKeptPart, MayBeShifted};
+ghost use Rattle.blz_announced.specs.Units.{no_ranges, parts_kept, IsOnceMore, AreShifted, IsPartAgain, IsShiftedMore, IsShiftedPart, IsShiftedUnit, IsWithKeeper, IsWithKeptPart, MayBeShifted};
 
 use crate::kept_parts::KeptParts;
 use crate::meeting::meet_shifted;
@@ -149,7 +149,7 @@ impl KeptRanges {
         !self.shifts.is_empty() || meet_shifted(self.parts.list_of(keeper), shift)
     }
 
-    /// One unit more, of one part that announces what another one does, moved.
+    /// One part more of the unit that is read, which announces what another one does, moved, and is kept as that.
     fn with_shift(self, keeper: usize, shift: Shift) -> Result<KeptRanges, AllocError>
         requires keeper { slice_get self.keepers keeper ≡ Some keeper }
         requires stays { CanBeShifted shift (list_of self.ranges keeper) }
@@ -160,13 +160,32 @@ impl KeptRanges {
         let units = noted(self.units, part, self.count)?;
         let shifts = shift::noted(self.shifts, part, shift)?;
         let parts = self.parts.again(keeper)?;
-        let ranges = KeptRanges {
+        Ok(KeptRanges {
             parts,
             units,
             shifts,
             count: self.count,
-        };
-        ranges.end_unit()
+        })
+    }
+
+    /// One part more of the unit that is read, which announces what one with a keeper does, each range moved. Gives the
+    /// keeper of these ranges, where they have one.
+    pub fn shifted_part(
+        self,
+        alloc: Global,
+        keeper: usize,
+        shift: Shift,
+    ) -> Result<(KeptRanges, Option<usize>), AllocError>
+        requires keeper { slice_get self.keepers keeper ≡ Some keeper }
+        requires stays { CanBeShifted shift (list_of self.ranges keeper) }
+        ensures { IfOk result (IsShiftedPart self keeper shift) }
+    {
+        if self.may_shift(keeper, shift) {
+            let ranges = self.with_shift(keeper, shift)?;
+            return Ok((ranges, None));
+        }
+        let spans = shifted_list(alloc, self.parts.list_of(keeper), shift)?;
+        self.with_part(spans.as_slice())
     }
 
     /// One unit more, which announces what one with a keeper does, each range moved. Gives the keeper of these ranges, where
@@ -181,12 +200,9 @@ impl KeptRanges {
         requires stays { CanBeShifted shift (list_of self.ranges keeper) }
         ensures { IfOk result (IsShiftedUnit self keeper shift) }
     {
-        if self.may_shift(keeper, shift) {
-            let ranges = self.with_shift(keeper, shift)?;
-            return Ok((ranges, None));
-        }
-        let spans = shifted_list(alloc, self.parts.list_of(keeper), shift)?;
-        self.with_unit(spans.as_slice())
+        let (ranges, found) = self.shifted_part(alloc, keeper, shift)?;
+        let ranges = ranges.end_unit()?;
+        Ok((ranges, found))
     }
 
     /// What the parts announce, the units of these, and how they are moved.

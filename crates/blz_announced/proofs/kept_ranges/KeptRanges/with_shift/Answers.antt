@@ -3,11 +3,11 @@ use Rattle.std.specs.List.{slice_get}
 use Rattle.blz_announced.specs.Copies.{list_of}
 use Rattle.blz_announced.specs.Shifts.{AreNoted, CanBeShifted}
 use Rattle.blz_announced.specs.Units.{kept_by_units, IsNoted, KeptRanges, MayBeShifted}
-use Rattle.blz_announced.proofs.UnitSteps.{moves_shifted, part_moved, unit_shifted}
+use Rattle.blz_announced.proofs.UnitSteps.{moves_shifted, part_moved}
 use Rattle.blz_announced.proofs.kept_ranges.KeptRanges.with_shift.Goals as goal
 
-pub invariant_of-ranges : goal.invariant_of-ranges
-invariant_of-ranges c =
+pub invariant_of-result : goal.invariant_of-result
+invariant_of-result c =
     let k = c.self.inside in
     let keeper = c.args.keeper in
     let shift = c.args.shift in
@@ -31,6 +31,4 @@ returns c =
     let old = kept_by_units k.parts k.units.items k.shifts.items k.count in
     let noted = subst (λ (n : ℕ). AreNoted k.shifts.items n shift shifts) c.count-part.ensures c.in_ok-shifts.ensures in
     let unit = subst (λ (n : ℕ). IsNoted k.units.items n k.count units) c.count-part.ensures c.in_ok-units.ensures in
-    rw (← c.self.view_is) (unit_shifted old (kept_by_units parts units shifts k.count) c.args.keeper shift c.end_unit.result
-    (λ spans list. part_moved old spans (Some shift) parts units shifts (c.in_ok-parts.ensures.same spans list) unit noted.before noted.here)
-    c.end_unit.ensures)
+    rw (← c.self.view_is) (λ spans list. part_moved old spans (Some shift) parts units shifts (c.in_ok-parts.ensures.same spans list) unit noted.before noted.here)
