@@ -22,12 +22,13 @@ use Rattle.blz_entry.proofs.RangeSteps.{joined_more, list_is_tail, tail_more, ta
 use Rattle.blz_ranges.specs.declared.span.Span.{Span}
 use Rattle.blz_functions.specs.Leaves.{UnitParts, entry_behind, lying, ranges_in, spans_behind}
 use Rattle.blz_announced.specs.Units.{KeptRanges, IsListOf}
-use Rattle.blz_units.specs.RangeChains.{chain_at, items_or_none, last_in, list_in, piece_cmp, piece_in, Grow, HasLast, IsChainOf, IsInChain, IsKeptPiece, IsLastIn, IsPassed, IsPassedEntry, IsPlaced, IsReadTo, IsWholeChain, KeepsChains}
+use Rattle.blz_units.specs.RangeChains.{chain_at, counted, items_or_none, last_in, list_in, piece_cmp, piece_in, CanCount, Grow, HasLast, IsChainOf, IsInChain, IsKeptPiece, IsLastIn, IsPassed, IsPassedEntry, IsPlaced, IsReadTo, IsWholeChain, KeepsChains}
 use Rattle.blz_units.specs.RootKeys.{list_cmp, tail_key}
 use Rattle.blz_units.specs.declared.passed_list.PassedEntry.{PassedEntry}
 use Rattle.blz_units.specs.declared.passed_list.PassedList.{PassedList}
 use Rattle.blz_units.specs.declared.range_chains.ChainPiece.{ChainPiece}
 use Rattle.blz_units.specs.declared.range_chains.ChainPlace.{ChainPlace}
+use Rattle.blz_units.specs.declared.range_chains.KeptPiece.{KeptPiece}
 use Rattle.blz_units.specs.declared.range_chains.ListPlace.{ListPlace}
 use Rattle.blz_units.specs.declared.range_chains.RangeChains.{RangeChains}
 use Rattle.blz_units.specs.declared.root_key.ListKey.{ListKey}
@@ -110,13 +111,15 @@ piece_stays old new grow p within =
     let front = same_front (chain_at old p.chain) (chain_at new p.chain) (p.start + p.len) (grow p.chain) within in
     ap reverse (cut_out (chain_at new p.chain) p.start p.len ∙ (ap (drop p.start) front ∙ sym (cut_out (chain_at old p.chain) p.start p.len)))
 
-piece_kept : (ranges : KeptRanges) (old new : List (Vec Span Global)) → Grow old new → (p : ChainPiece) (keeper : ℕ) → IsKeptPiece ranges old p keeper → IsKeptPiece ranges new p keeper
-piece_kept ranges old new grow p keeper h =
+piece_kept : (ranges : KeptRanges) (old new : List (Vec Span Global)) → Grow old new → (p : ChainPiece) (kept : KeptPiece) → IsKeptPiece ranges old p kept → IsKeptPiece ranges new p kept
+piece_kept ranges old new grow p kept h =
     let longer = grown_length (chain_at old p.chain) (chain_at new p.chain) (grow p.chain) in
     let within = h.within in
+    let same = sym (piece_stays old new grow p within) in
     record {
       within = omega arith;
-      list = subst (λ (l : List Span). IsListOf ranges l (Some keeper)) (sym (piece_stays old new grow p within)) h.list;
+      can = subst (CanCount kept.base) same h.can;
+      list = subst (λ (l : List Span). IsListOf ranges (counted kept.base l) (Some kept.keeper)) same h.list;
     }
 
 -- a list behind a chain

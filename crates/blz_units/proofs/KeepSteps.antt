@@ -163,7 +163,7 @@ pub can_keep : (s : FileSections) (ranges : KeptRanges) (known : KnownRanges) (o
 can_keep s ranges known o (Again met) are again = again_keeper s ranges known.roots are.roots met o again
 can_keep s ranges known o (Moved m) are told = moved_can s ranges known.roots are.roots m o told
 can_keep s ranges known o (Spans spans key) are is = tt
-can_keep s ranges known o (Chained front place) are chained = (chained.within, are.pieces)
+can_keep s ranges known o (Chained front place base) are chained = record { within = chained.within; can = chained.can; pieces = are.pieces }
 
 -- what a unit with a key that was met does
 pub keeps_again : (ranges : KeptRanges) (known : KnownRanges) (met : KnownRoot) (r : Result KeptRanges AllocError) → IfOk r (IsOnceMore ranges met.keeper) → IfOk r (λ new. KeepsTold ranges known (Again met) new known)

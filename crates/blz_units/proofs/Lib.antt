@@ -21,11 +21,14 @@ pub mod Shared
 pub mod KeyOrder
 pub mod SameLists
 pub mod RootKeys
+pub mod CountedRanges
 pub mod Chained
 pub mod ChainPieces
 pub mod RootTold
 pub mod LinesTold
 pub mod RelativeLists
+pub mod EntryReaches
 pub mod MovedRoots
+pub mod FromZero
 pub mod SharedLists
 pub mod SharedPrograms

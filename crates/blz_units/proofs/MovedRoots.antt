@@ -1,11 +1,10 @@
 -- What a unit finds in a list that counts from its base throughout is what another base gives, moved.
-use Rattle.std.proofs.Common.{◌≡◌, ℕ, ◌+◌, ◌-◌, ◌^◌, ◌<◌, eqb, List, [], ◌∷◌, length, map, Option, Some, refl, sym, ap, subst, ◌∙◌, arith, inl, inr}
+use Rattle.std.proofs.Common.{◌≡◌, ℕ, ◌+◌, ◌^◌, ◌<◌, eqb, List, [], length, map, Option, Some, refl, sym, ap, subst, ◌∙◌, arith, inl, inr}
 use Rattle.std.specs.Prelude.{unwrap_or}
 use Rattle.std.proofs.lemmas.Bool.{cases_Bool}
 use Rattle.std.proofs.lemmas.List.{length-map}
 use Rattle.std.proofs.lemmas.List.Elements.{All-map, All-weaker}
-use Rattle.blz_announced.specs.Shifts.{shifted, CanBeShifted, Shiftable}
-use Rattle.blz_announced.specs.declared.shift.Shift.{Shift}
+use Rattle.blz_announced.specs.Shifts.{CanBeShifted, Shiftable}
 use Rattle.blz_entry.specs.RangeLists.{greatest}
 use Rattle.blz_entry.specs.RangeTails.{list_tail, moved}
 use Rattle.blz_functions.specs.Leaves.{UnitParts, ranges_in}
@@ -13,6 +12,7 @@ use Rattle.blz_functions.specs.Reach.{ReachesUpTo, ReachUpTo}
 use Rattle.blz_functions.proofs.Reaches.{end_up_to}
 use Rattle.blz_ranges.specs.declared.span.Span.{Span}
 use Rattle.blz_units.specs.Keeping.{IsKnown, IsRootMoved, MovesTo}
+use Rattle.blz_units.specs.RangeChains.{between}
 use Rattle.blz_units.specs.RelativeLists.{IsRelativeTo}
 use Rattle.blz_units.specs.RootKeys.{ranges_by_key, ranges_key, tail_key, AreSpansOf, IsToldBy}
 use Rattle.blz_units.specs.UnitTables.{root_spans}
@@ -22,23 +22,11 @@ use Rattle.blz_units.specs.declared.root_key.RangesKey.TheVariants.{Listed}
 use Rattle.blz_units.specs.declared.root_key.RootKey.{RootKey}
 use Rattle.blz_units.specs.declared.root_key.RootKey.TheVariants.{ByRanges}
 use Rattle.blz_units.proofs.Chained.{listed_ranges}
+use Rattle.blz_units.proofs.CountedRanges.{all_moved}
 use Rattle.blz_units.proofs.RootKeys.{ranges_tell, tails_same}
 use Rattle.blz_units.proofs.RootTold.{root_by_ranges}
 
 -- ---- ranges from two bases
-
-abbrev between : ℕ → ℕ → Shift
-between base other = record { back = base; by = other }
-
-one_moved : (base other : ℕ) (s : Span) → shifted (between base other) (moved base s) ≡ moved other s
-one_moved base other s =
-    let begin : (base + s.begin) - base ≡ s.begin = omega arith in
-    let end : (base + s.end) - base ≡ s.end = omega arith in
-    λ i. record { begin = other + begin i; end = other + end i }
-
-all_moved : (base other : ℕ) (spans : List Span) → map (shifted (between base other)) (map (moved base) spans) ≡ map (moved other) spans
-all_moved base other [] = refl
-all_moved base other (s ∷ rest) = λ i. one_moved base other s i ∷ all_moved base other rest i
 
 can_move : (base other most : ℕ) (spans : List Span) → ReachUpTo most spans → base + most < 2 ^ 64 → other + most < 2 ^ 64 → CanBeShifted (between base other) (map (moved base) spans)
 can_move base other most spans h first second =
@@ -51,7 +39,7 @@ can_move base other most spans h first second =
       below = omega (arith, r.end, first);
     }) spans h)
 
-fits : (size : ℕ) → greatest size < 2 ^ 64
+pub fits : (size : ℕ) → greatest size < 2 ^ 64
 fits size = elim (cases_Bool (eqb size 4)) [ inl t ↦ rw t (omega arith) | inr f ↦ rw f (omega arith) ]
 
 -- ---- the list of a root
@@ -60,17 +48,17 @@ module _ (u : UnitParts) (offset most : ℕ) (reach : IsRelativeTo u offset most
   abbrev from_base : ℕ → List Span
   from_base base = map (moved base) reach.spans
 
-  some : (base : ℕ) → 0 < length (from_base base)
+  pub some : (base : ℕ) → 0 < length (from_base base)
   some base = let k = length-map reach.spans (moved base) in let n = reach.some in omega (arith, k, n)
 
   -- Units that read it alike find its ranges, moved.
-  ranges_found : (v : UnitParts) → v.sections ≡ u.sections → v.root.ranges.ranges_offset ≡ Some offset → tail_key v (list_tail v.root offset) ≡ tail_key u (list_tail v.root offset) → v.root.low_pc + most < greatest u.header.address_size → ranges_in v v.root.ranges ≡ Some (from_base v.root.low_pc)
+  pub ranges_found : (v : UnitParts) → v.sections ≡ u.sections → v.root.ranges.ranges_offset ≡ Some offset → tail_key v (list_tail v.root offset) ≡ tail_key u (list_tail v.root offset) → v.root.low_pc + most < greatest u.header.address_size → ranges_in v v.root.ranges ≡ Some (from_base v.root.low_pc)
   ranges_found v same at key below =
       listed_ranges v v.root.ranges offset at
       ∙ (tails_same u v (list_tail v.root offset) same key
       ∙ reach.are.from_base v.root.low_pc most (end_up_to most reach.spans reach.within) below)
 
-  root_found : (v : UnitParts) → ranges_in v v.root.ranges ≡ Some (from_base v.root.low_pc) → root_spans v ≡ Some (from_base v.root.low_pc)
+  pub root_found : (v : UnitParts) → ranges_in v v.root.ranges ≡ Some (from_base v.root.low_pc) → root_spans v ≡ Some (from_base v.root.low_pc)
   root_found v found = root_by_ranges v (from_base v.root.low_pc) found (some v.root.low_pc)
 
 module _ (u : UnitParts) (offset most base : ℕ) (reach : IsRelativeTo u offset most) (at : u.root.ranges.ranges_offset ≡ Some offset) (first : base + most < greatest u.header.address_size) (own : u.root.low_pc + most < greatest u.header.address_size) where

@@ -15,7 +15,7 @@ use Rattle.blz_model.specs.Part.{Fails}
 use Rattle.blz_model.specs.Reads.{◌>>=◌}
 use Rattle.blz_ranges.specs.declared.span.Span.{Span}
 use Rattle.blz_units.specs.Keeping.{IsRootTold, IsTold, IsToldByLines, TellsRoot}
-use Rattle.blz_units.specs.RangeChains.{chain_at, count_in, last_in, HasLast, IsLastIn}
+use Rattle.blz_units.specs.RangeChains.{chain_at, count_in, last_in, HasLast, IsCountedIn, IsLastIn}
 use Rattle.blz_units.specs.RootKeys.{AreSpansOf, IsKeyOf}
 use Rattle.blz_units.specs.UnitTables.{by_root, lines_in, or_sequences, root_spans, sequences_of}
 use Rattle.blz_units.specs.declared.announcement.UnitRanges.{UnitRanges}
@@ -26,6 +26,7 @@ use Rattle.blz_units.specs.declared.range_chains.ListPlace.{ListPlace}
 use Rattle.blz_units.specs.declared.range_chains.RangeChains.{RangeChains}
 use Rattle.blz_units.specs.declared.root_key.RootKey.{RootKey}
 use Rattle.blz_units.proofs.Chained.{empty_list}
+use Rattle.blz_units.proofs.CountedRanges.{can_from_zero, from_zero}
 
 abbrev or_lines : UnitParts → Option (List Span) → Option (List Span)
 or_lines u o = o >>= λ spans. Some (or_sequences u spans)
@@ -46,7 +47,7 @@ last_length chains place within =
     let b = length-reverse (take place.count chain) in
     omega arith
 
-pub root_in_chain : (u : UnitParts) (c : RangeChains) (front : List Span) (place : ListPlace) → IsLastIn c (ranges_in u u.root.ranges) front place → 0 < length front + count_in place → IsLastIn c (root_spans u) front place
+pub root_in_chain : (u : UnitParts) (c : RangeChains) (front : List Span) (place : ListPlace) → IsLastIn c (ranges_in u u.root.ranges) front place → 0 < length front + count_in place → IsCountedIn c (root_spans u) front place 0
 root_in_chain u c front place h some =
     let one = last_in c.chains.items place.front in
     let two = last_in c.chains.items place.rest in
@@ -54,7 +55,11 @@ root_in_chain u c front place h some =
     let b = last_length c.chains.items place.rest h.within.rest in
     let d = length-append front (one ++ two) in
     let e = length-append one two in
-    record { within = h.within; is = root_by_ranges u (front ++ (one ++ two)) h.is (omega arith) }
+    record {
+      within = h.within;
+      can = can_from_zero (one ++ two);
+      is = root_by_ranges u (front ++ (one ++ two)) h.is (omega arith) ∙ ap (λ (l : List Span). Some (front ++ l)) (sym (from_zero (one ++ two)));
+    }
 
 no_root : (u : UnitParts) (o : Option (List Span)) → o ≡ None → or_lines u o ≡ None
 no_root u None e = refl
@@ -88,7 +93,7 @@ pub built_told : (s : FileSections) (u : UnitParts) (o : Option UnitParts) (root
 built_told s u o roots c (Again known) is at h = record { unit = u; main = at; met = h.0; told = h.1; is = ap by_root is }
 built_told s u o roots c (Moved m) is at h = record { unit = u; main = at; moved = h; is = ap by_root is }
 built_told s u o roots c (Spans spans key) is at h = (ap by_root is ∙ ap as_told h.0, key_told s u spans.items key at h.0 h.1)
-built_told s u o roots c (Chained front place) is at h = record { within = h.within; is = ap by_root is ∙ ap as_told h.is }
+built_told s u o roots c (Chained front place base) is at h = record { within = h.within; can = h.can; is = ap by_root is ∙ ap as_told h.is }
 
 pub told_fails : (u : UnitParts) (o : Option UnitParts) (kind : ErrorKind) → o ≡ Some u → Fails kind (or_invalid (root_spans u)) → Fails kind (or_invalid (by_root o))
 told_fails u o kind is fails = marks_on kind (root_spans u) (by_root o) fails (λ none. ap by_root is ∙ ap as_told none)

@@ -14,7 +14,7 @@ use Rattle.blz_announced.specs.Copies.{list_of}
 use Rattle.blz_announced.specs.Shifts.{shifted, CanBeShifted}
 use Rattle.blz_announced.specs.Units.{KeptRanges, all_kept, IsListOf, IsWithUnit}
 use Rattle.blz_units.specs.KeptParts.{IsPartOf}
-use Rattle.blz_units.specs.RangeChains.{list_in, ArePieces, IsLastIn, IsWithin}
+use Rattle.blz_units.specs.RangeChains.{counted, list_in, ArePieces, CanCount, IsCountedIn, IsWithin}
 use Rattle.blz_units.specs.RootKeys.{root_cmp, AreSpansOf, IsKeyOf, IsToldBy}
 use Rattle.blz_units.specs.RootLists.{AreRootLists}
 use Rattle.blz_units.specs.UnitTables.{KeptUnits, by_root, root_spans}
@@ -58,7 +58,11 @@ abbrev pub IsRootTold : UnitParts → KnownRoots → RangeChains → UnitRanges 
 IsRootTold u roots chains (Again known) = IsMetOf roots u known
 IsRootTold u roots chains (Moved m) = IsRootMoved u roots m
 IsRootTold u roots chains (Spans spans key) = (root_spans u ≡ Some spans.items) × IfSome key (IsKeyOf u)
-IsRootTold u roots chains (Chained front place) = IsLastIn chains (root_spans u) front.items place
+IsRootTold u roots chains (Chained front place base) = IsCountedIn chains (root_spans u) front.items place base
+
+-- Nothing is told, or what is told of a root whatever roots were met.
+abbrev pub MayTellRoot : UnitParts → RangeChains → Result (Option UnitRanges) Fault → Type 0
+MayTellRoot u chains result = MatchResult result (λ o. IfSome o (λ told. (roots : KnownRoots) → IsRootTold u roots chains told)) (λ e. Fails e.kind (or_invalid (root_spans u)))
 
 abbrev pub TellsRoot : UnitParts → KnownRoots → RangeChains → Result UnitRanges Fault → Type 0
 TellsRoot u roots chains result = MatchResult result (IsRootTold u roots chains) (λ e. Fails e.kind (or_invalid (root_spans u)))
@@ -88,17 +92,18 @@ pub record IsMoved (s : FileSections) (roots : KnownRoots) (m : MovedRoot) (anno
   pub moved : IsRootMoved unit roots m
   pub is : announced ≡ by_root (Some unit)
 
--- It is some ranges, and then those of a place in chains.
-pub record IsChained (chains : RangeChains) (announced : Option (Option (List Span))) (front : List Span) (place : ListPlace) : Type 0 where
+-- It is some ranges, and then those of a place in chains, counted from a base.
+pub record IsChained (chains : RangeChains) (announced : Option (Option (List Span))) (front : List Span) (place : ListPlace) (base : ℕ) : Type 0 where
   pub within : IsWithin chains.chains.items place
-  pub is : announced ≡ Some (Some (front ++ list_in chains.chains.items place))
+  pub can : CanCount base (list_in chains.chains.items place)
+  pub is : announced ≡ Some (Some (front ++ counted base (list_in chains.chains.items place)))
 
 -- What is told of a unit is what it announces.
 abbrev pub IsTold : FileSections → KnownRoots → RangeChains → Option (Option (List Span)) → UnitRanges → Type 0
 IsTold s roots chains announced (Again known) = IsAgain s roots known announced
 IsTold s roots chains announced (Moved m) = IsMoved s roots m announced
 IsTold s roots chains announced (Spans spans key) = (announced ≡ Some (Some spans.items)) × IfSome key (AreSpansOf s spans.items)
-IsTold s roots chains announced (Chained front place) = IsChained chains announced front.items place
+IsTold s roots chains announced (Chained front place base) = IsChained chains announced front.items place base
 
 abbrev pub TellsBuilt : FileSections → KnownRoots → RangeChains → Option (Option (List Span)) → Result Announcement Fault → Type 0
 TellsBuilt s roots chains announced result =
@@ -160,12 +165,18 @@ pub record CanBeMoved (ranges : KeptRanges) (m : MovedRoot) : Type 0 where
   pub keeper : slice_get ranges.keepers m.keeper ≡ Some m.keeper
   pub stays : CanBeShifted m.shift (list_of ranges.ranges m.keeper)
 
+-- So can the ranges of a place in chains, counted from a base.
+pub record CanBeChained (ranges : KeptRanges) (chains : RangeChains) (place : ListPlace) (base : ℕ) : Type 0 where
+  pub within : IsWithin chains.chains.items place
+  pub can : CanCount base (list_in chains.chains.items place)
+  pub pieces : ArePieces ranges chains
+
 -- What is told of a unit can be kept: its keeper is one, and pieces of its chains are.
 abbrev pub CanBeKept : KeptRanges → KnownRanges → UnitRanges → Type 0
 CanBeKept ranges known (Again met) = IfSome met.keeper (λ keeper. slice_get ranges.keepers keeper ≡ Some keeper)
 CanBeKept ranges known (Moved m) = CanBeMoved ranges m
 CanBeKept ranges known (Spans spans key) = Unit {0}
-CanBeKept ranges known (Chained front place) = IsWithin known.lists.chains.chains.items place × ArePieces ranges known.lists.chains
+CanBeKept ranges known (Chained front place base) = CanBeChained ranges known.lists.chains place base
 
 -- What is told of a unit is kept as what it announces, and what is known of the units stays so.
 abbrev pub KeepsTold : KeptRanges → KnownRanges → UnitRanges → KeptRanges → KnownRanges → Type 0

@@ -9,6 +9,7 @@ pub mod RangeChains
 pub mod RelativeLists
 pub mod RootLists
 pub mod Keeping
+pub mod FromZero
 pub mod Sets
 pub mod UnitTables
 pub mod UnitLists

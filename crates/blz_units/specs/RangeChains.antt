@@ -1,5 +1,5 @@
 -- Lists of ranges that run into one another: from some entry on they are one list, and so they end alike.
-use Rattle.std.specs.Prelude.{◌≡◌, ℕ, ◌+◌, ◌-◌, ◌<◌, ◌≤◌, Bool, true, List, [], ◌++◌, length, take, drop, reverse, Option, Some, None, IfSome, Result, MatchResult}
+use Rattle.std.specs.Prelude.{◌≡◌, ℕ, ◌+◌, ◌-◌, ◌<◌, ◌≤◌, Bool, true, List, [], ◌++◌, length, take, drop, reverse, map, Option, Some, None, IfSome, Result, MatchResult}
 use Rattle.std.specs.BTreeMap.{get}
 use Rattle.std.specs.List.{slice_get, All}
 use Rattle.std.specs.declared.alloc.Global.{Global}
@@ -10,16 +10,22 @@ use Rattle.blz_model.specs.Part.{Fails}
 use Rattle.blz_info.specs.FileSections.{FileSections}
 use Rattle.blz_info.specs.Marks.{or_invalid}
 use Rattle.blz_entry.specs.RangeLists.{joined}
+use Rattle.blz_entry.specs.RangeTails.{moved}
 use Rattle.blz_entry.specs.declared.range_tail.RangeTail.{RangeTail}
 use Rattle.blz_ranges.specs.declared.span.Span.{Span}
 use Rattle.blz_functions.specs.Leaves.{UnitParts, entry_behind, spans_behind}
-use Rattle.blz_announced.specs.Units.{KeptRanges, IsListOf}
+use Rattle.blz_functions.specs.MovedTail.{Stays}
+use Rattle.blz_announced.specs.Copies.{list_of}
+use Rattle.blz_announced.specs.Shifts.{CanBeShifted}
+use Rattle.blz_announced.specs.Units.{KeptRanges, IsListOf, IsWithPart}
+use Rattle.blz_announced.specs.declared.shift.Shift.{Shift}
 use Rattle.blz_units.specs.RootKeys.{list_cmp, tail_key, AreListSpans}
 use Rattle.blz_units.specs.contracts.range_chains.ChainPieceOrd.TheImpl as pieces
 use Rattle.blz_units.specs.declared.passed_list.PassedEntry.{PassedEntry}
 use Rattle.blz_units.specs.declared.passed_list.PassedList.{PassedList}
 use Rattle.blz_units.specs.declared.range_chains.ChainPiece.{ChainPiece}
 use Rattle.blz_units.specs.declared.range_chains.ChainPlace.{ChainPlace}
+use Rattle.blz_units.specs.declared.range_chains.KeptPiece.{KeptPiece}
 use Rattle.blz_units.specs.declared.range_chains.ListPlace.{ListPlace}
 use Rattle.blz_units.specs.declared.range_chains.RangeChains.{RangeChains}
 use Rattle.blz_units.specs.declared.range_chains.ToldRanges.{ToldRanges}
@@ -106,10 +112,32 @@ piece_cmp = pieces.ghosts.cmp
 abbrev pub piece_in : List (Vec Span Global) → ChainPiece → List Span
 piece_in chains p = reverse (take p.len (drop p.start (chain_at chains p.chain)))
 
--- A piece has a keeper.
-pub record IsKeptPiece (ranges : KeptRanges) (chains : List (Vec Span Global)) (p : ChainPiece) (keeper : ℕ) : Type 0 where
+-- ranges that count from 0, each counted from a base
+abbrev pub counted : ℕ → List Span → List Span
+counted base spans = map (moved base) spans
+
+-- They stay among the addresses of the machine, which those that count from 0 do as they are.
+abbrev pub CanCount : ℕ → List Span → Type 0
+CanCount base spans = 0 < base → All (Stays base) spans
+
+-- A piece has a keeper, which announces its ranges as they count from a base.
+pub record IsKeptPiece (ranges : KeptRanges) (chains : List (Vec Span Global)) (p : ChainPiece) (kept : KeptPiece) : Type 0 where
   pub within : p.start + p.len ≤ length (chain_at chains p.chain)
-  pub list : IsListOf ranges (piece_in chains p) (Some keeper)
+  pub can : CanCount kept.base (piece_in chains p)
+  pub list : IsListOf ranges (counted kept.base (piece_in chains p)) (Some kept.keeper)
+
+abbrev pub between : ℕ → ℕ → Shift
+between base other = record { back = base; by = other }
+
+-- What the keeper of a piece announces can be counted from a base.
+pub record CanPutAgain (ranges : KeptRanges) (kept : KeptPiece) (base : ℕ) : Type 0 where
+  pub keeper : slice_get ranges.keepers kept.keeper ≡ Some kept.keeper
+  pub can : (kept.base ≡ base → ⊥) → CanBeShifted (between kept.base base) (list_of ranges.ranges kept.keeper)
+
+-- one part more, which announces what the keeper of a piece does, counted from a base
+abbrev pub IsPieceAgain : KeptRanges → KeptPiece → ℕ → KeptRanges → Type 0
+IsPieceAgain old kept base new =
+    (spans : List Span) → IsListOf old (counted kept.base spans) (Some kept.keeper) → IsWithPart old (counted base spans) new
 
 abbrev pub ArePieces : KeptRanges → RangeChains → Type 0
 ArePieces ranges c = (p : ChainPiece) → IfSome (get piece_cmp c.pieces p) (IsKeptPiece ranges c.chains.items p)
@@ -138,6 +166,12 @@ pub record IsLastIn (c : RangeChains) (spans : Option (List Span)) (front : List
 -- Each entry of a list is put into its place, and what was known stays.
 abbrev pub Puts : UnitParts → List PassedEntry → ListPlace → RangeChains → RangeChains → Type 0
 Puts u entries place old new = (s : FileSections) → All (IsPlaced s u old.chains.items place) entries → AreChains s old → AreChains s new
+
+-- A list has some ranges, and then those of a place, counted from a base.
+pub record IsCountedIn (c : RangeChains) (spans : Option (List Span)) (front : List Span) (place : ListPlace) (base : ℕ) : Type 0 where
+  pub within : IsWithin c.chains.items place
+  pub can : CanCount base (list_in c.chains.items place)
+  pub is : spans ≡ Some (front ++ counted base (list_in c.chains.items place))
 
 abbrev pub AreTold : RangeChains → Option (List Span) → ToldRanges → Type 0
 AreTold c o (Read spans) = o ≡ Some spans.items

@@ -1,13 +1,16 @@
 -- Lists of ranges that count from their base throughout: what a unit finds in them is the same from each base, moved.
-use Rattle.std.specs.Prelude.{◌≡◌, ℕ, ◌<◌, ◌≤◌, List, length, Option, Some, None, IfSome}
+use Rattle.std.specs.Prelude.{◌≡◌, ℕ, ◌<◌, ◌≤◌, List, ◌++◌, length, Option, Some, None, IfSome}
 use Rattle.std.specs.BTreeMap.{get}
+use Rattle.std.specs.Option.{option_to_list}
+use Rattle.blz_entry.specs.RangeLists.{list_length}
 use Rattle.blz_entry.specs.declared.range_tail.RangeTail.{RangeTail}
-use Rattle.blz_functions.specs.Leaves.{UnitParts}
+use Rattle.blz_functions.specs.Leaves.{UnitParts, lying}
 use Rattle.blz_functions.specs.Reach.{ReachesUpTo, ReachUpTo}
 use Rattle.blz_functions.specs.RelativeList.{HasPut, IsRelativeIn}
 use Rattle.blz_info.specs.FileSections.{FileSections}
 use Rattle.blz_ranges.specs.declared.span.Span.{Span}
 use Rattle.blz_units.specs.RootKeys.{list_cmp, tail_key}
+use Rattle.blz_units.specs.declared.entry_reaches.CountedEntry.{CountedEntry}
 use Rattle.blz_units.specs.declared.list_reach.ListReach.{ListReach}
 use Rattle.blz_units.specs.declared.list_reach.ListReach.TheVariants.{Unread, UpTo, Fixed}
 use Rattle.blz_units.specs.declared.relative_lists.BasedList.{BasedList}
@@ -47,6 +50,21 @@ IsReach u place Fixed = Unit {0}
 -- what is known of a list, if something is
 abbrev pub MayReach : UnitParts → ℕ → Option BasedList → Type 0
 MayReach u place o = IfSome o (λ list. IsReach u place list.reach)
+
+-- ---- from each entry on
+
+-- An entry tells a range or none, and the list goes on behind it: from each base.
+pub record IsCountedEntry (u : UnitParts) (e : CountedEntry) : Type 0 where
+  pub on : e.place < e.behind
+  pub within : e.behind ≤ list_length (lying u.sections) u.header
+  pub ranges : (more : List Span) → IsRelativeIn u e.behind more → IsRelativeIn u e.place (option_to_list e.span ++ more)
+
+-- The list from a place on counts from its base throughout, and reaches so far; where that is 0, it may have no ranges.
+pub record CountsUpTo (u : UnitParts) (place most : ℕ) : Type 0 where
+  pub spans : List Span
+  pub are : IsRelativeIn u place spans
+  pub within : ReachUpTo most spans
+  pub some : 0 < most → 0 < length spans
 
 -- ---- the lists that are known
 

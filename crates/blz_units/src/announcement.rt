@@ -28,8 +28,8 @@ pub enum UnitRanges {
     Moved(MovedRoot),
     /// Some ranges, with the key of its root where that tells them.
     Spans(Vec<Span>, Option<RootKey>),
-    /// Some ranges, and then those of a list that is kept in chains.
-    Chained(Vec<Span>, ListPlace),
+    /// Some ranges, and then those of a list that is kept in chains, counted from a base.
+    Chained(Vec<Span>, ListPlace, u64),
 }
 
 /// What is told of a unit that is kept: what it announces, and the unit itself where it had to be built.

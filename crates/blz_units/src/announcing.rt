@@ -21,6 +21,7 @@ use crate::announced_lines::ranges_by_lines;
 use crate::announcement::{Announcement, UnitRanges};
 use crate::built_unit::{BuiltUnit, may_be_split};
 use crate::dwarf::{Dwarf, Origin};
+use crate::from_zero::read_from_zero;
 use crate::known_roots::KnownRoots;
 use crate::range_chains::{ListPlace, ToldRanges};
 use crate::root_key::{RootKey, ranges_key};
@@ -99,7 +100,7 @@ fn read_root(
             if has_none(front.as_slice(), place) {
                 return ranges_by_lines(alloc, unit, roots);
             }
-            Ok(UnitRanges::Chained(front, place))
+            Ok(UnitRanges::Chained(front, place, 0))
         },
     }
 }
@@ -122,6 +123,9 @@ fn root_ranges(
     }
     if let Some(moved) = lists.relative.moved(unit, roots)? {
         return Ok(UnitRanges::Moved(moved));
+    }
+    if let Some(told) = read_from_zero(alloc, unit, lists)? {
+        return Ok(told);
     }
     read_root(alloc, unit, roots, lists)
 }

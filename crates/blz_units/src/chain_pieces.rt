@@ -1,10 +1,11 @@
 //! The pieces of chains of ranges that units announce, each kept once.
 ghost use Rattle.std.specs.Prelude.{◌≡◌, ◌+◌, ◌++◌, ◌<◌, ◌≤◌, IfOk, IfSome, length, reverse};
 ghost use Rattle.blz_announced.specs.Units.{KeptRanges, IsWithPart, IsWithUnit};
-ghost use Rattle.blz_units.specs.RangeChains.{chain_at, last_in, list_in, piece_in, ArePieces, HasLast, IsKeptPiece, IsWithin};
+ghost use Rattle.blz_units.specs.RangeChains.{chain_at, counted, last_in, list_in, piece_in, ArePieces, CanCount, CanPutAgain, HasLast, IsKeptPiece, IsPieceAgain, IsWithin};
 
-use crate::range_chains::{ChainPiece, ChainPlace, ListPlace, RangeChains, put_back};
-use blz_announced::KeptRanges;
+use crate::counted_ranges::counted;
+use crate::range_chains::{ChainPiece, ChainPlace, KeptPiece, ListPlace, RangeChains, put_back};
+use blz_announced::{KeptRanges, Shift};
 use blz_entry::Span;
 use std::alloc::{AllocError, Global};
 
@@ -42,6 +43,24 @@ fn with_front(ranges: KeptRanges, front: &[Span]) -> Result<KeptRanges, AllocErr
     Ok(ranges)
 }
 
+/// One part more of the unit that is read, which announces what the keeper of a piece does, counted from a base.
+fn put_again(
+    alloc: Global,
+    ranges: KeptRanges,
+    kept: KeptPiece,
+    base: u64,
+) -> Result<KeptRanges, AllocError>
+    requires { CanPutAgain ranges kept base }
+    ensures { IfOk result (IsPieceAgain ranges kept base) }
+{
+    if kept.base == base {
+        return ranges.again_part(kept.keeper);
+    }
+    let back = kept.base;
+    let (ranges, _) = ranges.shifted_part(alloc, kept.keeper, Shift { back, by: base })?;
+    Ok(ranges)
+}
+
 impl RangeChains {
     /// The ranges of a piece.
     fn piece_spans(&self, alloc: Global, piece: ChainPiece) -> Result<Vec<Span>, AllocError>
@@ -57,14 +76,19 @@ impl RangeChains {
         }
     }
 
-    /// Notes the keeper of a piece.
-    fn note_piece(&mut self, piece: ChainPiece, keeper: Option<usize>) -> Result<(), AllocError>
-        ensures pieces { IfOk result (λ _. (ranges : KeptRanges) → IfSome keeper (IsKeptPiece ranges self.old.chains.items piece) → ArePieces ranges self.old → ArePieces ranges self.new) }
+    /// Notes the keeper of a piece, which announces its ranges as they count from a base.
+    fn note_piece(
+        &mut self,
+        piece: ChainPiece,
+        keeper: Option<usize>,
+        base: u64,
+    ) -> Result<(), AllocError>
+        ensures pieces { IfOk result (λ _. (ranges : KeptRanges) → IfSome keeper (λ k. IsKeptPiece ranges self.old.chains.items piece (record { keeper = k; base = base })) → ArePieces ranges self.old → ArePieces ranges self.new) }
         ensures chains { self.new.chains ≡ self.old.chains }
         ensures places { self.new.places ≡ self.old.places }
     {
         if let Some(keeper) = keeper {
-            self.pieces.insert(piece, keeper)?;
+            self.pieces.insert(piece, KeptPiece { keeper, base })?;
         }
         Ok(())
     }
@@ -75,57 +99,64 @@ impl RangeChains {
         alloc: Global,
         ranges: KeptRanges,
         piece: ChainPiece,
+        base: u64,
     ) -> Result<KeptRanges, AllocError>
         requires within { piece.start + piece.len ≤ length (chain_at self.old.chains.items piece.chain) }
+        requires can { CanCount base (piece_in self.old.chains.items piece) }
         requires pieces { ArePieces ranges self.old }
-        ensures part { IfOk result (IsWithPart ranges (piece_in self.old.chains.items piece)) }
+        ensures part { IfOk result (IsWithPart ranges (counted base (piece_in self.old.chains.items piece))) }
         ensures pieces { IfOk result (λ k. ArePieces k self.new) }
         ensures chains { self.new.chains ≡ self.old.chains }
         ensures places { self.new.places ≡ self.old.places }
     {
         let spans = self.piece_spans(alloc, piece)?;
+        let spans = counted(alloc, spans, base)?;
         let (ranges, keeper) = ranges.with_part(spans.as_slice())?;
-        self.note_piece(piece, keeper)?;
+        self.note_piece(piece, keeper, base)?;
         Ok(ranges)
     }
 
     /// The keeper of a piece, where a unit announced it.
-    fn keeper_of(&self, piece: ChainPiece) -> Option<usize>
+    fn keeper_of(&self, piece: ChainPiece) -> Option<KeptPiece>
         ensures { (ranges : KeptRanges) → ArePieces ranges self.now → IfSome result (IsKeptPiece ranges self.now.chains.items piece) }
     {
         self.pieces.get(&piece).copied()
     }
 
-    /// One part more of the unit that is read, which announces a piece.
+    /// One part more of the unit that is read, which announces a piece, counted from a base.
     fn put_piece(
         &mut self,
         alloc: Global,
         ranges: KeptRanges,
         piece: ChainPiece,
+        base: u64,
     ) -> Result<KeptRanges, AllocError>
         requires within { piece.start + piece.len ≤ length (chain_at self.old.chains.items piece.chain) }
+        requires can { CanCount base (piece_in self.old.chains.items piece) }
         requires pieces { ArePieces ranges self.old }
-        ensures part { IfOk result (IsWithPart ranges (piece_in self.old.chains.items piece)) }
+        ensures part { IfOk result (IsWithPart ranges (counted base (piece_in self.old.chains.items piece))) }
         ensures pieces { IfOk result (λ k. ArePieces k self.new) }
         ensures chains { self.new.chains ≡ self.old.chains }
         ensures places { self.new.places ≡ self.old.places }
     {
         match self.keeper_of(piece) {
-            Some(keeper) => ranges.again_part(keeper),
-            None => self.keep_piece(alloc, ranges, piece),
+            Some(kept) => put_again(alloc, ranges, kept, base),
+            None => self.keep_piece(alloc, ranges, piece, base),
         }
     }
 
-    /// The parts of the unit that is read, which announces the last ranges of a chain.
+    /// The parts of the unit that is read, which announces the last ranges of a chain, counted from a base.
     fn put_pieces(
         &mut self,
         alloc: Global,
         mut ranges: KeptRanges,
         place: ChainPlace,
+        base: u64,
     ) -> Result<KeptRanges, AllocError>
         requires within { HasLast self.old.chains.items place }
+        requires can { CanCount base (last_in self.old.chains.items place) }
         requires pieces { ArePieces ranges self.old }
-        ensures parts { IfOk result (IsWithPart ranges (last_in self.old.chains.items place)) }
+        ensures parts { IfOk result (IsWithPart ranges (counted base (last_in self.old.chains.items place))) }
         ensures pieces { IfOk result (λ k. ArePieces k self.new) }
         ensures chains { self.new.chains ≡ self.old.chains }
         ensures places { self.new.places ≡ self.old.places }
@@ -139,29 +170,32 @@ impl RangeChains {
                 start: left,
                 len,
             };
-            ranges = self.put_piece(alloc, ranges, piece)?;
+            ranges = self.put_piece(alloc, ranges, piece, base)?;
         }
         Ok(ranges)
     }
 
-    /// One unit more, which announces some ranges, and then those of a list that is kept in chains, piece by piece.
+    /// One unit more, which announces some ranges, and then those of a list that is kept in chains, counted from a base,
+    /// piece by piece.
     pub fn announce(
         &mut self,
         alloc: Global,
         ranges: KeptRanges,
         front: &[Span],
         place: ListPlace,
+        base: u64,
     ) -> Result<KeptRanges, AllocError>
         requires within { IsWithin self.old.chains.items place }
+        requires can { CanCount base (list_in self.old.chains.items place) }
         requires pieces { ArePieces ranges self.old }
-        ensures unit { IfOk result (IsWithUnit ranges (front.now ++ list_in self.old.chains.items place)) }
+        ensures unit { IfOk result (IsWithUnit ranges (front.now ++ counted base (list_in self.old.chains.items place))) }
         ensures pieces { IfOk result (λ k. ArePieces k self.new) }
         ensures chains { self.new.chains ≡ self.old.chains }
         ensures places { self.new.places ≡ self.old.places }
     {
         let ranges = with_front(ranges, front)?;
-        let ranges = self.put_pieces(alloc, ranges, place.front)?;
-        let ranges = self.put_pieces(alloc, ranges, place.rest)?;
+        let ranges = self.put_pieces(alloc, ranges, place.front, base)?;
+        let ranges = self.put_pieces(alloc, ranges, place.rest, base)?;
         ranges.end_unit()
     }
 }

@@ -112,10 +112,10 @@ impl KnownRanges {
                 self.roots.note(key, keeper)?;
                 Ok(ranges)
             },
-            UnitRanges::Chained(front, place) => {
+            UnitRanges::Chained(front, place, base) => {
                 self.lists
                     .chains
-                    .announce(alloc, ranges, front.as_slice(), place)
+                    .announce(alloc, ranges, front.as_slice(), place, base)
             },
         }
     }

@@ -29,7 +29,7 @@ fn farther(one: u64, other: u64) -> u64
 }
 
 /// How far a list reaches with a range more, if an entry tells one.
-fn reach_with(most: u64, span: Option<Span>) -> u64
+pub fn reach_with(most: u64, span: Option<Span>) -> u64
     ensures { IsReachWith most span result }
 {
     match span {
@@ -46,7 +46,7 @@ pub fn stays_below(address_size: u8, base: u64, most: u64) -> bool
     most < greatest && base < greatest - most
 }
 
-fn counts_from_base(unit: &OpenUnit<'_, '_>, list: RangeTail) -> bool
+pub fn counts_from_base(unit: &OpenUnit<'_, '_>, list: RangeTail) -> bool
     ensures { result ≡ counts_at (open_view unit.now) list }
 {
     list.counts_from_base(&unit.sections, &unit.header, &unit.root)

@@ -1,4 +1,5 @@
 //! Lists of ranges that stand alone so far, by where they begin.
+use crate::met_lists::MetLists;
 use blz_entry::RangeTail;
 use blz_functions::OpenUnit;
 use std::alloc::{AllocError, Global};
@@ -28,10 +29,11 @@ struct NamedList {
     last: u64,
 }
 
-/// The lists, each under its name.
+/// The lists, each under its name, and those of units by their offsets alone.
 #[derive(Drop)]
 pub struct NamedLists {
     lists: BTreeMap<ListName, NamedList>,
+    met: MetLists,
 }
 
 fn name_of(unit: &OpenUnit<'_, '_>, begin: ListBegin) -> ListName {
@@ -73,6 +75,7 @@ impl NamedLists {
     pub fn new(alloc: Global) -> NamedLists {
         NamedLists {
             lists: BTreeMap::new(alloc),
+            met: MetLists::new(alloc),
         }
     }
 
@@ -109,7 +112,15 @@ impl NamedLists {
             last: last as u64,
         };
         self.lists.insert(name_of(unit, begin), list)?;
+        if !begin.own {
+            self.met.note(unit, begin.tail, last as u64)?;
+        }
         Ok(())
+    }
+
+    /// Whether the list at an offset may run into that of a unit with another base, or begin within it.
+    pub fn meets_other(&self, unit: &OpenUnit<'_, '_>, offset: u64) -> bool {
+        self.met.meets_other(unit, offset)
     }
 
     /// Forgets a list.

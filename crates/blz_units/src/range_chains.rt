@@ -1,15 +1,16 @@
 //! Lists of ranges of roots that run into one another: they end alike, and their ranges are kept once.
 ghost use Rattle.std.specs.Prelude.{◌≡◌, ◌<◌, ◌++◌, [], true, IfOk, IfSome, length, reverse, OnOk};
 ghost use Rattle.blz_announced.specs.Units.{KeptRanges};
-ghost use Rattle.blz_entry.specs.RangeTails.{list_tail};
 ghost use Rattle.blz_functions.specs.Leaves.{ranges_in, spans_behind};
 ghost use Rattle.blz_functions.specs.Opened.{open_view};
 ghost use Rattle.blz_info.specs.FileSections.{FileSections};
 ghost use Rattle.blz_info.specs.Marks.{or_invalid};
 ghost use Rattle.blz_model.specs.Part.{Gives};
 ghost use Rattle.blz_units.specs.RangeChains.{chain_at, AreChains, ArePieces, AreTold, Grow, HasLast, HasNoRest, IsChainOf, IsInChain, IsLastIn, IsNewBefore, IsPassed, IsReadTo, IsWholeChain, KeepsChains, KeepsPieces, MayBePut, MayTell, MayTellList, Puts, ReadsOn, TellsList, TellsRanges};
+ghost use Rattle.blz_units.specs.RelativeLists.{zero_tail};
 ghost use Rattle.blz_units.specs.RootKeys.{tail_key};
 
+use crate::list_reach::from_zero;
 use crate::named_lists::{ListBegin, NamedLists};
 use crate::passed_list::{PassedEntry, PassedList};
 use crate::root_key::{ListKey, tail_key};
@@ -53,7 +54,7 @@ pub struct RangeChains {
     /// The ranges of each chain, from the last to the first.
     pub(crate) chains: Vec<Vec<Span>>,
     /// The keepers of pieces that units announce.
-    pub(crate) pieces: BTreeMap<ChainPiece, usize>,
+    pub(crate) pieces: BTreeMap<ChainPiece, KeptPiece>,
 }
 
 /// Some ranges of a chain, counted from the last range of its lists.
@@ -62,6 +63,13 @@ pub struct ChainPiece {
     pub chain: usize,
     pub start: usize,
     pub len: usize,
+}
+
+/// The keeper of a piece, which announces its ranges as they count from a base.
+#[derive(Clone, Copy)]
+pub struct KeptPiece {
+    pub keeper: usize,
+    pub base: u64,
 }
 
 /// A list of no more entries is read anew each time: that takes less than to keep it.
@@ -437,18 +445,17 @@ impl RangeChains {
         Ok(Some(list.before(rest)?))
     }
 
-    /// What tells the ranges of the list at an offset, where they are not read whole.
+    /// What tells the ranges of a list, where they are not read whole.
     fn tell_list(
         &mut self,
         alloc: Global,
         unit: &OpenUnit<'_, '_>,
-        offset: u64,
+        tail: RangeTail,
     ) -> Result<Option<ToldRanges>>
         requires chains { AreChains (open_view unit.now).sections self.old }
         ensures kept { IfOk result (λ _. KeepsChains (open_view unit.now).sections self.old self.new) }
-        ensures told { MayTell self.new (spans_behind (open_view unit.now) (list_tail unit.now.root offset)) result }
+        ensures told { MayTell self.new (spans_behind (open_view unit.now) tail) result }
     {
-        let tail = RangeTail::at(&unit.root, offset);
         let begin = ListBegin { tail, own: false };
         if let Some(told) = self.tell_known(alloc, unit, begin)? {
             return Ok(Some(told));
@@ -463,6 +470,25 @@ impl RangeChains {
         Ok(self.join(alloc, unit, list, false)?)
     }
 
+    /// Whether the list at an offset may run into that of a unit with another base, or begin within it.
+    pub fn meets_other(&self, unit: &OpenUnit<'_, '_>, offset: u64) -> bool {
+        self.named.meets_other(unit, offset)
+    }
+
+    /// What tells the ranges of the list at an offset where it counts from 0.
+    pub fn tell_from_zero(
+        &mut self,
+        alloc: Global,
+        unit: &OpenUnit<'_, '_>,
+        offset: u64,
+    ) -> Result<Option<ToldRanges>>
+        requires chains { AreChains (open_view unit.now).sections self.old }
+        ensures kept { IfOk result (λ _. KeepsChains (open_view unit.now).sections self.old self.new) }
+        ensures told { MayTell self.new (spans_behind (open_view unit.now) (zero_tail offset)) result }
+    {
+        self.tell_list(alloc, unit, from_zero(offset as usize))
+    }
+
     /// What tells the ranges of the root of a unit. InvalidDwarf exactly where they have no value.
     pub fn ranges_of(&mut self, alloc: Global, unit: &OpenUnit<'_, '_>) -> Result<ToldRanges>
         requires chains { AreChains (open_view unit.now).sections self.old }
@@ -470,7 +496,7 @@ impl RangeChains {
         ensures told { TellsRanges self.new (ranges_in (open_view unit.now) unit.now.root.ranges) result }
     {
         if let Some(offset) = unit.root.ranges.ranges_offset {
-            if let Some(told) = self.tell_list(alloc, unit, offset)? {
+            if let Some(told) = self.tell_list(alloc, unit, RangeTail::at(&unit.root, offset))? {
                 return Ok(told);
             }
         }

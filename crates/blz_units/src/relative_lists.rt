@@ -88,7 +88,7 @@ impl RelativeLists {
     }
 
     /// What is known of the list at an offset.
-    fn find(&self, unit: &OpenUnit<'_, '_>, offset: u64) -> Option<BasedList>
+    pub(crate) fn find(&self, unit: &OpenUnit<'_, '_>, offset: u64) -> Option<BasedList>
         requires { AreRelative (open_view unit.now).sections self.now }
         ensures { MayReach (open_view unit.now) offset result }
     {
@@ -97,7 +97,7 @@ impl RelativeLists {
     }
 
     /// Notes what is known of the list at an offset.
-    fn keep(
+    pub(crate) fn keep(
         &mut self,
         unit: &OpenUnit<'_, '_>,
         offset: u64,
