@@ -271,14 +271,14 @@ def units_of_one_program_of_rows_with_ranges(n):
 # ---- units of one line program, of which each is asked
 
 
-def asked_units_of_one_program(n, program, attributes=(), value=None):
+def asked_units_of_one_program(n, program, attributes=(), value=None, **parts):
     """Units, each with a function, of which each is asked for a line; files are counted from 0, and rows are of file 1."""
     shapes = {ROOT: root([*RANGE, LINES, *attributes], 1), FUNCTION: subprogram(RANGE)}
     units = b"".join(
         unit(entry(shapes, ROOT, BASE + 4 * k, 4, 0, *([value(k)] if value else []))
              + entry(shapes, FUNCTION, BASE + 4 * k, 4) + b"\0") for k in range(n)
     )
-    return Attack(dwarf(shapes, units, line=program), [BASE + 4 * k for k in range(n)])
+    return Attack(dwarf(shapes, units, line=program, **parts), [BASE + 4 * k for k in range(n)])
 
 
 @shape
@@ -290,6 +290,15 @@ def asked_units_of_one_program_of_rows(n):
 def asked_units_of_one_program_of_rows_with_string_offsets_of_each_unit(n):
     rows = line_program(["/p"], [("a.c", 0), ("b.c", 0)], many_rows(16 * n))
     return asked_units_of_one_program(n, rows, [(DW_AT_STR_OFFSETS_BASE, DW_FORM_SEC_OFFSET)], lambda k: k)
+
+
+@shape
+def asked_units_of_one_program_of_rows_with_string_offsets_of_each_unit_and_a_name_by_index(n):
+    paths = bytes([1, DW_LNCT_PATH, DW_FORM_STRING, 1]) + text("/p") + bytes([1, DW_LNCT_PATH, DW_FORM_STRX1, 1, 0])
+    rows = line_program_of(paths, SET_FILE_0 + many_rows(16 * n))
+    offsets = with_length(struct.pack("<HH", 5, 0) + bytes(4 * n))
+    bases = [(DW_AT_STR_OFFSETS_BASE, DW_FORM_SEC_OFFSET)]
+    return asked_units_of_one_program(n, rows, bases, lambda k: 8 + 4 * k, str_offsets=offsets, str=text("a.c"))
 
 
 @shape
