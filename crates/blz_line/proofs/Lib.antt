@@ -8,3 +8,4 @@ pub mod RisingRows
 pub mod UnitFiles
 pub mod AlikeRuns
 pub mod Indices
+pub mod RunOrder

@@ -15,6 +15,6 @@ pub mod ProgramRuns
 pub mod ProgramTables
 pub mod RowOrder
 pub mod Lookups
-pub mod LinesFields
+pub mod SequenceFields
 pub mod RunFields
 pub mod TableView

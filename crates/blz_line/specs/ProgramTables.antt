@@ -1,6 +1,6 @@
 -- The table of a line program, of which each unit that reads it so has its own: its sequences, and its files without the
 -- names of a unit (DWARF 5 section 6.2).
-use Rattle.std.specs.Prelude.{ℕ, Bool, List, length, map, Option, Some, Result}
+use Rattle.std.specs.Prelude.{◌≡◌, ℕ, Bool, List, length, map, Option, Some, Result}
 use Rattle.std.specs.Arc.{arc_value}
 use Rattle.blz_error.specs.Fault.{Fault}
 use Rattle.blz_error.specs.declared.kind.ErrorKind.TheVariants.{InvalidDwarf}
@@ -19,7 +19,7 @@ use Rattle.blz_line.specs.declared.files.UnitNames.{UnitNames}
 use Rattle.blz_line.specs.FileNames.{naming_of, all_files}
 use Rattle.blz_line.specs.Lookups.{spans_of}
 use Rattle.blz_line.specs.ProgramFiles.{files_by, first_of, nameless}
-use Rattle.blz_line.specs.ProgramRuns.{RunParts, run_at}
+use Rattle.blz_line.specs.ProgramRuns.{OrderedRun, RunParts, run_at}
 use Rattle.blz_line.specs.Sequences.{Sequence}
 use Rattle.blz_line.specs.UnitLines.{LineTable}
 
@@ -36,6 +36,11 @@ pub record OrderedProgram : Type 0 where
 -- The order of its sequences was accepted as it is told.
 abbrev pub IsOrderedBy : Option (List Key → List ℕ) → OrderedProgram → Type 0
 IsOrderedBy told p = IsAccepted told (map begin_key (spans_of p.table.sequences)) p.ordered
+
+-- They are the sequences of a run, in its order.
+pub record IsOrderedAs (run : OrderedRun) (p : OrderedProgram) : Type 0 where
+  pub sequences : p.table.sequences ≡ run.run.sequences
+  pub ordered : p.ordered ≡ run.ordered
 
 -- the files of a run with the strings of a unit, each of which has to be there
 abbrev pub run_files : Sections → UnitHeader → UnitRoot → RunParts → Option (List FilePlaces)

@@ -10,6 +10,7 @@ mod lines;
 mod lookup;
 mod naming;
 mod opcode;
+mod ordered_sequences;
 mod paths;
 mod program;
 mod program_lines;

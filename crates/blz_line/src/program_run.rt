@@ -3,49 +3,55 @@ ghost use Rattle.std.specs.Prelude.{◌≡◌, IfOk};
 ghost use Rattle.blz_info.specs.Contents.{section_view};
 ghost use Rattle.blz_line.specs.HeaderFacts.{IsInside, IsReady};
 ghost use Rattle.blz_line.specs.Headers.{rules_of};
-ghost use Rattle.blz_line.specs.ProgramRuns.{by_index, run_at, run_of, GivesRun};
+ghost use Rattle.blz_line.specs.ProgramRuns.{by_index, run_at, run_of, GivesRun, IsRunOrderedBy};
 ghost use Rattle.blz_line.specs.ProgramTables.{run_files, run_first, GivesFiles};
-ghost use Rattle.blz_line.specs.RowOrder.{AreRising};
 
 use crate::files::ProgramFiles;
 use crate::header::{LineHeader, header_at};
 use crate::naming::Namer;
+use crate::ordered_sequences::OrderedSequences;
 use crate::paths::{FileEntry, has_index};
 use crate::program::{Machine, run};
-use crate::row::LineSequence;
 use crate::table::Table;
+use blz_bytes::Orders;
 use blz_entry::{Section, Sections, UnitHeader, UnitRoot, cut};
 use blz_error::Result;
-use std::alloc::Global;
+use std::alloc::{AllocError, Global};
 use std::marker::Model;
+use std::ops::Deref;
+use std::sync::Arc;
 
 /// The sequences of a line program, and the paths of its files: the same for each unit whose addresses have one size.
 #[derive(Drop)]
 pub struct ProgramRun {
     version: u16,
-    directories: Table<FileEntry>,
-    sequences: Vec<LineSequence>,
-    entries: Table<FileEntry>,
+    directories: Arc<Table<FileEntry>>,
+    rows: OrderedSequences,
+    entries: Arc<Table<FileEntry>>,
 }
 
 impl Model for ProgramRun {
-    ghost use Rattle.blz_line.specs.ProgramRuns.{RunParts};
+    ghost use Rattle.blz_line.specs.ProgramRuns.{OrderedRun};
 
-    ghost Value = { RunParts };
+    ghost Value = { OrderedRun };
 
-    ghost use Rattle.blz_line.specs.RunFields.{run_value, HasRisingRows};
+    ghost use Rattle.blz_line.specs.RunFields.{run_value};
 
     ghost view = { run_value };
-
-    ghost invariant = { HasRisingRows };
 }
 
-/// Runs the program of a header.
+/// Runs the program of a header, and asks for an order of its sequences.
 #[tactic(auto, unfolding(crate::specs::ProgramRuns::run_of, crate::specs::UnitLines::program_of))]
-fn run_of(alloc: Global, section: &Section<'_, '_>, header: LineHeader) -> Result<ProgramRun>
+fn run_of<O: Orders>(
+    alloc: Global,
+    orders: &mut O,
+    section: &Section<'_, '_>,
+    header: LineHeader,
+) -> Result<ProgramRun>
     requires ready { IsReady (rules_of header) }
     requires inside { IsInside header section.now.bytes.now }
-    ensures { GivesRun (run_of (section_view section.now) header) result }
+    ensures value { GivesRun (run_of (section_view section.now) header) result }
+    ensures accepted { IfOk result (IsRunOrderedBy O.pair_places) }
 {
     let rules = header.rules();
     let program = header.program;
@@ -55,35 +61,74 @@ fn run_of(alloc: Global, section: &Section<'_, '_>, header: LineHeader) -> Resul
     let mut machine = Machine::new(alloc, files);
     run(alloc, rules, counts, &line, program, &mut machine)?;
     let (sequences, entries) = machine.into_parts();
+    let rows = OrderedSequences::build(alloc, orders, sequences)?;
+    let directories = Arc::new(alloc, directories)?;
+    let entries = Arc::new(alloc, entries)?;
     Ok(ProgramRun {
         version: rules.version,
         directories,
-        sequences,
+        rows,
         entries,
     })
 }
 
 impl ProgramRun {
-    /// Runs the line program at an offset of `.debug_line`; before version 5 addresses have the given size. InvalidDwarf
-    /// exactly where that has no value.
+    /// Runs the line program at an offset of `.debug_line`, and asks for an order of its sequences; before version 5
+    /// addresses have the given size. InvalidDwarf exactly where the program has no value.
     #[tactic(auto, unfolding(crate::specs::ProgramRuns::run_at))]
-    pub fn parse(
+    pub fn parse<O: Orders>(
         alloc: Global,
+        orders: &mut O,
         section: &Section<'_, '_>,
         at: u64,
         address_size: u8,
     ) -> Result<ProgramRun>
-        ensures { GivesRun (run_at (section_view section.now) at address_size) result }
+        ensures value { GivesRun (run_at (section_view section.now) at address_size) result }
+        ensures accepted { IfOk result (IsRunOrderedBy O.pair_places) }
     {
         let header = header_at(alloc, section, at as usize, address_size)?;
-        run_of(alloc, section, header)
+        run_of(alloc, orders, section, header)
+    }
+
+    /// The same run once more.
+    pub fn share(&self) -> std::result::Result<ProgramRun, AllocError>
+        ensures { IfOk result (λ r. r ≡ self.now) }
+    {
+        self.with_rows(self.rows.share()?)
+    }
+
+    /// The same run with the order that is told now, which is kept once where it is accepted as before.
+    pub fn asked_again<O: Orders>(
+        &self,
+        alloc: Global,
+        orders: &mut O,
+    ) -> std::result::Result<ProgramRun, AllocError>
+        ensures run { IfOk result (λ r. r.run ≡ self.now.run) }
+        ensures accepted { IfOk result (IsRunOrderedBy O.pair_places) }
+    {
+        self.with_rows(self.rows.asked_again(alloc, orders)?)
+    }
+
+    /// The same run with its sequences in an order.
+    fn with_rows(&self, rows: OrderedSequences) -> std::result::Result<ProgramRun, AllocError>
+        requires { rows.sequences ≡ self.now.run.sequences }
+        ensures { IfOk result (λ r. r ≡ record { run = self.now.run; ordered = rows.ordered }) }
+    {
+        let directories = Arc::try_clone(&self.directories)?;
+        let entries = Arc::try_clone(&self.entries)?;
+        Ok(ProgramRun {
+            version: self.version,
+            directories,
+            rows,
+            entries,
+        })
     }
 
     /// Whether the names of the files may need the string offsets of a unit.
     pub fn is_by_index(&self) -> bool
-        ensures { result ≡ by_index self.now }
+        ensures { result ≡ by_index self.now.run }
     {
-        has_index(&self.directories) || has_index(&self.entries)
+        has_index(self.directories.deref()) || has_index(self.entries.deref())
     }
 
     /// The files with the strings of a unit, but without its names; InvalidDwarf where a path or a directory cannot be read.
@@ -94,24 +139,24 @@ impl ProgramRun {
         unit: &UnitHeader,
         root: &UnitRoot,
     ) -> Result<ProgramFiles>
-        ensures table { GivesFiles (run_files sections.now unit.now root.now self.now) result }
-        ensures first { IfOk result (λ f. f.first ≡ run_first self.now) }
+        ensures table { GivesFiles (run_files sections.now unit.now root.now self.now.run) result }
+        ensures first { IfOk result (λ f. f.first ≡ run_first self.now.run) }
     {
         let namer = Namer {
             sections,
             unit,
             root,
             version: self.version,
-            directories: &self.directories,
+            directories: self.directories.deref(),
         };
-        namer.files_of(alloc, &self.entries)
+        namer.files_of(alloc, self.entries.deref())
     }
 
-    /// The sequences, in the order of the program.
-    pub(crate) fn into_sequences(self) -> Vec<LineSequence>
-        ensures sequences { result.items ≡ self.sequences }
-        ensures rising { AreRising result.items }
+    /// The sequences, and their order.
+    pub(crate) fn rows(&self) -> std::result::Result<OrderedSequences, AllocError>
+        ensures sequences { IfOk result (λ l. l.sequences ≡ self.now.run.sequences) }
+        ensures ordered { IfOk result (λ l. l.ordered ≡ self.now.ordered) }
     {
-        self.sequences
+        self.rows.share()
     }
 }

@@ -31,4 +31,5 @@ pub mod EntryReaches
 pub mod MovedRoots
 pub mod FromZero
 pub mod SharedLists
+pub mod SharedRuns
 pub mod SharedPrograms

@@ -1,7 +1,7 @@
 -- What a line program gives depends on how it is read alone.
 use Rattle.std.proofs.Common.{◌≡◌, ℕ, Bool, true, false, Option, Some, None, refl, sym, ap, subst, ◌∙◌}
-use Rattle.std.specs.Prelude.{option_map, Result, Ok, Err}
-use Rattle.std.specs.BTreeMap.{IsEmpty, Updates}
+use Rattle.std.specs.Prelude.{option_map, IfOk, IfSome, Result, Ok, Err}
+use Rattle.std.specs.BTreeMap.{Updates}
 use Rattle.std.proofs.Math.Path.{fun_ext}
 use Rattle.blz_error.specs.Fault.{Fault}
 use Rattle.blz_error.specs.declared.kind.ErrorKind.{ErrorKind}
@@ -19,12 +19,13 @@ use Rattle.blz_line.specs.ProgramRuns.{RunParts, by_index, run_at}
 use Rattle.blz_line.specs.ProgramTables.{OrderedProgram, ProgramTable, program_at, table_in}
 use Rattle.blz_line.proofs.AlikeRuns.{plain_table, table_by, table_is, table_same}
 use Rattle.blz_units.specs.ProgramKeys.{for_all, key_by, program_cmp, strings_key, IsReader}
-use Rattle.blz_units.specs.SharedPrograms.{table_of, ArePrograms, Finds, IsProgramAt, IsReadAt, IsReadOrNone}
+use Rattle.blz_units.specs.SharedPrograms.{table_of, ArePrograms, ButForMemory, Finds, IsProgramAt, IsReadAt, IsReadOrNone}
+use Rattle.blz_units.specs.SharedRuns.{AreRuns}
 use Rattle.blz_units.specs.declared.program_key.ProgramKey.{ProgramKey}
 use Rattle.blz_units.specs.declared.program_key.StringsKey.{StringsKey}
 use Rattle.blz_units.specs.declared.read_program.ReadProgram.{ReadProgram}
 use Rattle.blz_units.specs.declared.shared_programs.SharedPrograms.{SharedPrograms}
-use Rattle.blz_units.proofs.KeptValues.{if_empty, more_kept}
+use Rattle.blz_units.proofs.KeptValues.{more_kept}
 use Rattle.blz_units.proofs.KeyOrder.{exact_program}
 use Rattle.blz_units.proofs.Rooted.{bind_same}
 
@@ -91,14 +92,18 @@ none_read s h r at none = record {
 
 -- ---- what is kept
 
-pub no_programs : (s : FileSections) (programs : SharedPrograms) → IsEmpty programs.kept → ArePrograms s programs
-no_programs s programs e = if_empty program_cmp programs.kept (IsProgramAt s) e
+pub one_program_more : (s : FileSections) (old new : SharedPrograms) (key : ProgramKey) (program : Option OrderedProgram) → Updates program_cmp old.kept new.kept key (Some program) → new.runs ≡ old.runs → IsProgramAt s key program → ArePrograms s old → ArePrograms s new
+one_program_more s old new key program u same here are = record {
+  kept = more_kept program_cmp exact_program old.kept new.kept key program (IsProgramAt s) u here are.kept;
+  runs = subst (AreRuns s.line) (sym same) are.runs;
+}
 
-pub one_program_more : (s : FileSections) (old new : SharedPrograms) (key : ProgramKey) (program : Option OrderedProgram) → Updates program_cmp old.kept new.kept key (Some program) → IsProgramAt s key program → ArePrograms s old → ArePrograms s new
-one_program_more s old new key program u here are = more_kept program_cmp exact_program old.kept new.kept key program (IsProgramAt s) u here are
+pub programs_same : (s : FileSections) (old new : SharedPrograms) → new.kept.entries ≡ old.kept.entries → new.runs ≡ old.runs → ArePrograms s old → ArePrograms s new
+programs_same s old new e same are = record { kept = λ key. rw e (are.kept key); runs = subst (AreRuns s.line) (sym same) are.runs }
 
-pub programs_same : (s : FileSections) (old new : SharedPrograms) → new.kept.entries ≡ old.kept.entries → ArePrograms s old → ArePrograms s new
-programs_same s old new e are = λ key. rw e (are key)
+-- the same programs beside other runs
+pub other_runs : (s : FileSections) (old new : SharedPrograms) → new.kept ≡ old.kept → AreRuns s.line new.runs → ArePrograms s old → ArePrograms s new
+other_runs s old new same runs are = record { kept = λ key. rw same (are.kept key); runs = runs }
 
 -- ---- what was read
 
@@ -113,6 +118,18 @@ none_given (Some y) k e = absurd cc
 pub read_is : {T A : Type 0} (view : T → A) (o : Option A) (read : Result T Fault) (got : Option T) → Gives view read (or_mark o InvalidDwarf) → IsReadOrNone read got → o ≡ option_map view got
 read_is view o (Ok x) got gives is = some_given o (view x) gives ∙ ap (option_map view) (sym is)
 read_is view o (Err e) got gives is = none_given o e.kind (gives is.1) ∙ ap (option_map view) (sym is.0)
+
+pub but_more : {T : Type 0} (P Q : T → Type 0) (result : Result T Fault) → ((x : T) → P x → Q x) → ButForMemory P result → ButForMemory Q result
+but_more P Q (Ok x) more h = more x h
+but_more P Q (Err e) more h = h
+
+pub if_read : {T : Type 0} (P : T → Type 0) (read : Result T Fault) (got : Option T) → IsReadOrNone read got → IfOk read P → IfSome got P
+if_read P (Ok x) got is p = rw is p
+if_read P (Err e) got is p = rw is.0 tt
+
+pub some_read : {T : Type 0} (P : T → Type 0) (read : Result T Fault) (result : Result (Option T) Fault) → ButForMemory (IsReadOrNone read) result → IfOk read P → IfOk result (λ got. IfSome got P)
+some_read P read (Ok got) h p = if_read P read got h p
+some_read P read (Err e) h p = tt
 
 -- ---- what a unit finds
 

@@ -18,6 +18,7 @@ pub mod UnitAnswers
 pub mod UnitSites
 pub mod LongEntries
 pub mod SharedLists
+pub mod SharedRuns
 pub mod SharedPrograms
 pub mod KeptParts
 pub mod KeptAnswers

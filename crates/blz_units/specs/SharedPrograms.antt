@@ -1,6 +1,7 @@
 -- The line programs that units share: each is what every unit finds that reads it alike.
-use Rattle.std.specs.Prelude.{◌≡◌, ◌≢◌, ℕ, List, [], Option, None, Some, IfSome, MatchResult, Result, Ok, Err, option_map}
+use Rattle.std.specs.Prelude.{◌≡◌, ◌≢◌, ℕ, List, [], Option, None, Some, IfOk, IfSome, MatchResult, Result, Ok, Err, option_map}
 use Rattle.std.specs.BTreeMap.{get}
+use Rattle.blz_bytes.specs.declared.orders.Key.{Key}
 use Rattle.blz_entry.specs.declared.root.UnitRoot.{UnitRoot}
 use Rattle.blz_error.specs.Fault.{Fault}
 use Rattle.blz_error.specs.declared.kind.ErrorKind.TheVariants.{OutOfMemory}
@@ -8,9 +9,11 @@ use Rattle.blz_functions.specs.Leaves.{lying}
 use Rattle.blz_info.specs.FileSections.{FileSections}
 use Rattle.blz_info.specs.declared.units.UnitHeader.{UnitHeader}
 use Rattle.blz_line.specs.Lookups.{spans_of}
-use Rattle.blz_line.specs.ProgramTables.{OrderedProgram, ProgramTable, program_at}
+use Rattle.blz_line.specs.ProgramRuns.{OrderedRun, IsRunOrderedBy}
+use Rattle.blz_line.specs.ProgramTables.{OrderedProgram, ProgramTable, program_at, IsOrderedBy}
 use Rattle.blz_ranges.specs.declared.span.Span.{Span}
 use Rattle.blz_units.specs.ProgramKeys.{program_cmp, IsReader}
+use Rattle.blz_units.specs.SharedRuns.{AreRuns}
 use Rattle.blz_units.specs.declared.program_key.ProgramKey.{ProgramKey}
 use Rattle.blz_units.specs.declared.read_program.ReadProgram.{ReadProgram}
 use Rattle.blz_units.specs.declared.shared_programs.SharedPrograms.{SharedPrograms}
@@ -32,8 +35,9 @@ Finds s h r at program = program_at (lying s) h r at ≡ table_of program
 abbrev pub IsProgramAt : FileSections → ProgramKey → Option OrderedProgram → Type 0
 IsProgramAt s key program = (h : UnitHeader) (r : UnitRoot) → IsReader key h r → Finds s h r key.offset program
 
-abbrev pub ArePrograms : FileSections → SharedPrograms → Type 0
-ArePrograms s programs = (key : ProgramKey) → IfSome (get program_cmp programs.kept key) (IsProgramAt s key)
+pub record ArePrograms (s : FileSections) (programs : SharedPrograms) : Type 0 where
+  pub kept : (key : ProgramKey) → IfSome (get program_cmp programs.kept key) (IsProgramAt s key)
+  pub runs : AreRuns s.line programs.runs
 
 -- A unit finds a program wherever what is kept stands.
 abbrev pub IsFound : SharedPrograms → UnitHeader → UnitRoot → ℕ → Option OrderedProgram → Type 0
@@ -44,6 +48,10 @@ pub record IsReadAt (s : FileSections) (h : UnitHeader) (r : UnitRoot) (at : ℕ
   pub offset : at ≡ read.key.offset
   pub reader : IsReader read.key h r
   pub is : IsProgramAt s read.key read.program
+
+-- Where the order of a run was accepted as it is told, that of its program was.
+abbrev pub KeepsOrder : Option OrderedRun → Result ReadProgram Fault → Type 0
+KeepsOrder run result = (told : Option (List Key → List ℕ)) → IfSome run (IsRunOrderedBy told) → IfOk result (λ (r : ReadProgram). IfSome r.program (IsOrderedBy told))
 
 -- Something is what was read, or none where that has no value.
 abbrev pub IsReadOrNone : {T : Type 0} → Result T Fault → Option T → Type 0

@@ -34,6 +34,7 @@ pub mod shared_lists;
 pub mod shared_package;
 pub mod shared_parts;
 pub mod shared_programs;
+mod shared_runs;
 mod shared_tables;
 mod sized_lists;
 pub mod unit_list;

@@ -1,14 +1,16 @@
 //! A line program, read for all units that read it alike.
 ghost use Rattle.std.specs.Prelude.{◌≡◌, IfOk, IfSome};
+ghost use Rattle.blz_info.specs.Contents.{section_view};
 ghost use Rattle.blz_info.specs.FileSections.{sections_view};
-ghost use Rattle.blz_line.specs.ProgramRuns.{by_index};
+ghost use Rattle.blz_line.specs.ProgramRuns.{by_index, run_at, IsRunOrderedBy};
 ghost use Rattle.blz_line.specs.ProgramTables.{IsOrderedBy};
 ghost use Rattle.blz_units.specs.ProgramKeys.{key_by};
-ghost use Rattle.blz_units.specs.SharedPrograms.{ButForMemory, IsReadAt, IsReadOrNone};
+ghost use Rattle.blz_units.specs.SharedPrograms.{ButForMemory, IsReadAt, IsReadOrNone, KeepsOrder};
+ghost use Rattle.blz_units.specs.SharedRuns.{IsRunOf};
 
 use crate::program_key::ProgramKey;
 use blz_bytes::Orders;
-use blz_entry::{Sections, UnitHeader, UnitRoot};
+use blz_entry::{Section, Sections, UnitHeader, UnitRoot};
 use blz_error::{ErrorKind, Result};
 use blz_line::{ProgramLines, ProgramRun};
 use std::alloc::Global;
@@ -34,9 +36,23 @@ fn or_none<T: Drop>(read: Result<T>) -> Result<Option<T>>
     }
 }
 
+/// The run of a line program; none where it has no value.
+pub fn run_or_none<O: Orders>(
+    alloc: Global,
+    orders: &mut O,
+    section: &Section<'_, '_>,
+    header: &UnitHeader,
+    at: u64,
+) -> Result<Option<ProgramRun>>
+    ensures value { ButForMemory (IsRunOf (section_view section.now) header.now at) result }
+    ensures accepted { IfOk result (λ run. IfSome run (IsRunOrderedBy O.pair_places)) }
+{
+    or_none(ProgramRun::parse(alloc, orders, section, at, header.address_size))
+}
+
 /// The units that find what one does in a run.
 fn key_of(run: &ProgramRun, header: &UnitHeader, root: &UnitRoot, at: u64) -> ProgramKey
-    ensures { result ≡ key_by (by_index run.now) header.now root.now at }
+    ensures { result ≡ key_by (by_index run.now.run) header.now root.now at }
 {
     if run.is_by_index() {
         ProgramKey::for_unit(header, root, at)
@@ -58,15 +74,31 @@ impl ReadProgram {
         ensures value { ButForMemory (IsReadAt (sections_view sections.now) header.now root.now at) result }
         ensures accepted { IfOk result (λ r. IfSome r.program (IsOrderedBy O.pair_places)) }
     {
-        let run = ProgramRun::parse(alloc, &sections.line, at, header.address_size);
-        let Some(run) = or_none(run)? else {
+        let run = run_or_none(alloc, orders, &sections.line, header, at)?;
+        ReadProgram::of_run(alloc, sections, header, root, at, run)
+    }
+
+    /// The same by its run.
+    pub fn of_run(
+        alloc: Global,
+        sections: &Sections<'_, '_>,
+        header: &UnitHeader,
+        root: &UnitRoot,
+        at: u64,
+        run: Option<ProgramRun>,
+    ) -> Result<ReadProgram>
+        requires { IsRunOf (section_view sections.now.line) header.now at run }
+        ensures value { ButForMemory (IsReadAt (sections_view sections.now) header.now root.now at) result }
+        ensures order { KeepsOrder run result }
+    {
+        let Some(run) = run else {
             return Ok(ReadProgram {
                 key: ProgramKey::for_all(header, at),
                 program: None,
             });
         };
         let key = key_of(&run, header, root, at);
-        let program = ProgramLines::of_run(alloc, orders, sections, header, root, run);
+        let program = ProgramLines::of_run(alloc, sections, header, root, &run);
         Ok(ReadProgram {
             key,
             program: or_none(program)?,

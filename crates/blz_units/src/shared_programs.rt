@@ -1,19 +1,23 @@
 //! Line programs, read once for all units that read them alike.
 ghost use Rattle.std.specs.Prelude.{map, option_map, IfOk, IfSome};
+ghost use Rattle.blz_info.specs.Contents.{section_view};
 ghost use Rattle.blz_info.specs.FileSections.{FileSections, sections_view};
 ghost use Rattle.blz_line.specs.Lookups.{spans_of};
+ghost use Rattle.blz_line.specs.ProgramRuns.{IsRunOrderedBy};
 ghost use Rattle.blz_line.specs.ProgramTables.{program_at, GivesTable, IsOrderedBy};
 ghost use Rattle.blz_line.specs.UnitLines.{OrderedLines, lines_of};
 ghost use Rattle.blz_model.specs.Part.{Gives};
 ghost use Rattle.blz_ranges.specs.Keyed.{IsAccepted, begin_key};
-ghost use Rattle.blz_units.specs.SharedPrograms.{ArePrograms, IsFound, IsProgramAt};
+ghost use Rattle.blz_units.specs.SharedPrograms.{ArePrograms, ButForMemory, IsFound, IsProgramAt};
+ghost use Rattle.blz_units.specs.SharedRuns.{IsRunOf};
 
 use crate::program_key::ProgramKey;
 use crate::read_program::ReadProgram;
+use crate::shared_runs::SharedRuns;
 use blz_bytes::Orders;
 use blz_entry::{Sections, UnitHeader, UnitRoot, invalid};
 use blz_error::Result;
-use blz_line::{Lines, ProgramLines};
+use blz_line::{Lines, ProgramLines, ProgramRun};
 use std::alloc::{AllocError, Global};
 use std::collections::BTreeMap;
 
@@ -21,6 +25,8 @@ use std::collections::BTreeMap;
 #[derive(Drop)]
 pub struct SharedPrograms {
     pub kept: BTreeMap<ProgramKey, Option<ProgramLines>>,
+    /// What those give of whose files a name is told by an index.
+    pub runs: SharedRuns,
 }
 
 impl SharedPrograms {
@@ -30,6 +36,7 @@ impl SharedPrograms {
     {
         SharedPrograms {
             kept: BTreeMap::new(alloc),
+            runs: SharedRuns::new(alloc),
         }
     }
 
@@ -55,6 +62,23 @@ impl SharedPrograms {
         }
     }
 
+    /// What the line program at an offset gives before the strings of its files are read; none where it has no value.
+    fn run<O: Orders>(
+        &mut self,
+        alloc: Global,
+        orders: &mut O,
+        sections: &Sections<'_, '_>,
+        header: &UnitHeader,
+        at: u64,
+    ) -> Result<Option<ProgramRun>>
+        requires { ArePrograms (sections_view sections.now) self.old }
+        ensures value { ButForMemory (IsRunOf (section_view sections.now.line) header.now at) result }
+        ensures accepted { IfOk result (λ run. IfSome run (IsRunOrderedBy O.pair_places)) }
+        ensures kept { ArePrograms (sections_view sections.now) self.new }
+    {
+        self.runs.run(alloc, orders, &sections.line, header, at)
+    }
+
     /// Reads a program that is not kept, and keeps what it gives.
     fn read_anew<O: Orders>(
         &mut self,
@@ -70,8 +94,9 @@ impl SharedPrograms {
         ensures accepted { IfOk result (IsOrderedBy O.pair_places) }
         ensures kept { ArePrograms (sections_view sections.now) self.new }
     {
-        let ReadProgram { key, program } = ReadProgram::read(
-            alloc, orders, sections, header, root, at,
+        let run = self.run(alloc, orders, sections, header, at)?;
+        let ReadProgram { key, program } = ReadProgram::of_run(
+            alloc, sections, header, root, at, run,
         )?;
         let Some(program) = program else {
             self.keep(key, None)?;

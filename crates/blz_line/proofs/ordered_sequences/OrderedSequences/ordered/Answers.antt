@@ -3,7 +3,7 @@ use Rattle.std.specs.declared.alloc.Global.{Global}
 use Rattle.std.specs.declared.vec.Vec.{Vec}
 use Rattle.blz_line.specs.Lookups.{spans_of}
 use Rattle.blz_line.specs.declared.row.LineSequence.{LineSequence}
-use Rattle.blz_line.proofs.program_lines.ProgramLines.ordered.Goals as goal
+use Rattle.blz_line.proofs.ordered_sequences.OrderedSequences.ordered.Goals as goal
 
 pub invariant_of-result : goal.invariant_of-result
 invariant_of-result g c = record {

@@ -1,6 +1,6 @@
 use Rattle.std.proofs.Common.{◌≡◌, ℕ, zero, suc, ◌+◌, List, [], ◌∷◌, ◌++◌, ap, sym, ◌∙◌, arith}
 use Rattle.std.specs.List.{range_with_len}
-use Rattle.blz_line.proofs.program_lines.counting.Goals as goal
+use Rattle.blz_line.proofs.ordered_sequences.counting.Goals as goal
 
 one_more : (a n j : ℕ) → a + n ≡ j → range_with_len a (suc n) ≡ range_with_len a n ++ j ∷ []
 one_more a zero j e = let q : a ≡ j = omega arith in ap (λ (x : ℕ). x ∷ []) q
