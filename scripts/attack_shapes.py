@@ -91,8 +91,9 @@ def units_of_many_flags(n):
     return Attack(dwarf(shapes, unit(entry(shapes, ROOT)) * (n // 6 + 1)), [0])
 
 
-import attack_ranges  # noqa: E402,F401  its shapes stand here in the list
-import attack_references  # noqa: E402,F401  and its own
+import attack_ranges  # noqa: E402,F401  their shapes stand here in the list
+import attack_unit_ranges  # noqa: E402,F401
+import attack_references  # noqa: E402,F401
 
 # ---- units that share a table or a program
 
