@@ -55,7 +55,11 @@ run_at s at address_size = do
   header ← header_at s at address_size
   run_of s header
 
--- A call gives a run, or InvalidDwarf exactly where there is none.
+-- A call gives what a program does, or InvalidDwarf exactly where there is none.
+abbrev pub GivesPlainRun : Option RunParts → Result RunParts Fault → Type 0
+GivesPlainRun run result = Gives (λ r. r) result (or_mark run InvalidDwarf)
+
+-- the same with an order
 abbrev pub GivesRun : Option RunParts → Result OrderedRun Fault → Type 0
 GivesRun run result = Gives (λ (r : OrderedRun). r.run) result (or_mark run InvalidDwarf)
 

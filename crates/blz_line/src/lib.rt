@@ -12,6 +12,7 @@ mod naming;
 mod opcode;
 mod ordered_sequences;
 mod paths;
+mod plain_run;
 mod program;
 mod program_lines;
 mod program_run;

@@ -1,20 +1,18 @@
 //! Line programs that were run, before the strings of their files are read.
 ghost use Rattle.std.specs.Prelude.{◌≡◌, IfOk};
 ghost use Rattle.blz_info.specs.Contents.{section_view};
-ghost use Rattle.blz_line.specs.HeaderFacts.{IsInside, IsReady};
-ghost use Rattle.blz_line.specs.Headers.{rules_of};
-ghost use Rattle.blz_line.specs.ProgramRuns.{by_index, run_at, run_of, GivesRun, IsRunOrderedBy};
+ghost use Rattle.blz_line.specs.ProgramRuns.{by_index, run_at, GivesRun, IsRunOrderedBy};
 ghost use Rattle.blz_line.specs.ProgramTables.{run_files, run_first, GivesFiles};
+ghost use Rattle.blz_line.specs.RowOrder.{AreRising};
 
 use crate::files::ProgramFiles;
-use crate::header::{LineHeader, header_at};
 use crate::naming::Namer;
 use crate::ordered_sequences::OrderedSequences;
 use crate::paths::{FileEntry, has_index};
-use crate::program::{Machine, run};
+use crate::plain_run::PlainRun;
 use crate::table::Table;
 use blz_bytes::Orders;
-use blz_entry::{Section, Sections, UnitHeader, UnitRoot, cut};
+use blz_entry::{Section, Sections, UnitHeader, UnitRoot};
 use blz_error::Result;
 use std::alloc::{AllocError, Global};
 use std::marker::Model;
@@ -40,42 +38,30 @@ impl Model for ProgramRun {
     ghost view = { run_value };
 }
 
-/// Runs the program of a header, and asks for an order of its sequences.
-#[tactic(auto, unfolding(crate::specs::ProgramRuns::run_of, crate::specs::UnitLines::program_of))]
-fn run_of<O: Orders>(
-    alloc: Global,
-    orders: &mut O,
-    section: &Section<'_, '_>,
-    header: LineHeader,
-) -> Result<ProgramRun>
-    requires ready { IsReady (rules_of header) }
-    requires inside { IsInside header section.now.bytes.now }
-    ensures value { GivesRun (run_of (section_view section.now) header) result }
-    ensures accepted { IfOk result (IsRunOrderedBy O.pair_places) }
-{
-    let rules = header.rules();
-    let program = header.program;
-    let line = cut(section, header.end);
-    let counts = header.counts(section);
-    let (directories, files) = header.into_paths();
-    let mut machine = Machine::new(alloc, files);
-    run(alloc, rules, counts, &line, program, &mut machine)?;
-    let (sequences, entries) = machine.into_parts();
-    let rows = OrderedSequences::build(alloc, orders, sequences)?;
-    let directories = Arc::new(alloc, directories)?;
-    let entries = Arc::new(alloc, entries)?;
-    Ok(ProgramRun {
-        version: rules.version,
-        directories,
-        rows,
-        entries,
-    })
-}
-
 impl ProgramRun {
+    /// Asks for an order of the sequences of a program that was run.
+    fn ordered<O: Orders>(
+        alloc: Global,
+        orders: &mut O,
+        plain: PlainRun,
+    ) -> std::result::Result<ProgramRun, AllocError>
+        requires { AreRising plain.sequences }
+        ensures run { IfOk result (λ r. r.run ≡ plain) }
+        ensures accepted { IfOk result (IsRunOrderedBy O.pair_places) }
+    {
+        let rows = OrderedSequences::build(alloc, orders, plain.sequences)?;
+        let directories = Arc::new(alloc, plain.directories)?;
+        let entries = Arc::new(alloc, plain.entries)?;
+        Ok(ProgramRun {
+            version: plain.version,
+            directories,
+            rows,
+            entries,
+        })
+    }
+
     /// Runs the line program at an offset of `.debug_line`, and asks for an order of its sequences; before version 5
     /// addresses have the given size. InvalidDwarf exactly where the program has no value.
-    #[tactic(auto, unfolding(crate::specs::ProgramRuns::run_at))]
     pub fn parse<O: Orders>(
         alloc: Global,
         orders: &mut O,
@@ -86,8 +72,8 @@ impl ProgramRun {
         ensures value { GivesRun (run_at (section_view section.now) at address_size) result }
         ensures accepted { IfOk result (IsRunOrderedBy O.pair_places) }
     {
-        let header = header_at(alloc, section, at as usize, address_size)?;
-        run_of(alloc, orders, section, header)
+        let plain = PlainRun::parse(alloc, section, at, address_size)?;
+        Ok(ProgramRun::ordered(alloc, orders, plain)?)
     }
 
     /// The same run once more.
