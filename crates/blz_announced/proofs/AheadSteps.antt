@@ -4,10 +4,9 @@ use Rattle.std.specs.Prelude.{nat_lt, ◌==◌}
 use Rattle.std.specs.List.{slice_get}
 use Rattle.std.proofs.lemmas.Bool.{cases_Bool, cases_lt, eqb-true, eqb-false, ltb-true, ltb-false}
 use Rattle.blz_announced.specs.Ahead.{place_for, put, put_before, put_within, without_last, AreAhead, AreInOrder, AreLeft, EachIs, IsOfPart, LastIs, OneIs}
-use Rattle.blz_announced.specs.Copies.{AnnouncedParts}
-use Rattle.blz_announced.specs.Searching.{ComesAfter, IsBehind, IsFirst, IsFirstOr, IsReached}
+use Rattle.blz_announced.specs.Searching.{search_for, ComesAfter, IsBehind, IsFirst, IsFirstOf, IsFirstOr, IsReached}
 use Rattle.blz_announced.specs.ShiftedTurns.{TakesFirst}
-use Rattle.blz_announced.specs.declared.shift.Shift.{Shift}
+use Rattle.blz_announced.specs.Shifts.{ShiftedParts}
 use Rattle.blz_announced.specs.declared.shifted_parts.Reached.{Reached}
 use Rattle.blz_announced.specs.declared.shifted_parts.Search.{Search}
 use Rattle.blz_announced.proofs.AheadLists.{all_before, before_last, comes_on, each_put, each_weaker, each_without, here_put, last_both, last_of_each, last_put, last_weaker, length_put, length_without, not_itself, one_put, one_without, order_put, order_without, place_within, the_last, IsLastOf, IsOther}
@@ -85,9 +84,9 @@ before_on : (x r q : Reached) → ComesAfter x r → (r ≡ q) ⊎ ComesAfter r 
 before_on x r q h (inl e) = subst (λ (y : Reached). ComesAfter x y) e h
 before_on x r q h (inr k) = comes_on x r q h k
 
-module _ (a : AnnouncedParts) (shifts : List (Option Shift)) (search : Search) where
+module _ (of : ShiftedParts) (search : Search) where
   -- the first range of a part is not sooner than another of it
-  of_part : (n : ℕ) (c : Reached) → IsFirst a shifts search (λ p. p ≡ n) c → (q : Reached) → IsReached a shifts search.addr q → q.at.part ≡ n → IsBehind search.after q → IsOfPart q c
+  of_part : (n : ℕ) (c : Reached) → IsFirstOf of search n (Some c) → (q : Reached) → IsReached of search.addr q → q.at.part ≡ n → IsBehind search.after q → IsOfPart q c
   of_part n c f q h e behind = (f.among ∙ sym e, by (which c q (f.among ∙ sym e)))
     where
       by : ComesAfter q c ⊎ ((c ≡ q) ⊎ ComesAfter c q) → (c ≡ q) ⊎ ComesAfter c q
@@ -100,10 +99,10 @@ module _ (a : AnnouncedParts) (shifts : List (Option Shift)) (search : Search) w
   Below n p = p < n
 
   abbrev pub AreLeftOf : ℕ → List Reached → Type 0
-  AreLeftOf n list = AreLeft a shifts search (Below n) (length list ≡ 32) list
+  AreLeftOf n list = AreLeft of search (Below n) (length list ≡ 32) list
 
   abbrev Passes : ℕ → Reached → Type 0
-  Passes n r = IsReached a shifts search.addr r × ((r.at.part < n) × IsBehind search.after r)
+  Passes n r = IsReached of search.addr r × ((r.at.part < n) × IsBehind search.after r)
 
   abbrev Told : List Reached → Reached → Type 0
   Told list q = OneIs (IsOfPart q) list ⊎ ((length list ≡ 32) × LastIs (λ r. ComesAfter r q) list)
@@ -118,14 +117,14 @@ module _ (a : AnnouncedParts) (shifts : List (Option Shift)) (search : Search) w
   wider : (n : ℕ) (list : List Reached) → EachIs (Passes n) list → EachIs (Passes (n + 1)) list
   wider n list h = each_weaker (λ r k. (k.0, (let lt = k.1.0 in omega arith, k.1.1))) list h
 
-  pub part_none : (n : ℕ) (list : List Reached) → AreLeftOf n list → IsFirstOr a shifts search (λ p. p ≡ n) None → AreLeftOf (n + 1) list
+  pub part_none : (n : ℕ) (list : List Reached) → AreLeftOf n list → IsFirstOf of search n None → AreLeftOf (n + 1) list
   part_none n list h none = record {
     each = wider n list h.each;
     order = h.order;
     all = λ q reached lt behind. elim (in_either n q.at.part lt) [ inl less ↦ h.all q reached less behind | inr same ↦ absurd (none q reached same behind) ];
   }
 
-  module _ (n : ℕ) (list : List Reached) (h : AreLeftOf n list) (c : Reached) (f : IsFirst a shifts search (λ p. p ≡ n) c) where
+  module _ (n : ℕ) (list : List Reached) (h : AreLeftOf n list) (c : Reached) (f : IsFirstOf of search n (Some c)) where
     passes : Passes (n + 1) c
     passes = (f.reached, (let e = f.among in omega arith, f.behind))
 
@@ -208,7 +207,7 @@ module _ (a : AnnouncedParts) (shifts : List (Option Shift)) (search : Search) w
       | inr g ↦ rw g (with_room (eqb-false (length list) 32 g))
     ]
 
-  pub all_left : (list : List Reached) → AreLeftOf (length a.keepers) list → AreAhead a shifts search.addr search.after list
+  pub all_left : (list : List Reached) → AreLeftOf (length of.parts.keepers) list → AreAhead of search list
   all_left list h = record { each = h.each; order = h.order; all = λ q reached lt behind. by q (h.all q reached lt behind) }
     where
       by : (q : Reached) → Told list q → OneIs (IsOfPart q) list ⊎ (Unit {0} × LastIs (λ r. ComesAfter r q) list)
@@ -217,14 +216,11 @@ module _ (a : AnnouncedParts) (shifts : List (Option Shift)) (search : Search) w
 
 -- ---- behind the first of them
 
-module _ (a : AnnouncedParts) (shifts : List (Option Shift)) (addr : ℕ) (after : Option Reached) where
+module _ (of : ShiftedParts) (addr : ℕ) (after : Option Reached) where
   abbrev Anywhere : ℕ → Type 0
-  Anywhere p = p < length a.keepers
+  Anywhere p = p < length of.parts.keepers
 
-  abbrev search_for : Option Reached → Search
-  search_for o = record { addr = addr; after = o }
-
-  pub none_ahead : AreAhead a shifts addr after [] → IsFirstOr a shifts (search_for after) Anywhere None
+  pub none_ahead : AreAhead of (search_for addr after) [] → IsFirstOr of (search_for addr after) Anywhere None
   unfolding OneIs LastIs
   none_ahead h = λ q reached lt behind. by (h.all q reached lt behind)
     where
@@ -232,7 +228,7 @@ module _ (a : AnnouncedParts) (shifts : List (Option Shift)) (addr : ℕ) (after
       by (inl k) = k
       by (inr k) = k.1
 
-  module _ (h : Reached) (list : List Reached) (are : AreAhead a shifts addr after (h ∷ list)) where
+  module _ (h : Reached) (list : List Reached) (are : AreAhead of (search_for addr after) (h ∷ list)) where
     abbrev Left : Reached → Type 0
     Left q = OneIs (IsOfPart q) (h ∷ list) ⊎ (Unit {0} × LastIs (λ r. ComesAfter r q) (h ∷ list))
 
@@ -240,7 +236,7 @@ module _ (a : AnnouncedParts) (shifts : List (Option Shift)) (addr : ℕ) (after
     unfolding AreInOrder
     in_turn = are.order.0
 
-    here : IsReached a shifts addr h × (Anywhere h.at.part × IsBehind after h)
+    here : IsReached of addr h × (Anywhere h.at.part × IsBehind after h)
     unfolding EachIs
     here = are.each.0
 
@@ -259,7 +255,7 @@ module _ (a : AnnouncedParts) (shifts : List (Option Shift)) (addr : ℕ) (after
         same_part q r.range r.first (comes_on q h r.range sooner r.second.0)
     not_sooner q (inr k) sooner = last_not_sooner q sooner list in_turn k.1
 
-    pub first_ahead : IsFirst a shifts (search_for after) Anywhere h
+    pub first_ahead : IsFirst of (search_for addr after) Anywhere h
     first_ahead = record {
       reached = here.0;
       among = here.1.0;
@@ -273,13 +269,13 @@ module _ (a : AnnouncedParts) (shifts : List (Option Shift)) (addr : ℕ) (after
     last_tail P [] lt m = omega arith
     last_tail P (s ∷ l) lt m = m
 
-    each_rest : EachIs (λ r. IsReached a shifts addr r × (Anywhere r.at.part × IsBehind (Some h) r)) list
-    each_rest = each_weaker (λ r k. (k.0.0, (k.0.1.0, k.1.0))) list (each_both (λ r. IsReached a shifts addr r × (Anywhere r.at.part × IsBehind after r)) (λ r. ComesAfter h r × (r.at.part ≡ h.at.part → ⊥)) list rest in_turn)
+    each_rest : EachIs (λ r. IsReached of addr r × (Anywhere r.at.part × IsBehind (Some h) r)) list
+    each_rest = each_weaker (λ r k. (k.0.0, (k.0.1.0, k.1.0))) list (each_both (λ r. IsReached of addr r × (Anywhere r.at.part × IsBehind after r)) (λ r. ComesAfter h r × (r.at.part ≡ h.at.part → ⊥)) list rest in_turn)
       where
-        rest : EachIs (λ r. IsReached a shifts addr r × (Anywhere r.at.part × IsBehind after r)) list
-        rest = tail_of (λ r. IsReached a shifts addr r × (Anywhere r.at.part × IsBehind after r)) h list are.each
+        rest : EachIs (λ r. IsReached of addr r × (Anywhere r.at.part × IsBehind after r)) list
+        rest = tail_of (λ r. IsReached of addr r × (Anywhere r.at.part × IsBehind after r)) h list are.each
 
-    left_behind : (q : Reached) → IsReached a shifts addr q → Anywhere q.at.part → IsBehind (Some h) q → IsOfPart q h ⊎ (OneIs (IsOfPart q) list ⊎ LastIs (λ r. ComesAfter r q) (h ∷ list))
+    left_behind : (q : Reached) → IsReached of addr q → Anywhere q.at.part → IsBehind (Some h) q → IsOfPart q h ⊎ (OneIs (IsOfPart q) list ⊎ LastIs (λ r. ComesAfter r q) (h ∷ list))
     unfolding OneIs
     left_behind q reached lt behind = by (are.all q reached lt (behind_on after h q here.1.1 behind))
       where
@@ -292,35 +288,35 @@ module _ (a : AnnouncedParts) (shifts : List (Option Shift)) (addr : ℕ) (after
       abbrev IsTold : List Reached → Reached → Type 0
       IsTold l q = OneIs (IsOfPart q) l ⊎ (Unit {0} × LastIs (λ r. ComesAfter r q) l)
 
-      rest_alone : IsFirstOr a shifts (search_for (Some h)) (λ p. p ≡ h.at.part) None → AreAhead a shifts addr (Some h) list
+      rest_alone : IsFirstOf of (search_for addr (Some h)) h.at.part None → AreAhead of (search_for addr (Some h)) list
       rest_alone none = record {
         each = each_rest;
         order = order_tail h list are.order;
         all = λ q reached lt behind. by q reached behind (left_behind q reached lt behind);
       }
         where
-          by : (q : Reached) → IsReached a shifts addr q → IsBehind (Some h) q → IsOfPart q h ⊎ (OneIs (IsOfPart q) list ⊎ LastIs (λ r. ComesAfter r q) (h ∷ list)) → IsTold list q
+          by : (q : Reached) → IsReached of addr q → IsBehind (Some h) q → IsOfPart q h ⊎ (OneIs (IsOfPart q) list ⊎ LastIs (λ r. ComesAfter r q) (h ∷ list)) → IsTold list q
           by q reached behind (inl k) = absurd (none q reached (sym k.0) behind)
           by q reached behind (inr (inl k)) = inl k
           by q reached behind (inr (inr k)) = inr (tt, last_tail (λ r. ComesAfter r q) list some k)
 
-      module _ (c : Reached) (f : IsFirst a shifts (search_for (Some h)) (λ p. p ≡ h.at.part) c) where
-        mine : (q : Reached) → IsReached a shifts addr q → IsBehind (Some h) q → IsOfPart q h → IsOfPart q c
-        mine q reached behind k = of_part a shifts (search_for (Some h)) h.at.part c f q reached (sym k.0) behind
+      module _ (c : Reached) (f : IsFirstOf of (search_for addr (Some h)) h.at.part (Some c)) where
+        mine : (q : Reached) → IsReached of addr q → IsBehind (Some h) q → IsOfPart q h → IsOfPart q c
+        mine q reached behind k = of_part of (search_for addr (Some h)) h.at.part c f q reached (sym k.0) behind
 
-        rest_put : place_for c list < length list → AreAhead a shifts addr (Some h) (put c list)
+        rest_put : place_for c list < length list → AreAhead of (search_for addr (Some h)) (put c list)
         rest_put lt = record {
-          each = each_put (λ r. IsReached a shifts addr r × (Anywhere r.at.part × IsBehind (Some h) r)) c list (f.reached, (let e = f.among in let w = here.1.0 in omega arith, f.behind)) each_rest;
+          each = each_put (λ r. IsReached of addr r × (Anywhere r.at.part × IsBehind (Some h) r)) c list (f.reached, (let e = f.among in let w = here.1.0 in omega arith, f.behind)) each_rest;
           order = order_put c list (each_weaker (λ r k e. k.1 (e ∙ f.among)) list in_turn) (order_tail h list are.order);
           all = λ q reached below behind. by q reached behind (left_behind q reached below behind);
         }
           where
-            by : (q : Reached) → IsReached a shifts addr q → IsBehind (Some h) q → IsOfPart q h ⊎ (OneIs (IsOfPart q) list ⊎ LastIs (λ r. ComesAfter r q) (h ∷ list)) → IsTold (put c list) q
+            by : (q : Reached) → IsReached of addr q → IsBehind (Some h) q → IsOfPart q h ⊎ (OneIs (IsOfPart q) list ⊎ LastIs (λ r. ComesAfter r q) (h ∷ list)) → IsTold (put c list) q
             by q reached behind (inl k) = inl (here_put (IsOfPart q) c list (mine q reached behind k))
             by q reached behind (inr (inl k)) = inl (one_put (IsOfPart q) c list k)
             by q reached behind (inr (inr k)) = inr (tt, last_put (λ r. ComesAfter r q) c list lt (last_tail (λ r. ComesAfter r q) list some k))
 
-        rest_behind : length list ≤ place_for c list → AreAhead a shifts addr (Some h) list
+        rest_behind : length list ≤ place_for c list → AreAhead of (search_for addr (Some h)) list
         rest_behind ge = record {
           each = each_rest;
           order = order_tail h list are.order;
@@ -330,25 +326,25 @@ module _ (a : AnnouncedParts) (shifts : List (Option Shift)) (addr : ℕ) (after
             last : LastIs (λ r. ComesAfter r c) list
             last = last_of_each (λ r. ComesAfter r c) list some (all_before c list (let k = place_within c list in omega arith))
 
-            by : (q : Reached) → IsReached a shifts addr q → IsBehind (Some h) q → IsOfPart q h ⊎ (OneIs (IsOfPart q) list ⊎ LastIs (λ r. ComesAfter r q) (h ∷ list)) → IsTold list q
+            by : (q : Reached) → IsReached of addr q → IsBehind (Some h) q → IsOfPart q h ⊎ (OneIs (IsOfPart q) list ⊎ LastIs (λ r. ComesAfter r q) (h ∷ list)) → IsTold list q
             by q reached behind (inl k) = inr (tt, last_weaker (λ r m. before_on r c q m (mine q reached behind k).1) list last)
             by q reached behind (inr (inl k)) = inl k
             by q reached behind (inr (inr k)) = inr (tt, last_tail (λ r. ComesAfter r q) list some k)
 
-      pub rest_left : (found : Option Reached) → IsFirstOr a shifts (search_for (Some h)) (λ p. p ≡ h.at.part) found → AreAhead a shifts addr (Some h) (with_next found list)
+      pub rest_left : (found : Option Reached) → IsFirstOf of (search_for addr (Some h)) h.at.part found → AreAhead of (search_for addr (Some h)) (with_next found list)
       rest_left None f = rest_alone f
       rest_left (Some c) f = elim (cases_Bool (nat_lt (place_for c list) (length list))) [
         | inl t ↦ rw t (rest_put c f (ltb-true (place_for c list) (length list) t))
         | inr g ↦ rw g (rest_behind c f (ltb-false (place_for c list) (length list) g))
       ]
 
-  pub found_ahead : (list : List Reached) → AreAhead a shifts addr after list → IsFirstOr a shifts (search_for after) Anywhere (slice_get list 0)
+  pub found_ahead : (list : List Reached) → AreAhead of (search_for addr after) list → IsFirstOr of (search_for addr after) Anywhere (slice_get list 0)
   found_ahead [] are = none_ahead are
   found_ahead (h ∷ list) are = first_ahead h list are
 
 -- each was reached
-pub each_reached : (a : AnnouncedParts) (shifts : List (Option Shift)) (addr : ℕ) (after : Option Reached) (list : List Reached) → AreAhead a shifts addr after list → EachIs (IsReached a shifts addr) list
-each_reached a shifts addr after list are = each_weaker (λ r k. k.0) list are.each
+pub each_reached : (of : ShiftedParts) (addr : ℕ) (after : Option Reached) (list : List Reached) → AreAhead of (search_for addr after) list → EachIs (IsReached of addr) list
+each_reached of addr after list are = each_weaker (λ r k. k.0) list are.each
 
 -- ---- what is taken
 
@@ -356,20 +352,20 @@ first_of : (list : List Reached) (first : Reached) → slice_get list 0 ≡ Some
 first_of [] first is = absurd cc
 first_of (r ∷ list) first is = let same : r ≡ first = cc in ap (λ (x : Reached). x ∷ list) same
 
-module _ (a : AnnouncedParts) (shifts : List (Option Shift)) (addr : ℕ) (old rest : List Reached) (first : Reached) (is : slice_get old 0 ≡ Some first) (r : rest ≡ drop 1 old) where
+module _ (of : ShiftedParts) (addr : ℕ) (old rest : List Reached) (first : Reached) (is : slice_get old 0 ≡ Some first) (r : rest ≡ drop 1 old) where
   whole : old ≡ first ∷ rest
   whole = first_of old first is ∙ ap (λ (l : List Reached). first ∷ l) (sym r)
 
-  pub taken_with : 0 < length rest → (found : Option Reached) (new : List Reached) → IsFirstOr a shifts (record { addr = addr; after = Some first }) (λ p. p ≡ first.at.part) found → new ≡ with_next found rest → TakesFirst a shifts addr old (Some first) new
+  pub taken_with : 0 < length rest → (found : Option Reached) (new : List Reached) → IsFirstOf of (search_for addr (Some first)) first.at.part found → new ≡ with_next found rest → TakesFirst of addr old (Some first) new
   taken_with some found new f e = record {
     first = sym is;
-    rest = λ after are lt. subst (AreAhead a shifts addr (Some first)) (sym e) (rest_left a shifts addr after first rest (subst (AreAhead a shifts addr after) whole are) some found f);
+    rest = λ after are lt. subst (AreAhead of (search_for addr (Some first))) (sym e) (rest_left of addr after first rest (subst (AreAhead of (search_for addr after)) whole are) some found f);
   }
 
-  pub taken_last : length rest ≡ 0 → TakesFirst a shifts addr old (Some first) rest
+  pub taken_last : length rest ≡ 0 → TakesFirst of addr old (Some first) rest
   taken_last none = record { first = sym is; rest = λ after are lt. absurd (omega arith) }
 
-pub first_reached : (a : AnnouncedParts) (shifts : List (Option Shift)) (addr : ℕ) (list : List Reached) (first : Reached) → EachIs (IsReached a shifts addr) list → slice_get list 0 ≡ Some first → IsReached a shifts addr first
+pub first_reached : (of : ShiftedParts) (addr : ℕ) (list : List Reached) (first : Reached) → EachIs (IsReached of addr) list → slice_get list 0 ≡ Some first → IsReached of addr first
 unfolding EachIs
-first_reached a shifts addr [] first each is = absurd cc
-first_reached a shifts addr (r ∷ list) first each is = let same : r ≡ first = cc in subst (IsReached a shifts addr) same each.0
+first_reached of addr [] first each is = absurd cc
+first_reached of addr (r ∷ list) first each is = let same : r ≡ first = cc in subst (IsReached of addr) same each.0

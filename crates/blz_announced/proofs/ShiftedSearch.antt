@@ -1,6 +1,6 @@
 -- The next range of an address, part by part, where the ranges of some are moved.
 use Rattle.std.proofs.Common.{◌≡◌, ℕ, ◌+◌, ◌<◌, ◌≤◌, Bool, true, false, List, length, Option, Some, None, refl, sym, ap, subst, ◌∙◌, arith, inl, inr, ◌⊎◌}
-use Rattle.std.specs.Prelude.{◌&&◌, ◌==◌, nat_lt, nat_le, IfSome}
+use Rattle.std.specs.Prelude.{◌&&◌, ◌==◌, nat_lt, nat_le}
 use Rattle.std.specs.List.{slice_get}
 use Rattle.std.proofs.lemmas.Bool.{cases_Bool, cases_lt, and_parts, and_from, eqb-true, eq-eqb, le-leb, leb-true, lt-ltb, ltb-true, or_cases, or_left, or_right}
 use Rattle.std.proofs.lemmas.Option.{slice_get_within}
@@ -8,12 +8,13 @@ use Rattle.blz_ranges.specs.declared.placed.Placed.{Placed}
 use Rattle.blz_ranges.specs.declared.span.Span.{Span}
 use Rattle.blz_ranges.specs.Best.{comes_after, covers, passes, NotAfter}
 use Rattle.blz_ranges.specs.Owned.{Owned}
-use Rattle.blz_announced.specs.Copies.{no_longer, AnnouncedParts, IsKept}
+use Rattle.blz_announced.specs.Copies.{no_longer, IsKept}
 use Rattle.blz_announced.specs.OfKeepers.{IsBestOr, IsOf}
-use Rattle.blz_announced.specs.Searching.{limit_of, place_in, reached_at, rest_from, rest_of, ComesAfter, IsBehind, IsPlaceIn, IsReached}
-use Rattle.blz_announced.specs.Shifts.{back_by, moved_by, shift_of, MayMove, StayWithin}
+use Rattle.blz_announced.specs.Searching.{limit_of, place_in, reached_at, rest_from, rest_of, ComesAfter, IsAsked, IsBehind, IsPlaceIn, IsReached}
+use Rattle.blz_announced.specs.Shifts.{back_by, moved_by, shift_of, MayMove, ShiftedParts, StayWithin}
 use Rattle.blz_announced.specs.declared.shift.Shift.{Shift}
 use Rattle.blz_announced.specs.declared.shifted_parts.Reached.{Reached}
+use Rattle.blz_announced.specs.declared.shifted_parts.Rest.{Rest}
 use Rattle.blz_announced.specs.declared.shifted_parts.Rest.TheVariants.{All, After, Nothing}
 use Rattle.blz_announced.specs.declared.shifted_parts.Search.{Search}
 use Rattle.blz_announced.proofs.ListsOf.{list_has}
@@ -142,21 +143,35 @@ module _ (count part : ℕ) (m : Option Shift) (addr a : ℕ) (back : back_by m 
 -- ---- the first range of a part
 
 -- what is kept of a part may be moved as it is
-pub may_be_moved : (a : AnnouncedParts) (shifts : List (Option Shift)) (part keeper : ℕ) → StayWithin a.kept.ranges a.keepers shifts → slice_get a.keepers part ≡ Some keeper → (q : ℕ) (s : Span) → IsKept a.kept.ranges q s keeper → MayMove (shift_of shifts part) s
-may_be_moved a shifts part keeper stay row q s is = let l = list_has a.kept.ranges keeper q s is in stay part keeper l.at s row l.is
+pub may_be_moved : (of : ShiftedParts) (part keeper : ℕ) → StayWithin of.parts.kept.ranges of.parts.keepers of.shifts → slice_get of.parts.keepers part ≡ Some keeper → (q : ℕ) (s : Span) → IsKept of.parts.kept.ranges q s keeper → MayMove (shift_of of.shifts part) s
+may_be_moved of part keeper stay row q s is = let l = list_has of.parts.kept.ranges keeper q s is in stay part keeper l.at s row l.is
 
-module _ (a : AnnouncedParts) (shifts : List (Option Shift)) (part keeper : ℕ) (row : slice_get a.keepers part ≡ Some keeper) (stay : StayWithin a.kept.ranges a.keepers shifts) (search : Search) where
+-- The address as the keeper of a part has it, and which of its ranges come behind the last one.
+pub record IsSought (of : ShiftedParts) (part : ℕ) (search : Search) (addr : ℕ) (rest : Rest) : Type 0 where
+  pub back : back_by (shift_of of.shifts part) search.addr ≡ Some addr
+  pub rest_is : rest_of (length of.parts.kept.ranges) part (shift_of of.shifts part) search.addr search.after ≡ rest
+
+-- the same by how the part is moved, and how many ranges are kept
+pub sought : (of : ShiftedParts) (part : ℕ) (search : Search) (m : Option Shift) → m ≡ shift_of of.shifts part → (count : ℕ) → count ≡ length of.parts.kept.ranges → (addr : ℕ) → back_by m search.addr ≡ Some addr → (rest : Rest) → rest_of count part m search.addr search.after ≡ rest → IsSought of part search addr rest
+sought of part search m same count all addr back rest is = record {
+  back = subst (λ (o : Option Shift). back_by o search.addr ≡ Some addr) same back;
+  rest_is =
+      let moved = subst (λ (o : Option Shift). rest_of count part o search.addr search.after ≡ rest) same is in
+      subst (λ (n : ℕ). rest_of n part (shift_of of.shifts part) search.addr search.after ≡ rest) all moved;
+}
+
+module _ (of : ShiftedParts) (part keeper : ℕ) (row : slice_get of.parts.keepers part ≡ Some keeper) (stay : StayWithin of.parts.kept.ranges of.parts.keepers of.shifts) (search : Search) where
   abbrev kept : List (Owned Span)
-  kept = a.kept.ranges
+  kept = of.parts.kept.ranges
 
   abbrev m : Option Shift
-  m = shift_of shifts part
+  m = shift_of of.shifts part
 
   abbrev count : ℕ
   count = length kept
 
   may : (q : ℕ) (s : Span) → IsKept kept q s keeper → MayMove m s
-  may q s is = may_be_moved a shifts part keeper stay row q s is
+  may q s is = may_be_moved of part keeper stay row q s is
 
   -- a range of the part that covers the address, as its keeper has it
   record IsOfPart (r : Reached) : Type 0 where
@@ -165,10 +180,10 @@ module _ (a : AnnouncedParts) (shifts : List (Option Shift)) (part keeper : ℕ)
     pub reached : covers (moved_by m span) search.addr ≡ true
     pub begins : r.begin ≡ (moved_by m span).begin
 
-  of_part : (r : Reached) → IsReached a shifts search.addr r → r.at.part ≡ part → IsOfPart r
+  of_part : (r : Reached) → IsReached of search.addr r → r.at.part ≡ part → IsOfPart r
   of_part r h e =
-      let same : h.keeper ≡ keeper = some_is (sym h.row ∙ (ap (slice_get a.keepers) e ∙ row)) in
-      let shift : shift_of shifts r.at.part ≡ m = ap (shift_of shifts) e in
+      let same : h.keeper ≡ keeper = some_is (sym h.row ∙ (ap (slice_get of.parts.keepers) e ∙ row)) in
+      let shift : shift_of of.shifts r.at.part ≡ m = ap (shift_of of.shifts) e in
       record {
         span = h.span;
         is = h.is ∙ ap (λ (k : ℕ). Some (record { item = h.span; owner = k })) same;
@@ -183,16 +198,16 @@ module _ (a : AnnouncedParts) (shifts : List (Option Shift)) (part keeper : ℕ)
   as_one r e begin f (Some last) (inr (same, inl lt)) = inr (sym f ∙ same, inl (omega arith))
   as_one r e begin f (Some last) (inr (same, inr (p, lt))) = inr (sym f ∙ same, inr (p ∙ e, lt))
 
-  none_here : back_by m search.addr ≡ None → IsPlaceIn a shifts search part None
+  none_here : back_by m search.addr ≡ None → IsPlaceIn of search part None
   none_here e = λ q h p behind. let o = of_part q h p in none_covered m o.span search.addr (may q.at.place o.span o.is) e o.reached
 
   module _ (addr : ℕ) (back : back_by m search.addr ≡ Some addr) (test : ℕ → Span → Bool)
       (on : (q : ℕ) (s : Span) → IsKept kept q s keeper → covers (moved_by m s) search.addr ≡ true → IsBehind search.after (one_of part q (moved_by m s).begin) → test q s ≡ true)
       (off : (q : ℕ) (s : Span) → IsKept kept q s keeper → test q s ≡ true → (covers (moved_by m s) search.addr ≡ true) × IsBehind search.after (one_of part q (moved_by m s).begin)) where
-    is_of : (q : Reached) → IsReached a shifts search.addr q → q.at.part ≡ part → IsBehind search.after q → (o : IsOfPart q) → IsOf test kept keeper q.at.place o.span
+    is_of : (q : Reached) → IsReached of search.addr q → q.at.part ≡ part → IsBehind search.after q → (o : IsOfPart q) → IsOf test kept keeper q.at.place o.span
     is_of q h p behind o = record { is = o.is; passes = on q.at.place o.span o.is o.reached (as_one q p (moved_by m o.span).begin o.begins search.after behind) }
 
-    place_by : (o : Option ℕ) → IsBestOr test kept keeper o → IsPlaceIn a shifts search part o
+    place_by : (o : Option ℕ) → IsBestOr test kept keeper o → IsPlaceIn of search part o
     place_by None h = λ q r p behind. let o = of_part q r p in h q.at.place o.span (is_of q r p behind o)
     place_by (Some place) h =
         let k = off place h.span h.own.is h.own.passes in
@@ -210,7 +225,7 @@ module _ (a : AnnouncedParts) (shifts : List (Option Shift)) (part keeper : ℕ)
           };
         }
       where
-        not_sooner : (q : Reached) (o : IsOfPart q) → NotAfter place h.span q.at.place o.span → MayMove m h.span → MayMove m o.span → q.at.part ≡ part → ComesAfter q (reached_at shifts part place h.span) → ⊥
+        not_sooner : (q : Reached) (o : IsOfPart q) → NotAfter place h.span q.at.place o.span → MayMove m h.span → MayMove m o.span → q.at.part ≡ part → ComesAfter q (reached_at of.shifts part place h.span) → ⊥
         not_sooner q o n x y p (inl lt) = let l = begins_less m h.span o.span x y (subst (λ (b : ℕ). (moved_by m h.span).begin < b) o.begins lt) in let b = n.below in omega arith
         not_sooner q o n x y p (inr (e, inl lt)) = omega arith
         not_sooner q o n x y p (inr (e, inr (same, lt))) = let l = n.tie (begins_alike m o.span h.span y x (sym o.begins ∙ sym e)) in omega arith
@@ -221,20 +236,26 @@ module _ (a : AnnouncedParts) (shifts : List (Option Shift)) (part keeper : ℕ)
   begin_low : (s : Span) → covers (moved_by m s) search.addr ≡ true → (moved_by m s).begin ≤ search.addr
   begin_low s h = (covered (moved_by m s) search.addr h).0
 
-  pub none_of_part : back_by m search.addr ≡ None → IsPlaceIn a shifts search part None
+  pub none_of_part : back_by m search.addr ≡ None → IsPlaceIn of search part None
   none_of_part e = none_here e
 
-  pub all_of_part : (addr : ℕ) → back_by m search.addr ≡ Some addr → rest_of count part m search.addr search.after ≡ All → (o : Option ℕ) → IsBestOr (passes addr None) kept keeper o → IsPlaceIn a shifts search part o
-  all_of_part addr back rest o h =
-      place_by addr back (covering addr)
-      (λ q s is reached behind. covered_back m s search.addr addr (may q s is) back reached)
-      (λ q s is passed. let reached = covered_on m s search.addr addr (may q s is) back passed in (reached, all_behind count part m search.addr addr back search.after rest q (moved_by m s).begin (begin_low s reached)))
+  pub all_of_part : (addr : ℕ) → IsSought of part search addr All → (o : Option ℕ) → IsBestOr (passes addr None) kept keeper o → IsPlaceIn of search part o
+  all_of_part addr k o h =
+      place_by addr k.back (covering addr)
+      (λ q s is reached behind. covered_back m s search.addr addr (may q s is) k.back reached)
+      (λ q s is passed. let reached = covered_on m s search.addr addr (may q s is) k.back passed in (reached, all_behind count part m search.addr addr k.back search.after k.rest_is q (moved_by m s).begin (begin_low s reached)))
       o h
 
-  pub rest_of_part : (addr : ℕ) → back_by m search.addr ≡ Some addr → (placed : Placed) → rest_of count part m search.addr search.after ≡ After placed → (o : Option ℕ) → IsBestOr (passes addr (Some placed)) kept keeper o → IsPlaceIn a shifts search part o
-  rest_of_part addr back placed rest o h = by search.after refl
+  pub rest_of_part : (addr : ℕ) (placed : Placed) → IsSought of part search addr (After placed) → (o : Option ℕ) → IsBestOr (passes addr (Some placed)) kept keeper o → IsPlaceIn of search part o
+  rest_of_part addr placed k o h = by search.after refl
     where
-      by : (last : Option Reached) → search.after ≡ last → IsPlaceIn a shifts search part o
+      back : back_by m search.addr ≡ Some addr
+      back = k.back
+
+      rest : rest_of count part m search.addr search.after ≡ After placed
+      rest = k.rest_is
+
+      by : (last : Option Reached) → search.after ≡ last → IsPlaceIn of search part o
       by None e = absurd (let k = rw e at rest in cc)
       by (Some last) e =
           let limit = limit_is count part m search.addr addr back last placed (subst (λ (l : Option Reached). rest_of count part m search.addr l ≡ After placed) e rest) in
@@ -247,10 +268,16 @@ module _ (a : AnnouncedParts) (shifts : List (Option Shift)) (part keeper : ℕ)
           ))
           o h
 
-  pub no_rest_of_part : (addr : ℕ) → back_by m search.addr ≡ Some addr → rest_of count part m search.addr search.after ≡ Nothing → IfSome search.after (IsReached a shifts search.addr) → IsPlaceIn a shifts search part None
-  no_rest_of_part addr back rest last = by search.after refl
+  pub no_rest_of_part : (addr : ℕ) → IsSought of part search addr Nothing → IsAsked of search → IsPlaceIn of search part None
+  no_rest_of_part addr k last = by search.after refl
     where
-      by : (l : Option Reached) → search.after ≡ l → IsPlaceIn a shifts search part None
+      back : back_by m search.addr ≡ Some addr
+      back = k.back
+
+      rest : rest_of count part m search.addr search.after ≡ Nothing
+      rest = k.rest_is
+
+      by : (l : Option Reached) → search.after ≡ l → IsPlaceIn of search part None
       by None e = absurd (let k = rw e at rest in cc)
       by (Some l) e = λ q h p behind.
           let o = of_part q h p in

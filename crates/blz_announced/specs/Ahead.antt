@@ -1,9 +1,8 @@
 -- The next ranges of an address, found ahead in one pass over all parts: of each part the first one that is left, as far as
 -- there is room for these.
-use Rattle.std.specs.Prelude.{◌≡◌, ℕ, suc, ◌<◌, Bool, List, [], ◌∷◌, length, Option, ◌⊎◌, ◌==◌, nat_lt, if◌then◌else◌}
-use Rattle.blz_announced.specs.Copies.{AnnouncedParts}
+use Rattle.std.specs.Prelude.{◌≡◌, ℕ, suc, ◌<◌, Bool, List, [], ◌∷◌, length, ◌⊎◌, ◌==◌, nat_lt, if◌then◌else◌}
 use Rattle.blz_announced.specs.Searching.{ComesAfter, IsBehind, IsReached}
-use Rattle.blz_announced.specs.declared.shift.Shift.{Shift}
+use Rattle.blz_announced.specs.Shifts.{ShiftedParts}
 use Rattle.blz_announced.specs.declared.shifted_parts.Reached.{Reached}
 use Rattle.blz_announced.specs.declared.shifted_parts.Search.{Search}
 
@@ -58,20 +57,22 @@ LastIs P (r ∷ (s ∷ list)) = LastIs P (s ∷ list)
 -- They stand in their order, and are of parts that differ.
 unfoldable pub AreInOrder : List Reached → Type 0
 AreInOrder [] = Unit {0}
-AreInOrder (r ∷ list) = EachIs (λ s. ComesAfter r s × (s.at.part ≡ r.at.part → ⊥)) list × AreInOrder list
+AreInOrder (r ∷ list) =
+    EachIs (λ s. ComesAfter r s × (s.at.part ≡ r.at.part → ⊥)) list × AreInOrder list
 
 -- A range is not sooner than the one of its part.
 abbrev pub IsOfPart : Reached → Reached → Type 0
 IsOfPart q r = (r.at.part ≡ q.at.part) × ((r ≡ q) ⊎ ComesAfter r q)
 
 -- What is left of the ranges of some parts: these ranges, those of their parts behind them, and others only behind the last.
-pub record AreLeft (a : AnnouncedParts) (shifts : List (Option Shift)) (search : Search) (Among : ℕ → Type 0) (Full : Type 0) (list : List Reached) : Type 0 where
-  pub each : EachIs (λ r. IsReached a shifts search.addr r × (Among r.at.part × IsBehind search.after r)) list
+pub record AreLeft (of : ShiftedParts) (search : Search) (Among : ℕ → Type 0) (Full : Type 0)
+    (list : List Reached) : Type 0 where
+  pub each : EachIs (λ r. IsReached of search.addr r
+      × (Among r.at.part × IsBehind search.after r)) list
   pub order : AreInOrder list
-  pub all : (q : Reached) → IsReached a shifts search.addr q → Among q.at.part → IsBehind search.after q
+  pub all : (q : Reached) → IsReached of search.addr q → Among q.at.part → IsBehind search.after q
       → OneIs (IsOfPart q) list ⊎ (Full × LastIs (λ r. ComesAfter r q) list)
 
 -- the same of all parts
-abbrev pub AreAhead : AnnouncedParts → List (Option Shift) → ℕ → Option Reached → List Reached → Type 0
-AreAhead a shifts addr after list =
-    AreLeft a shifts (record { addr = addr; after = after }) (λ p. p < length a.keepers) (Unit {0}) list
+abbrev pub AreAhead : ShiftedParts → Search → List Reached → Type 0
+AreAhead of search list = AreLeft of search (λ p. p < length of.parts.keepers) (Unit {0}) list

@@ -4,7 +4,7 @@ use Rattle.std.specs.List.{slice_get, All}
 use Rattle.blz_ranges.specs.declared.span.Span.{Span}
 use Rattle.blz_ranges.specs.Owned.{Owned}
 use Rattle.blz_ranges.specs.Ranges.{OwnedRanges}
-use Rattle.blz_announced.specs.Copies.{list_of}
+use Rattle.blz_announced.specs.Copies.{list_of, AnnouncedParts}
 use Rattle.blz_announced.specs.declared.shift.Shift.{Shift}
 
 -- a range that is moved
@@ -72,6 +72,11 @@ all_by_shifts shifts all = record { ranges = by_shifts shifts all.ranges; ordere
 abbrev pub StayWithin : List (Owned Span) → List ℕ → List (Option Shift) → Type 0
 StayWithin kept keepers shifts = (part keeper at : ℕ) (s : Span) → slice_get keepers part ≡ Some keeper
     → slice_get (list_of kept keeper) at ≡ Some s → MayMove (shift_of shifts part) s
+
+-- parts that announce what their keepers do, and how the ranges of each are moved
+pub record ShiftedParts : Type 0 where
+  pub parts : AnnouncedParts
+  pub shifts : List (Option Shift)
 
 -- Two ranges do not stand one behind the other.
 pub record Meet (s t : Span) : Type 0 where

@@ -3,9 +3,9 @@ ghost use Rattle.std.specs.Prelude.{◌≡◌, ◌≤◌, ◌<◌, ◌-◌, true
 ghost use Rattle.std.specs.List.{slice_get};
 ghost use Rattle.blz_announced.specs.Announced.{to_tell, TakesFew};
 ghost use Rattle.blz_announced.specs.Copies.{all_of_parts};
-ghost use Rattle.blz_announced.specs.Shifts.{all_by_shifts, StayWithin};
+ghost use Rattle.blz_announced.specs.Shifts.{all_by_shifts};
 ghost use Rattle.blz_announced.specs.Ahead.{AreAhead, EachIs};
-ghost use Rattle.blz_announced.specs.Searching.{IsReached};
+ghost use Rattle.blz_announced.specs.Searching.{search_for, IsReached};
 ghost use Rattle.blz_announced.specs.ShiftedTurns.{is_over, last_of, part_of, step_behind, IsLeftAhead, IsStepAhead, IsStepReached, TakesFirst};
 ghost use Rattle.blz_announced.specs.Units.{kept_parts, AreShifted};
 
@@ -58,9 +58,9 @@ impl<'u> Model for ShiftedAt<'u> {
 
     ghost Value = { Announcing };
 
-    ghost view = { λ u. told_shifted u.of.parts.now u.of.shifts.now u.addr u.step };
+    ghost view = { λ u. told_shifted u.of u.addr u.step };
 
-    ghost invariant = { λ u. IsStepAhead u.of.parts.now u.of.shifts.now u.addr u.step u.ahead };
+    ghost invariant = { λ u. IsStepAhead u.of u.addr u.step u.ahead };
 }
 
 fn is_over(step: Step) -> bool
@@ -89,9 +89,8 @@ fn taken<L: Ledger>(
     ahead: &mut Ahead,
     steps: &mut Steps<L>,
 ) -> Option<Reached>
-    requires stay { StayWithin of.now.parts.now.kept.ranges of.now.parts.now.keepers of.now.shifts.now }
-    requires each { EachIs (IsReached of.now.parts.now of.now.shifts.now addr) ahead.old }
-    ensures taken { TakesFirst of.now.parts.now of.now.shifts.now addr ahead.old result ahead.new }
+    requires { EachIs (IsReached of.now addr) ahead.old }
+    ensures taken { TakesFirst of.now addr ahead.old result ahead.new }
     ensures later { steps.old ≤ steps.new }
 {
     let Some(first) = ahead.take_first() else {
@@ -113,8 +112,8 @@ fn fill<L: Ledger>(
     ahead: &mut Ahead,
     steps: &mut Steps<L>,
 )
-    requires { IsStepAhead of.now.parts.now of.now.shifts.now addr step ahead.old }
-    ensures ahead { AreAhead of.now.parts.now of.now.shifts.now addr (last_of step) ahead.new }
+    requires { IsStepAhead of.now addr step ahead.old }
+    ensures ahead { AreAhead of.now (search_for addr (last_of step)) ahead.new }
     ensures later { steps.old ≤ steps.new }
 {
     if !ahead.is_empty() {
@@ -132,9 +131,9 @@ fn next_reached<L: Ledger>(
     ahead: &mut Ahead,
     steps: &mut Steps<L>,
 ) -> Option<Reached>
-    requires { IsStepAhead of.now.parts.now of.now.shifts.now addr step ahead.old }
-    ensures next { IsStepReached of.now.parts.now of.now.shifts.now addr step result }
-    ensures ahead { IsLeftAhead of.now.parts.now of.now.shifts.now addr (step_behind result) ahead.new }
+    requires { IsStepAhead of.now addr step ahead.old }
+    ensures next { IsStepReached of.now addr step result }
+    ensures ahead { IsLeftAhead of.now addr (step_behind result) ahead.new }
     ensures later { steps.old ≤ steps.new }
 {
     if is_over(step) {

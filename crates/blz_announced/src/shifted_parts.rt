@@ -1,10 +1,8 @@
 //! The next range of an address where the ranges of some parts are moved: all parts are gone through.
-ghost use Rattle.std.specs.Prelude.{◌≡◌, ◌≤◌, ◌<◌, length, IfSome, Some};
+ghost use Rattle.std.specs.Prelude.{◌≡◌, ◌≤◌, ◌<◌, Some};
 ghost use Rattle.std.specs.List.{slice_get};
-ghost use Rattle.blz_announced.specs.Copies.{span_at};
 ghost use Rattle.blz_announced.specs.Ahead.{AreAhead};
-ghost use Rattle.blz_announced.specs.Searching.{limit_of, place_in, reached_at, rest_of, IsFirstOr, IsReached, IsPlaceIn};
-ghost use Rattle.blz_announced.specs.Shifts.{shift_of, StayWithin};
+ghost use Rattle.blz_announced.specs.Searching.{limit_of, place_in, rest_of, search_for, IsAsked, IsFirstOf, IsReached, IsPlaceIn};
 
 use crate::ahead::Ahead;
 use crate::announced_parts::{AnnouncedParts, Place};
@@ -12,6 +10,7 @@ use crate::comparing::behind;
 use crate::shift::{Shift, back_by, moved_by, shift_of};
 use blz_bytes::Steps;
 use blz_ranges::{Placed, number_at};
+use std::marker::Model;
 use std::sync::ledger::Ledger;
 
 /// A range that covers an address, and where it begins as its part has it.
@@ -77,10 +76,20 @@ fn rest_of(count: usize, part: usize, shift: Option<Shift>, search: Search) -> R
 }
 
 /// The parts, and how their ranges are moved.
-#[derive(Clone, Copy)]
+#[derive(Drop)]
 pub struct ShiftedParts<'u> {
     pub parts: &'u AnnouncedParts,
     pub shifts: &'u [Option<Shift>],
+}
+
+impl<'u> Model for ShiftedParts<'u> {
+    ghost use Rattle.blz_announced.specs.Shifts.{ShiftedParts, StayWithin};
+
+    ghost Value = { ShiftedParts };
+
+    ghost view = { λ p. record { parts = p.parts.now; shifts = p.shifts.now } };
+
+    ghost invariant = { λ p. StayWithin p.parts.now.kept.ranges p.parts.now.keepers p.shifts.now };
 }
 
 impl ShiftedParts<'_> {
@@ -92,10 +101,9 @@ impl ShiftedParts<'_> {
         search: Search,
         steps: &mut Steps<L>,
     ) -> Option<usize>
-        requires row { slice_get self.now.parts.now.keepers part ≡ Some keeper }
-        requires stay { StayWithin self.now.parts.now.kept.ranges self.now.parts.now.keepers self.now.shifts.now }
-        requires last { IfSome search.after (IsReached self.now.parts.now self.now.shifts.now search.addr) }
-        ensures place { IsPlaceIn self.now.parts.now self.now.shifts.now search part result }
+        requires row { slice_get self.now.parts.keepers part ≡ Some keeper }
+        requires last { IsAsked self.now search }
+        ensures place { IsPlaceIn self.now search part result }
         ensures later { steps.old ≤ steps.new }
     {
         let shift = shift_of(self.shifts, part);
@@ -117,10 +125,9 @@ impl ShiftedParts<'_> {
         search: Search,
         steps: &mut Steps<L>,
     ) -> Option<Reached>
-        requires row { slice_get self.now.parts.now.keepers part ≡ Some keeper }
-        requires stay { StayWithin self.now.parts.now.kept.ranges self.now.parts.now.keepers self.now.shifts.now }
-        requires last { IfSome search.after (IsReached self.now.parts.now self.now.shifts.now search.addr) }
-        ensures next { IsFirstOr self.now.parts.now self.now.shifts.now search (λ p. p ≡ part) result }
+        requires row { slice_get self.now.parts.keepers part ≡ Some keeper }
+        requires last { IsAsked self.now search }
+        ensures next { IsFirstOf self.now search part result }
         ensures later { steps.old ≤ steps.new }
     {
         let Some(place) = self.place_of_next(part, keeper, search, steps) else {
@@ -139,9 +146,8 @@ impl ShiftedParts<'_> {
 
     /// The next of all ranges that cover the address: of each part the first one, as far as there is room.
     pub fn ahead<L: Ledger>(&self, search: Search, steps: &mut Steps<L>) -> Ahead
-        requires stay { StayWithin self.now.parts.now.kept.ranges self.now.parts.now.keepers self.now.shifts.now }
-        requires last { IfSome search.after (IsReached self.now.parts.now self.now.shifts.now search.addr) }
-        ensures ahead { AreAhead self.now.parts.now self.now.shifts.now search.addr search.after result }
+        requires { IsAsked self.now search }
+        ensures ahead { AreAhead self.now search result }
         ensures later { steps.old ≤ steps.new }
     {
         let keepers = self.parts.keepers();
@@ -161,9 +167,8 @@ impl ShiftedParts<'_> {
         last: Reached,
         steps: &mut Steps<L>,
     ) -> Option<Reached>
-        requires stay { StayWithin self.now.parts.now.kept.ranges self.now.parts.now.keepers self.now.shifts.now }
-        requires last { IsReached self.now.parts.now self.now.shifts.now addr last }
-        ensures next { IsFirstOr self.now.parts.now self.now.shifts.now (record { addr = addr; after = Some last }) (λ p. p ≡ last.at.part) result }
+        requires { IsReached self.now addr last }
+        ensures next { IsFirstOf self.now (search_for addr (Some last)) last.at.part result }
         ensures later { steps.old ≤ steps.new }
     {
         let part = last.at.part;

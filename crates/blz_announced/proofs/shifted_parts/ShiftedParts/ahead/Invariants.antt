@@ -4,6 +4,6 @@ use Rattle.blz_announced.proofs.shifted_parts.ShiftedParts.ahead.Given as goal
 
 abbrev pub invariant-loop-part : goal.invariant-loop-part
 invariant-loop-part g l = record {
-  left : AreLeftOf l.self.parts.now l.self.shifts.now l.search l.part l.ahead;
+  left : AreLeftOf l.self l.search l.part l.ahead;
   later : l.initial.steps ≤ l.steps;
 }
