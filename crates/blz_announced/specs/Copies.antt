@@ -1,6 +1,6 @@
 -- What the parts of units announce, kept once for those that announce one list, and all that it stands for. The first of
 -- such parts is the keeper of each of them, and what is kept belongs to keepers.
-use Rattle.std.specs.Prelude.{◌≡◌, ℕ, zero, suc, ◌+◌, ◌<◌, ◌≤◌, Bool, true, false, List, [], ◌∷◌, ◌++◌, length, drop, map, Option, Some, None, IfSome, ◌⊎◌, ◌&&◌, ◌==◌, nat_lt, if◌then◌else◌, option_map, unwrap_or}
+use Rattle.std.specs.Prelude.{◌≡◌, ℕ, zero, suc, ◌+◌, ◌<◌, ◌≤◌, Bool, true, false, List, [], ◌∷◌, ◌++◌, length, take, drop, map, Option, Some, None, IfSome, ◌⊎◌, ◌&&◌, ◌==◌, nat_lt, if◌then◌else◌, option_map, unwrap_or}
 use Rattle.std.specs.List.{slice_get}
 use Rattle.std.specs.List.Sorted.{IsNonDecreasingBy}
 use Rattle.blz_ranges.specs.declared.span.Span.{Span}
@@ -44,6 +44,10 @@ all_ranges kept keepers = told (copies kept 0 keepers)
 -- what a keeper announces
 abbrev pub list_of : List (Owned Span) → ℕ → List Span
 list_of kept keeper = map (λ (c : Copy). c.span) (copies_of keeper keeper 0 kept)
+
+-- so many ranges from a place on
+abbrev pub ranges_between : List (Owned Span) → ℕ × ℕ → List Span
+ranges_between kept bounds = take bounds.1 (drop bounds.0 (items_of kept))
 
 -- Keepers are their own, and stand at or before their parts; ranges stand in the order of their keepers.
 pub record HaveKeepers (kept : List (Owned Span)) (keepers : List ℕ) : Type 0 where
@@ -149,8 +153,10 @@ with_list k spans = record {
 pub record IsOnePartMore (old : KeptParts) (spans : List Span) (new : KeptParts) : Type 0 where
   pub all : all_kept_parts new ≡ all_kept_parts old ++ own_all (length old.keepers) spans
   pub count : length new.keepers ≡ length old.keepers + 1
-  pub rows : (part keeper : ℕ) → slice_get old.keepers part ≡ Some keeper → slice_get new.keepers part ≡ Some keeper
-  pub lists : (part keeper : ℕ) → slice_get old.keepers part ≡ Some keeper → list_of new.ranges keeper ≡ list_of old.ranges keeper
+  pub rows : (part keeper : ℕ) → slice_get old.keepers part ≡ Some keeper
+      → slice_get new.keepers part ≡ Some keeper
+  pub lists : (part keeper : ℕ) → slice_get old.keepers part ≡ Some keeper
+      → list_of new.ranges keeper ≡ list_of old.ranges keeper
   pub others : (list : List Span) (keeper : Option ℕ) → IsPartList old list keeper → IsPartList new list keeper
 
 -- one part more, which announces what one with a keeper does

@@ -2,8 +2,8 @@
 ghost use Rattle.std.specs.Prelude.{◌≡◌, ◌+◌, ◌<◌, ◌≤◌, [], length, take, drop, IfOk, IfSome, Some};
 ghost use Rattle.std.specs.Bool.{OnTrue};
 ghost use Rattle.std.specs.List.{slice_get};
-ghost use Rattle.blz_ranges.specs.Owned.{items_of, owned};
-ghost use Rattle.blz_announced.specs.Copies.{list_of, AreKeepers, IsPartList, IsSamePartMore, IsKeptPartMore};
+ghost use Rattle.blz_ranges.specs.Owned.{owned};
+ghost use Rattle.blz_announced.specs.Copies.{list_of, ranges_between, AreKeepers, IsPartList, IsSamePartMore, IsKeptPartMore};
 
 use crate::keepers::Keepers;
 use blz_ranges::{Span, own};
@@ -88,7 +88,7 @@ impl KeptParts {
     fn bounds_of(&self, keeper: usize) -> (usize, usize)
         requires { slice_get self.now.keepers keeper ≡ Some keeper }
         ensures within { result.0 + result.1 ≤ length self.now.ranges }
-        ensures list { take result.1 (drop result.0 (items_of self.now.ranges)) ≡ list_of self.now.ranges keeper }
+        ensures list { ranges_between self.now.ranges result ≡ list_of self.now.ranges keeper }
     {
         let start = self.keepers.start(keeper);
         (start, self.keepers.ends[keeper] - start)
