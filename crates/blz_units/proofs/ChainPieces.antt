@@ -9,8 +9,8 @@ use Rattle.blz_entry.specs.RangeTails.{moved}
 use Rattle.blz_ranges.specs.Owned.{Owned, own_all}
 use Rattle.blz_ranges.specs.declared.span.Span.{Span}
 use Rattle.blz_units.specs.RangeChains.{between, chain_at, counted, piece_cmp, piece_in, ArePieces, CanCount, CanPutAgain, IsKeptPiece, IsPieceAgain}
-use Rattle.blz_units.specs.declared.range_chains.ChainPiece.{ChainPiece}
-use Rattle.blz_units.specs.declared.range_chains.KeptPiece.{KeptPiece}
+use Rattle.blz_units.specs.declared.chain_pieces.ChainPiece.{ChainPiece}
+use Rattle.blz_units.specs.declared.chain_pieces.KeptPiece.{KeptPiece}
 use Rattle.blz_units.specs.declared.range_chains.RangeChains.{RangeChains}
 use Rattle.blz_units.proofs.Chained.{if_mapped}
 use Rattle.blz_units.proofs.CountedRanges.{all_moved, can_back, can_front, can_shift}

@@ -24,11 +24,11 @@ use Rattle.blz_functions.specs.Leaves.{UnitParts, entry_behind, lying, ranges_in
 use Rattle.blz_announced.specs.Units.{KeptRanges, IsListOf}
 use Rattle.blz_units.specs.RangeChains.{chain_at, counted, items_or_none, last_in, list_in, piece_cmp, piece_in, CanCount, Grow, HasLast, IsChainOf, IsInChain, IsKeptPiece, IsLastIn, IsPassed, IsPassedEntry, IsPlaced, IsReadTo, IsWholeChain, KeepsChains}
 use Rattle.blz_units.specs.RootKeys.{list_cmp, tail_key}
+use Rattle.blz_units.specs.declared.chain_pieces.ChainPiece.{ChainPiece}
+use Rattle.blz_units.specs.declared.chain_pieces.KeptPiece.{KeptPiece}
 use Rattle.blz_units.specs.declared.passed_list.PassedEntry.{PassedEntry}
 use Rattle.blz_units.specs.declared.passed_list.PassedList.{PassedList}
-use Rattle.blz_units.specs.declared.range_chains.ChainPiece.{ChainPiece}
 use Rattle.blz_units.specs.declared.range_chains.ChainPlace.{ChainPlace}
-use Rattle.blz_units.specs.declared.range_chains.KeptPiece.{KeptPiece}
 use Rattle.blz_units.specs.declared.range_chains.ListPlace.{ListPlace}
 use Rattle.blz_units.specs.declared.range_chains.RangeChains.{RangeChains}
 use Rattle.blz_units.specs.declared.root_key.ListKey.{ListKey}

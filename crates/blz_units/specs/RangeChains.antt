@@ -20,12 +20,12 @@ use Rattle.blz_announced.specs.Shifts.{CanBeShifted}
 use Rattle.blz_announced.specs.Units.{KeptRanges, IsListOf, IsWithPart}
 use Rattle.blz_announced.specs.declared.shift.Shift.{Shift}
 use Rattle.blz_units.specs.RootKeys.{list_cmp, tail_key, AreListSpans}
-use Rattle.blz_units.specs.contracts.range_chains.ChainPieceOrd.TheImpl as pieces
+use Rattle.blz_units.specs.contracts.chain_pieces.ChainPieceOrd.TheImpl as pieces
+use Rattle.blz_units.specs.declared.chain_pieces.ChainPiece.{ChainPiece}
+use Rattle.blz_units.specs.declared.chain_pieces.KeptPiece.{KeptPiece}
 use Rattle.blz_units.specs.declared.passed_list.PassedEntry.{PassedEntry}
 use Rattle.blz_units.specs.declared.passed_list.PassedList.{PassedList}
-use Rattle.blz_units.specs.declared.range_chains.ChainPiece.{ChainPiece}
 use Rattle.blz_units.specs.declared.range_chains.ChainPlace.{ChainPlace}
-use Rattle.blz_units.specs.declared.range_chains.KeptPiece.{KeptPiece}
 use Rattle.blz_units.specs.declared.range_chains.ListPlace.{ListPlace}
 use Rattle.blz_units.specs.declared.range_chains.RangeChains.{RangeChains}
 use Rattle.blz_units.specs.declared.range_chains.ToldRanges.{ToldRanges}

@@ -4,10 +4,25 @@ ghost use Rattle.blz_announced.specs.Units.{KeptRanges, IsWithPart, IsWithUnit};
 ghost use Rattle.blz_units.specs.RangeChains.{chain_at, counted, last_in, list_in, piece_in, ArePieces, CanCount, CanPutAgain, HasLast, IsKeptPiece, IsPieceAgain, IsWithin};
 
 use crate::counted_ranges::counted;
-use crate::range_chains::{ChainPiece, ChainPlace, KeptPiece, ListPlace, RangeChains, put_back};
+use crate::range_chains::{ChainPlace, ListPlace, RangeChains, put_back};
 use blz_announced::{KeptRanges, Shift};
 use blz_entry::Span;
 use std::alloc::{AllocError, Global};
+
+/// Some ranges of a chain, counted from the last range of its lists.
+#[derive(Clone, Copy, PartialEq, Eq, PartialOrd, Ord)]
+pub struct ChainPiece {
+    pub chain: usize,
+    pub start: usize,
+    pub len: usize,
+}
+
+/// The keeper of a piece, which announces its ranges as they count from a base.
+#[derive(Clone, Copy)]
+pub struct KeptPiece {
+    pub keeper: usize,
+    pub base: u64,
+}
 
 /// How many ranges the piece has that some last ranges of a chain begin with: the greatest power of two that divides their
 /// number. So the pieces of all lists of a chain are few, and so are those of each list.

@@ -10,6 +10,7 @@ ghost use Rattle.blz_units.specs.RangeChains.{chain_at, AreChains, ArePieces, Ar
 ghost use Rattle.blz_units.specs.RelativeLists.{zero_tail};
 ghost use Rattle.blz_units.specs.RootKeys.{tail_key};
 
+use crate::chain_pieces::{ChainPiece, KeptPiece};
 use crate::list_reach::from_zero;
 use crate::named_lists::{ListBegin, NamedLists};
 use crate::passed_list::{PassedEntry, PassedList};
@@ -55,21 +56,6 @@ pub struct RangeChains {
     pub(crate) chains: Vec<Vec<Span>>,
     /// The keepers of pieces that units announce.
     pub(crate) pieces: BTreeMap<ChainPiece, KeptPiece>,
-}
-
-/// Some ranges of a chain, counted from the last range of its lists.
-#[derive(Clone, Copy, PartialEq, Eq, PartialOrd, Ord)]
-pub struct ChainPiece {
-    pub chain: usize,
-    pub start: usize,
-    pub len: usize,
-}
-
-/// The keeper of a piece, which announces its ranges as they count from a base.
-#[derive(Clone, Copy)]
-pub struct KeptPiece {
-    pub keeper: usize,
-    pub base: u64,
 }
 
 /// A list of no more entries is read anew each time: that takes less than to keep it.
