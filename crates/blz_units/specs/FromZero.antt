@@ -1,11 +1,11 @@
 -- What the root of a unit announces whose list is told as it counts from 0.
 use Rattle.std.specs.Prelude.{◌≡◌, ℕ, ◌+◌, ◌<◌, List, Some}
 use Rattle.blz_entry.specs.RangeLists.{greatest}
-use Rattle.blz_functions.specs.Leaves.{UnitParts, spans_behind}
+use Rattle.blz_functions.specs.Leaves.{UnitParts}
 use Rattle.blz_ranges.specs.declared.span.Span.{Span}
 use Rattle.blz_units.specs.Keeping.{IsRootTold}
 use Rattle.blz_units.specs.RangeChains.{AreTold}
-use Rattle.blz_units.specs.RelativeLists.{zero_tail, IsRelativeTo}
+use Rattle.blz_units.specs.RelativeLists.{spans_from_zero, IsRelativeTo}
 use Rattle.blz_units.specs.declared.announcement.UnitRanges.{UnitRanges}
 use Rattle.blz_units.specs.declared.known_roots.KnownRoots.{KnownRoots}
 use Rattle.blz_units.specs.declared.range_chains.RangeChains.{RangeChains}
@@ -25,5 +25,6 @@ pub record CountsFromBase (u : UnitParts) (offset : ℕ) : Type 0 where
 
 -- What tells the list from 0 on tells what the unit announces.
 abbrev pub CountsTold : UnitParts → ToldRanges → UnitRanges → Type 0
-CountsTold u told new = (roots : KnownRoots) (c : RangeChains) (offset : ℕ) → u.root.ranges.ranges_offset ≡ Some offset
-    → CountsFromBase u offset → AreTold c (spans_behind u (zero_tail offset)) told → IsRootTold u roots c new
+CountsTold u told new = (roots : KnownRoots) (c : RangeChains) (offset : ℕ)
+    → u.root.ranges.ranges_offset ≡ Some offset → CountsFromBase u offset
+    → AreTold c (spans_from_zero u offset) told → IsRootTold u roots c new

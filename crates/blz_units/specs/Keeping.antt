@@ -58,11 +58,14 @@ abbrev pub IsRootTold : UnitParts → KnownRoots → RangeChains → UnitRanges 
 IsRootTold u roots chains (Again known) = IsMetOf roots u known
 IsRootTold u roots chains (Moved m) = IsRootMoved u roots m
 IsRootTold u roots chains (Spans spans key) = (root_spans u ≡ Some spans.items) × IfSome key (IsKeyOf u)
-IsRootTold u roots chains (Chained front place base) = IsCountedIn chains (root_spans u) front.items place base
+IsRootTold u roots chains (Chained front place base) =
+    IsCountedIn chains (root_spans u) front.items place base
 
 -- Nothing is told, or what is told of a root whatever roots were met.
 abbrev pub MayTellRoot : UnitParts → RangeChains → Result (Option UnitRanges) Fault → Type 0
-MayTellRoot u chains result = MatchResult result (λ o. IfSome o (λ told. (roots : KnownRoots) → IsRootTold u roots chains told)) (λ e. Fails e.kind (or_invalid (root_spans u)))
+MayTellRoot u chains result = MatchResult result
+    (λ o. IfSome o (λ told. (roots : KnownRoots) → IsRootTold u roots chains told))
+    (λ e. Fails e.kind (or_invalid (root_spans u)))
 
 abbrev pub TellsRoot : UnitParts → KnownRoots → RangeChains → Result UnitRanges Fault → Type 0
 TellsRoot u roots chains result = MatchResult result (IsRootTold u roots chains) (λ e. Fails e.kind (or_invalid (root_spans u)))
@@ -103,7 +106,8 @@ abbrev pub IsTold : FileSections → KnownRoots → RangeChains → Option (Opti
 IsTold s roots chains announced (Again known) = IsAgain s roots known announced
 IsTold s roots chains announced (Moved m) = IsMoved s roots m announced
 IsTold s roots chains announced (Spans spans key) = (announced ≡ Some (Some spans.items)) × IfSome key (AreSpansOf s spans.items)
-IsTold s roots chains announced (Chained front place base) = IsChained chains announced front.items place base
+IsTold s roots chains announced (Chained front place base) =
+    IsChained chains announced front.items place base
 
 abbrev pub TellsBuilt : FileSections → KnownRoots → RangeChains → Option (Option (List Span)) → Result Announcement Fault → Type 0
 TellsBuilt s roots chains announced result =
@@ -181,4 +185,5 @@ CanBeKept ranges known (Chained front place base) = CanBeChained ranges known.li
 -- What is told of a unit is kept as what it announces, and what is known of the units stays so.
 abbrev pub KeepsTold : KeptRanges → KnownRanges → UnitRanges → KeptRanges → KnownRanges → Type 0
 KeepsTold ranges old told new known = (s : FileSections) (announced : Option (Option (List Span)))
-    → AreKnown s ranges old → IsTold s old.roots old.lists.chains announced told → IsNext ranges new announced × AreKnown s new known
+    → AreKnown s ranges old → IsTold s old.roots old.lists.chains announced told
+    → IsNext ranges new announced × AreKnown s new known

@@ -17,7 +17,7 @@ use Rattle.blz_functions.specs.Leaves.{UnitParts, entry_behind, spans_behind}
 use Rattle.blz_functions.specs.MovedTail.{Stays}
 use Rattle.blz_announced.specs.Copies.{list_of}
 use Rattle.blz_announced.specs.Shifts.{CanBeShifted}
-use Rattle.blz_announced.specs.Units.{KeptRanges, IsListOf, IsWithPart}
+use Rattle.blz_announced.specs.Units.{KeptRanges, IsListOf, IsWithPart, IsWithUnit}
 use Rattle.blz_announced.specs.declared.shift.Shift.{Shift}
 use Rattle.blz_units.specs.RootKeys.{list_cmp, tail_key, AreListSpans}
 use Rattle.blz_units.specs.contracts.chain_pieces.ChainPieceOrd.TheImpl as pieces
@@ -141,6 +141,25 @@ IsPieceAgain old kept base new =
 
 abbrev pub ArePieces : KeptRanges → RangeChains → Type 0
 ArePieces ranges c = (p : ChainPiece) → IfSome (get piece_cmp c.pieces p) (IsKeptPiece ranges c.chains.items p)
+
+-- One part more announces a piece, counted from a base.
+abbrev pub IsWithPiece : KeptRanges → RangeChains → ChainPiece → ℕ → KeptRanges → Type 0
+IsWithPiece old c p base = IsWithPart old (counted base (piece_in c.chains.items p))
+
+-- One part more announces the last ranges of a chain, counted from a base.
+abbrev pub IsWithLast : KeptRanges → RangeChains → ChainPlace → ℕ → KeptRanges → Type 0
+IsWithLast old c place base = IsWithPart old (counted base (last_in c.chains.items place))
+
+-- One unit more announces some ranges, and then those of a place, counted from a base.
+abbrev pub IsWithChained : KeptRanges → List Span → RangeChains → ListPlace → ℕ → KeptRanges → Type 0
+IsWithChained old front c place base =
+    IsWithUnit old (front ++ counted base (list_in c.chains.items place))
+
+-- The keeper of a piece is noted, if it has one, which announces its ranges as they count from a base.
+abbrev pub NotesPiece : RangeChains → ChainPiece → Option ℕ → ℕ → RangeChains → Type 0
+NotesPiece old p keeper base new = (ranges : KeptRanges)
+    → IfSome keeper (λ k. IsKeptPiece ranges old.chains.items p (record { keeper = k; base = base }))
+    → ArePieces ranges old → ArePieces ranges new
 
 -- ---- what calls leave of them
 

@@ -4,7 +4,7 @@ use Rattle.std.specs.BTreeMap.{get}
 use Rattle.std.specs.Option.{option_to_list}
 use Rattle.blz_entry.specs.RangeLists.{list_length}
 use Rattle.blz_entry.specs.declared.range_tail.RangeTail.{RangeTail}
-use Rattle.blz_functions.specs.Leaves.{UnitParts, lying}
+use Rattle.blz_functions.specs.Leaves.{UnitParts, lying, spans_behind}
 use Rattle.blz_functions.specs.Reach.{ReachesUpTo, ReachUpTo}
 use Rattle.blz_functions.specs.RelativeList.{HasPut, IsRelativeIn}
 use Rattle.blz_info.specs.FileSections.{FileSections}
@@ -22,6 +22,10 @@ use Rattle.blz_units.specs.declared.root_key.ListKey.{ListKey}
 -- where it counts from 0
 abbrev pub zero_tail : ℕ → RangeTail
 zero_tail place = record { place = place; base = 0 }
+
+-- the ranges of a list that counts from 0
+abbrev pub spans_from_zero : UnitParts → ℕ → Option (List Span)
+spans_from_zero u place = spans_behind u (zero_tail place)
 
 -- So far it reaches with a range more, if there is one.
 abbrev pub IsReachWith : ℕ → Option Span → ℕ → Type 0

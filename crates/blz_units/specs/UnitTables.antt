@@ -62,6 +62,10 @@ abbrev pub by_root : Option UnitParts → Option (Option (List Span))
 by_root None = Some None
 by_root (Some u) = root_spans u >>= λ spans. Some (Some spans)
 
+-- what a unit announces that no set names
+abbrev pub root_announces : FileSections → UnitHeader → Option (Option (List Span))
+root_announces s h = by_root (built s h)
+
 -- A unit whose start is named with ranges is not built.
 abbrev pub by_pairs : List Span → Option UnitParts → Option (Option (List Span))
 by_pairs [] unit = by_root unit

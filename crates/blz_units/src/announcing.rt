@@ -14,7 +14,7 @@ ghost use Rattle.blz_model.specs.declared.cache.Cache.TheVariants.{Empty};
 ghost use Rattle.blz_units.specs.declared.announcement.UnitRanges.TheVariants.{Spans};
 ghost use Rattle.blz_units.specs.declared.dwarf.Origin.TheVariants.{Main};
 ghost use Rattle.blz_units.specs.UnitLists.{IsInPlace};
-ghost use Rattle.blz_units.specs.UnitTables.{announces, by_root, is_type, is_partial};
+ghost use Rattle.blz_units.specs.UnitTables.{announces, is_type, is_partial, root_announces};
 
 use crate::address_sets::AddressSets;
 use crate::announced_lines::ranges_by_lines;
@@ -142,7 +142,8 @@ fn unit_ranges(
     requires fits { BuiltFits (files_view dwarf.now) unit.now }
     requires main { unit.now.origin ≡ Main }
     requires lists { AreRootLists (files_view dwarf.now).main lists.old }
-    ensures value { TellsRoot (built_view (files_view dwarf.now) unit.now) roots.now lists.new.chains result }
+    ensures value { TellsRoot (built_view (files_view dwarf.now) unit.now) roots.now
+        lists.new.chains result }
     ensures kept { IfOk result (λ _. KeepsLists (files_view dwarf.now).main lists.old lists.new) }
 {
     root_ranges(alloc, &unit.open(dwarf), roots, lists)
@@ -181,7 +182,8 @@ fn announced_by(
     requires main { unit.origin ≡ Main }
     requires is { or_invalid (built (files_view dwarf.now).main header.now) ≡ Good (built_view (files_view dwarf.now) unit) }
     requires lists { AreRootLists (files_view dwarf.now).main lists.old }
-    ensures told { TellsBuilt (files_view dwarf.now).main roots.now lists.new.chains (by_root (built (files_view dwarf.now).main header.now)) result }
+    ensures told { TellsBuilt (files_view dwarf.now).main roots.now lists.new.chains
+        (root_announces (files_view dwarf.now).main header.now) result }
     ensures part { IfOk result (HasPartOf (files_view dwarf.now) header.now) }
     ensures kept { IfOk result (λ _. KeepsLists (files_view dwarf.now).main lists.old lists.new) }
 {
@@ -203,7 +205,8 @@ fn announced_by_root(
     requires in_place { IsInPlace header.now }
     requires shared { AreShared (files_view dwarf.now).main shared.old }
     requires lists { AreRootLists (files_view dwarf.now).main lists.old }
-    ensures told { TellsUnit (files_view dwarf.now).main roots.now lists.new.chains (by_root (built (files_view dwarf.now).main header.now)) result }
+    ensures told { TellsUnit (files_view dwarf.now).main roots.now lists.new.chains
+        (root_announces (files_view dwarf.now).main header.now) result }
     ensures part { IfOk result (λ told. IfSome told (HasPartOf (files_view dwarf.now) header.now)) }
     ensures kept { IfOk result (λ _. KeepsLists (files_view dwarf.now).main lists.old lists.new) }
     ensures shared { AreShared (files_view dwarf.now).main shared.new }
@@ -247,7 +250,8 @@ pub fn announced(
     requires in_place { IsInPlace header.now }
     requires shared { AreShared (files_view dwarf.now).main shared.old }
     requires lists { AreRootLists (files_view dwarf.now).main lists.old }
-    ensures told { TellsUnit (files_view dwarf.now).main roots.now lists.new.chains (announces (files_view dwarf.now).main sets.now header.now) result }
+    ensures told { TellsUnit (files_view dwarf.now).main roots.now lists.new.chains
+        (announces (files_view dwarf.now).main sets.now header.now) result }
     ensures part { IfOk result (λ told. IfSome told (HasPartOf (files_view dwarf.now) header.now)) }
     ensures kept { IfOk result (λ _. KeepsLists (files_view dwarf.now).main lists.old lists.new) }
     ensures shared { AreShared (files_view dwarf.now).main shared.new }

@@ -1,7 +1,7 @@
 //! The pieces of chains of ranges that units announce, each kept once.
-ghost use Rattle.std.specs.Prelude.{◌≡◌, ◌+◌, ◌++◌, ◌<◌, ◌≤◌, IfOk, IfSome, length, reverse};
-ghost use Rattle.blz_announced.specs.Units.{KeptRanges, IsWithPart, IsWithUnit};
-ghost use Rattle.blz_units.specs.RangeChains.{chain_at, counted, last_in, list_in, piece_in, ArePieces, CanCount, CanPutAgain, HasLast, IsKeptPiece, IsPieceAgain, IsWithin};
+ghost use Rattle.std.specs.Prelude.{◌≡◌, ◌+◌, ◌<◌, ◌≤◌, IfOk, IfSome, length, reverse};
+ghost use Rattle.blz_announced.specs.Units.{KeptRanges, IsWithPart};
+ghost use Rattle.blz_units.specs.RangeChains.{chain_at, last_in, list_in, piece_in, ArePieces, CanCount, CanPutAgain, HasLast, IsKeptPiece, IsPieceAgain, IsWithChained, IsWithLast, IsWithPiece, IsWithin, NotesPiece};
 
 use crate::counted_ranges::counted;
 use crate::range_chains::{ChainPlace, ListPlace, RangeChains, put_back};
@@ -98,7 +98,7 @@ impl RangeChains {
         keeper: Option<usize>,
         base: u64,
     ) -> Result<(), AllocError>
-        ensures pieces { IfOk result (λ _. (ranges : KeptRanges) → IfSome keeper (λ k. IsKeptPiece ranges self.old.chains.items piece (record { keeper = k; base = base })) → ArePieces ranges self.old → ArePieces ranges self.new) }
+        ensures pieces { IfOk result (λ _. NotesPiece self.old piece keeper base self.new) }
         ensures chains { self.new.chains ≡ self.old.chains }
         ensures places { self.new.places ≡ self.old.places }
     {
@@ -119,7 +119,7 @@ impl RangeChains {
         requires within { piece.start + piece.len ≤ length (chain_at self.old.chains.items piece.chain) }
         requires can { CanCount base (piece_in self.old.chains.items piece) }
         requires pieces { ArePieces ranges self.old }
-        ensures part { IfOk result (IsWithPart ranges (counted base (piece_in self.old.chains.items piece))) }
+        ensures part { IfOk result (IsWithPiece ranges self.old piece base) }
         ensures pieces { IfOk result (λ k. ArePieces k self.new) }
         ensures chains { self.new.chains ≡ self.old.chains }
         ensures places { self.new.places ≡ self.old.places }
@@ -149,7 +149,7 @@ impl RangeChains {
         requires within { piece.start + piece.len ≤ length (chain_at self.old.chains.items piece.chain) }
         requires can { CanCount base (piece_in self.old.chains.items piece) }
         requires pieces { ArePieces ranges self.old }
-        ensures part { IfOk result (IsWithPart ranges (counted base (piece_in self.old.chains.items piece))) }
+        ensures part { IfOk result (IsWithPiece ranges self.old piece base) }
         ensures pieces { IfOk result (λ k. ArePieces k self.new) }
         ensures chains { self.new.chains ≡ self.old.chains }
         ensures places { self.new.places ≡ self.old.places }
@@ -171,7 +171,7 @@ impl RangeChains {
         requires within { HasLast self.old.chains.items place }
         requires can { CanCount base (last_in self.old.chains.items place) }
         requires pieces { ArePieces ranges self.old }
-        ensures parts { IfOk result (IsWithPart ranges (counted base (last_in self.old.chains.items place))) }
+        ensures parts { IfOk result (IsWithLast ranges self.old place base) }
         ensures pieces { IfOk result (λ k. ArePieces k self.new) }
         ensures chains { self.new.chains ≡ self.old.chains }
         ensures places { self.new.places ≡ self.old.places }
@@ -203,7 +203,7 @@ impl RangeChains {
         requires within { IsWithin self.old.chains.items place }
         requires can { CanCount base (list_in self.old.chains.items place) }
         requires pieces { ArePieces ranges self.old }
-        ensures unit { IfOk result (IsWithUnit ranges (front.now ++ counted base (list_in self.old.chains.items place))) }
+        ensures unit { IfOk result (IsWithChained ranges front.now self.old place base) }
         ensures pieces { IfOk result (λ k. ArePieces k self.new) }
         ensures chains { self.new.chains ≡ self.old.chains }
         ensures places { self.new.places ≡ self.old.places }

@@ -207,7 +207,8 @@ impl RelativeLists {
         offset: u64,
     ) -> Result<bool, AllocError>
         requires lists { AreRelative (open_view unit.now).sections self.old }
-        ensures counts { IfOk result (λ counts. counts ≡ true → CountsFromBase (open_view unit.now) offset) }
+        ensures counts { IfOk result (λ counts. counts ≡ true
+            → CountsFromBase (open_view unit.now) offset) }
         ensures lists { AreRelative (open_view unit.now).sections self.new }
     {
         let place = offset as usize;

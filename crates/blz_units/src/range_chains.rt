@@ -7,7 +7,7 @@ ghost use Rattle.blz_info.specs.FileSections.{FileSections};
 ghost use Rattle.blz_info.specs.Marks.{or_invalid};
 ghost use Rattle.blz_model.specs.Part.{Gives};
 ghost use Rattle.blz_units.specs.RangeChains.{chain_at, AreChains, ArePieces, AreTold, Grow, HasLast, HasNoRest, IsChainOf, IsInChain, IsLastIn, IsNewBefore, IsPassed, IsReadTo, IsWholeChain, KeepsChains, KeepsPieces, MayBePut, MayTell, MayTellList, Puts, ReadsOn, TellsList, TellsRanges};
-ghost use Rattle.blz_units.specs.RelativeLists.{zero_tail};
+ghost use Rattle.blz_units.specs.RelativeLists.{spans_from_zero};
 ghost use Rattle.blz_units.specs.RootKeys.{tail_key};
 
 use crate::chain_pieces::{ChainPiece, KeptPiece};
@@ -190,7 +190,7 @@ impl RangeChains {
     ) -> std::result::Result<ListPlace, AllocError>
         requires passed { IsPassed (open_view unit.now) list.now }
         requires rest { IsChainOf self.old (spans_behind (open_view unit.now) list.now.rest) rest }
-        ensures kept { IfOk result (λ _. KeepsChains (open_view unit.now).sections self.old self.new) }
+        ensures kept { OnOk result (KeepsChains (open_view unit.now).sections self.old self.new) }
         ensures place { IfOk result (IsLastIn self.new (spans_behind (open_view unit.now) list.now.start) []) }
     {
         let chain = rest.front.chain;
@@ -228,7 +228,7 @@ impl RangeChains {
     ) -> std::result::Result<Option<ListPlace>, AllocError>
         requires chains { AreChains (open_view unit.now).sections self.old }
         requires over { over ≡ true → HasNoRest (open_view unit.now) list.now }
-        ensures kept { IfOk result (λ _. KeepsChains (open_view unit.now).sections self.old self.new) }
+        ensures kept { OnOk result (KeepsChains (open_view unit.now).sections self.old self.new) }
         ensures chain { IfOk result (MayBePut (open_view unit.now) list.now self.new) }
     {
         if over {
@@ -272,7 +272,7 @@ impl RangeChains {
     ) -> std::result::Result<Option<ToldRanges>, AllocError>
         requires chains { AreChains (open_view unit.now).sections self.old }
         requires read { IsReadTo (open_view unit.now) list over }
-        ensures kept { IfOk result (λ _. KeepsChains (open_view unit.now).sections self.old self.new) }
+        ensures kept { OnOk result (KeepsChains (open_view unit.now).sections self.old self.new) }
         ensures told { IfOk result (λ told. IfSome told (AreTold self.new (spans_behind (open_view unit.now) list.start))) }
     {
         match self.chain_of(alloc, unit, &list, over)? {
@@ -292,7 +292,7 @@ impl RangeChains {
         begin: ListBegin,
     ) -> std::result::Result<(), AllocError>
         requires { AreChains (open_view unit.now).sections self.old }
-        ensures { IfOk result (λ _. KeepsChains (open_view unit.now).sections self.old self.new) }
+        ensures { OnOk result (KeepsChains (open_view unit.now).sections self.old self.new) }
     {
         self.named.forget(unit, begin);
         let mut list = PassedList::new(alloc, begin);
@@ -350,7 +350,7 @@ impl RangeChains {
     ) -> Result<bool>
         requires chains { AreChains (open_view unit.now).sections self.old }
         requires passed { IsPassed (open_view unit.now) list.old }
-        ensures kept { IfOk result (λ _. KeepsChains (open_view unit.now).sections self.old self.new) }
+        ensures kept { OnOk result (KeepsChains (open_view unit.now).sections self.old self.new) }
         ensures value { ReadsOn (open_view unit.now) list.old list.new result }
         ensures start { list.new.start ≡ list.old.start }
     {
@@ -439,7 +439,7 @@ impl RangeChains {
         tail: RangeTail,
     ) -> Result<Option<ToldRanges>>
         requires chains { AreChains (open_view unit.now).sections self.old }
-        ensures kept { IfOk result (λ _. KeepsChains (open_view unit.now).sections self.old self.new) }
+        ensures kept { OnOk result (KeepsChains (open_view unit.now).sections self.old self.new) }
         ensures told { MayTell self.new (spans_behind (open_view unit.now) tail) result }
     {
         let begin = ListBegin { tail, own: false };
@@ -469,8 +469,8 @@ impl RangeChains {
         offset: u64,
     ) -> Result<Option<ToldRanges>>
         requires chains { AreChains (open_view unit.now).sections self.old }
-        ensures kept { IfOk result (λ _. KeepsChains (open_view unit.now).sections self.old self.new) }
-        ensures told { MayTell self.new (spans_behind (open_view unit.now) (zero_tail offset)) result }
+        ensures kept { OnOk result (KeepsChains (open_view unit.now).sections self.old self.new) }
+        ensures told { MayTell self.new (spans_from_zero (open_view unit.now) offset) result }
     {
         self.tell_list(alloc, unit, from_zero(offset as usize))
     }
@@ -478,7 +478,7 @@ impl RangeChains {
     /// What tells the ranges of the root of a unit. InvalidDwarf exactly where they have no value.
     pub fn ranges_of(&mut self, alloc: Global, unit: &OpenUnit<'_, '_>) -> Result<ToldRanges>
         requires chains { AreChains (open_view unit.now).sections self.old }
-        ensures kept { IfOk result (λ _. KeepsChains (open_view unit.now).sections self.old self.new) }
+        ensures kept { OnOk result (KeepsChains (open_view unit.now).sections self.old self.new) }
         ensures told { TellsRanges self.new (ranges_in (open_view unit.now) unit.now.root.ranges) result }
     {
         if let Some(offset) = unit.root.ranges.ranges_offset {

@@ -72,7 +72,8 @@ impl SharedPrograms {
         at: u64,
     ) -> Result<Option<ProgramRun>>
         requires { ArePrograms (sections_view sections.now) self.old }
-        ensures value { ButForMemory (IsRunOf (section_view sections.now.line) header.now at) result }
+        ensures value { ButForMemory (IsRunOf (section_view sections.now.line) header.now at)
+            result }
         ensures accepted { IfOk result (λ run. IfSome run (IsRunOrderedBy O.pair_places)) }
         ensures kept { ArePrograms (sections_view sections.now) self.new }
     {
