@@ -1,6 +1,8 @@
 -- How far a list reaches from each of its entries on.
-use Rattle.std.proofs.Common.{◌≡◌, ℕ, ◌<◌, true, List, [], ◌++◌, length, Option, Some, None, refl, subst, arith}
+use Rattle.std.proofs.Common.{◌≡◌, ℕ, ◌<◌, true, List, [], ◌++◌, length, Option, Some, None, refl, sym, subst, arith}
+use Rattle.std.specs.List.{All}
 use Rattle.std.specs.Option.{option_to_list}
+use Rattle.std.specs.Prelude.{slice_index_or}
 use Rattle.std.proofs.lemmas.List.Elements.{All-cons, All-nil, All-weaker}
 use Rattle.blz_entry.proofs.RangeSteps.{tail_ahead}
 use Rattle.blz_entry.specs.declared.range_tail.RangeTail.{RangeTail}
@@ -30,6 +32,16 @@ counts_more u e most new h farther k = record {
   within = reach_before most new k.spans e.span farther k.within;
   some = some_before most new k.spans e.span farther k.some;
 }
+
+-- the entry that stands for one that there is not
+abbrev pub no_entry : CountedEntry
+no_entry = record { place = 0; span = None; behind = 0 }
+
+-- the one of some entries behind which the list reaches so far
+pub counts_back : (u : UnitParts) (entries : List CountedEntry) → All (IsCountedEntry u) entries → (n : ℕ) → n < length entries → (at most new : ℕ) → CountsUpTo u at most → (slice_index_or entries n no_entry).behind ≡ at → IsReachWith most (slice_index_or entries n no_entry).span new → CountsUpTo u (slice_index_or entries n no_entry).place new
+counts_back u entries each n lt at most new reach same farther =
+    let behind = subst (λ (k : ℕ). CountsUpTo u k most) (sym same) reach in
+    counts_more u (slice_index_or entries n no_entry) most new (each n no_entry lt) farther behind
 
 -- the end of a list
 pub counts_none : (u : UnitParts) (place : ℕ) → entry_behind u (zero_tail place) ≡ Some None → CountsUpTo u place 0
