@@ -1,9 +1,8 @@
 -- One unit more among those that are kept.
 use Rattle.std.proofs.Common.{◌≡◌, ℕ, length, List, [], ◌∷◌, ◌++◌, map, Option, Some, None, refl, sym, ap, subst, ◌∙◌, arith}
-use Rattle.std.specs.Prelude.{IfOk, IfSome, Result, Ok, Err}
+use Rattle.std.specs.Prelude.{IfSome}
 use Rattle.std.specs.BTreeMap.{get, IsEmpty, Updates}
 use Rattle.std.specs.List.{slice_get}
-use Rattle.std.specs.declared.alloc.AllocError.{AllocError}
 use Rattle.std.specs.declared.alloc.Global.{Global}
 use Rattle.std.specs.declared.vec.Vec.{Vec}
 use Rattle.blz_error.specs.declared.kind.ErrorKind.{ErrorKind}
@@ -18,8 +17,8 @@ use Rattle.blz_info.specs.declared.units.UnitHeader.{UnitHeader}
 use Rattle.blz_info.proofs.Marked.{marks_on}
 use Rattle.blz_announced.specs.Shifts.{shifted, CanBeShifted}
 use Rattle.blz_announced.specs.Units.{KeptRanges, all_kept, IsListOf, IsOnceMore, IsShiftedUnit, IsWithKeeper, IsWithUnit}
-use Rattle.blz_units.specs.Keeping.{Keeping, units_told, AreKnown, AreRoots, CanBeKept, CanBeMoved, IsAgain, IsMoved, IsNext, IsRootOf, IsTold, KeepsTold, MovesTo, NotesKept}
-use Rattle.blz_units.specs.RootKeys.{root_cmp, AreSpansOf}
+use Rattle.blz_units.specs.Keeping.{Keeping, units_told, AreKnown, AreRoots, CanBeKept, CanBeMoved, IsAgain, IsMoved, IsNext, IsRootOf, IsTold, KeepsTold, MovesTo, NotesKept, NotesKey}
+use Rattle.blz_units.specs.RootKeys.{root_cmp, AreSpansOf, IsKeyOf}
 use Rattle.blz_units.specs.RootLists.{KeepsLists}
 use Rattle.blz_units.specs.UnitLists.{EndBefore, IsInPlace}
 use Rattle.blz_units.specs.UnitTables.{KeptUnits, by_root, keep, root_spans}
@@ -79,7 +78,18 @@ own_keeper : (ranges : KeptRanges) (spans : List Span) (keeper : Option ℕ) →
 own_keeper ranges spans None h = tt
 own_keeper ranges spans (Some k) h = h.0
 
-module _ (s : FileSections) (ranges : KeptRanges) (roots : KnownRoots) (are : AreRoots s ranges roots) (known : KnownRoot) (o : Option (Option (List Span))) (again : IsAgain s roots known o) where
+-- a key of its own, beside the one that was met
+own_noted : (s : FileSections) (new : KeptRanges) (u : UnitParts) (spans : List Span) (key : Option RootKey) (keeper : Option ℕ)
+    → u.sections ≡ s → root_spans u ≡ Some spans → IsListOf new spans keeper → IfSome key (IsKeyOf u)
+    → IfSome key (λ k. IsRootOf s new (record { key = k; keeper = keeper }))
+own_noted s new u spans None keeper main is list own = tt
+own_noted s new u spans (Some key) keeper main is list own = record {
+  spans = spans;
+  list = list;
+  are = λ v here by. own v (here ∙ sym main) by ∙ is;
+}
+
+module _ (s : FileSections) (ranges : KeptRanges) (roots : KnownRoots) (are : AreRoots s ranges roots) (known : KnownRoot) (key : Option RootKey) (o : Option (Option (List Span))) (again : IsAgain s roots known key o) where
   root : IsRootOf s ranges known
   root = let at = again.met in rw at at (are known.key)
 
@@ -92,6 +102,11 @@ module _ (s : FileSections) (ranges : KeptRanges) (roots : KnownRoots) (are : Ar
     is = again.is ∙ root_told again.unit root.spans (root.are again.unit again.main again.told);
     with_unit = more root.spans root.list;
   }
+
+  again_root : (new : KeptRanges) → IsOnceMore ranges known.keeper new → IfSome key (λ k. IsRootOf s new (record { key = k; keeper = known.keeper }))
+  again_root new more =
+      let stays = (more root.spans root.list).others root.spans known.keeper root.list in
+      own_noted s new again.unit root.spans key known.keeper again.main (root.are again.unit again.main again.told) stays again.own
 
 -- ---- a unit whose ranges are those of such a key, moved
 
@@ -160,22 +175,26 @@ known_stays s old new known o next are = record {
 -- ---- what is told of it is kept
 
 pub can_keep : (s : FileSections) (ranges : KeptRanges) (known : KnownRanges) (o : Option (Option (List Span))) (told : UnitRanges) → AreKnown s ranges known → IsTold s known.roots known.lists.chains o told → CanBeKept ranges known told
-can_keep s ranges known o (Again met) are again = again_keeper s ranges known.roots are.roots met o again
+can_keep s ranges known o (Again met key) are again = again_keeper s ranges known.roots are.roots met key o again
 can_keep s ranges known o (Moved m) are told = moved_can s ranges known.roots are.roots m o told
 can_keep s ranges known o (Spans spans key) are is = tt
 can_keep s ranges known o (Chained front place base) are chained = record { within = chained.within; can = chained.can; pieces = are.pieces }
 
 -- what a unit with a key that was met does
-pub keeps_again : (ranges : KeptRanges) (known : KnownRanges) (met : KnownRoot) (r : Result KeptRanges AllocError) → IfOk r (IsOnceMore ranges met.keeper) → IfOk r (λ new. KeepsTold ranges known (Again met) new known)
-keeps_again ranges known met (Ok new) more = λ s o are again.
-    let next = again_next s ranges known.roots are.roots met o again new more in
-    (next, known_stays s ranges new known o next are)
-keeps_again ranges known met (Err e) more = tt
+pub keeps_again : (ranges : KeptRanges) (met : KnownRoot) (key : Option RootKey) (known : KnownRanges) (roots : KnownRoots) (new : KeptRanges)
+    → IsOnceMore ranges met.keeper new
+    → NotesKey known.roots key met.keeper roots
+    → KeepsTold ranges known (Again met key) new (record { roots = roots; lists = known.lists })
+keeps_again ranges met key known roots new more note = λ s o are again.
+    let next = again_next s ranges known.roots are.roots met key o again new more in
+    let stays = known_stays s ranges new known o next are in
+    let noted = again_root s ranges known.roots are.roots met key o again new more in
+    (next, record { roots = note s new stays.roots noted; lists = stays.lists; pieces = stays.pieces })
 
 -- some ranges, which a key may tell
 pub keeps_spans : (ranges : KeptRanges) (spans : Vec Span Global) (key : Option RootKey) (known : KnownRanges) (roots : KnownRoots) (new : KeptRanges × Option ℕ)
     → IsWithKeeper ranges spans.items new
-    → ((s : FileSections) (kept : KeptRanges) → AreRoots s kept known.roots → IfSome key (λ k. IsRootOf s kept (record { key = k; keeper = new.1 })) → AreRoots s kept roots)
+    → NotesKey known.roots key new.1 roots
     → KeepsTold ranges known (Spans spans key) new.0 (record { roots = roots; lists = known.lists })
 keeps_spans ranges spans key known roots new more note = λ s o are told.
     let next : IsNext ranges new.0 o = record { spans = spans.items; is = told.0; with_unit = more.with_unit } in

@@ -11,7 +11,7 @@ use Rattle.blz_units.specs.contracts.root_key.RangesKeyOrd.TheImpl as ranges
 use Rattle.blz_units.specs.contracts.program_key.StringsKeyOrd.TheImpl as strings
 use Rattle.blz_units.specs.contracts.shared_lists.ListsPlaceOrd.TheImpl as places
 use Rattle.blz_units.specs.declared.root_key.RangesKey.TheVariants.{Listed, Bounded, Unbounded}
-use Rattle.blz_units.specs.declared.root_key.RootKey.TheVariants.{ByRanges, ByLines}
+use Rattle.blz_units.specs.declared.root_key.RootKey.TheVariants.{ByRanges, ByLines, ByRun}
 use Rattle.blz_units.specs.declared.program_key.ProgramKey.{ProgramKey}
 use Rattle.blz_units.specs.declared.shared_lists.ListsPlace.TheVariants.{InFile, InPiece, InSup}
 
@@ -118,8 +118,13 @@ exact_program x y e =
 pub exact_root : CmpEqualImpliesEq root_cmp
 exact_root (ByRanges x) (ByRanges y) e = ap ByRanges (exact_ranges x y e)
 exact_root (ByRanges x) (ByLines q) e = absurd cc
+exact_root (ByRanges x) (ByRun q) e = absurd cc
 exact_root (ByLines p) (ByRanges y) e = absurd cc
 exact_root (ByLines None) (ByLines None) e = refl
 exact_root (ByLines None) (ByLines (Some q)) e = absurd cc
 exact_root (ByLines (Some p)) (ByLines None) e = absurd cc
 exact_root (ByLines (Some p)) (ByLines (Some q)) e = ap (λ (k : ProgramKey). ByLines (Some k)) (exact_program p q e)
+exact_root (ByLines p) (ByRun q) e = absurd cc
+exact_root (ByRun p) (ByRanges y) e = absurd cc
+exact_root (ByRun p) (ByLines q) e = absurd cc
+exact_root (ByRun p) (ByRun q) e = ap ByRun (exact_program p q e)

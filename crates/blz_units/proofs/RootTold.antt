@@ -90,7 +90,7 @@ key_told s u spans None at is told = tt
 key_told s u spans (Some key) at is told = λ v here by. told v (here ∙ sym at) by ∙ is
 
 pub built_told : (s : FileSections) (u : UnitParts) (o : Option UnitParts) (roots : KnownRoots) (c : RangeChains) (told : UnitRanges) → o ≡ Some u → u.sections ≡ s → IsRootTold u roots c told → IsTold s roots c (by_root o) told
-built_told s u o roots c (Again known) is at h = record { unit = u; main = at; met = h.0; told = h.1; is = ap by_root is }
+built_told s u o roots c (Again known key) is at h = record { unit = u; main = at; met = h.0.0; told = h.0.1; own = h.1; is = ap by_root is }
 built_told s u o roots c (Moved m) is at h = record { unit = u; main = at; moved = h; is = ap by_root is }
 built_told s u o roots c (Spans spans key) is at h = (ap by_root is ∙ ap as_told h.0, key_told s u spans.items key at h.0 h.1)
 built_told s u o roots c (Chained front place base) is at h = record { within = h.within; can = h.can; is = ap by_root is ∙ ap as_told h.is }

@@ -55,7 +55,7 @@ MayMove u roots o = IfSome o (IsRootMoved u roots)
 
 -- What is told of a root is what its unit announces, and a key with it tells the same of each unit.
 abbrev pub IsRootTold : UnitParts → KnownRoots → RangeChains → UnitRanges → Type 0
-IsRootTold u roots chains (Again known) = IsMetOf roots u known
+IsRootTold u roots chains (Again known key) = IsMetOf roots u known × IfSome key (IsKeyOf u)
 IsRootTold u roots chains (Moved m) = IsRootMoved u roots m
 IsRootTold u roots chains (Spans spans key) = (root_spans u ≡ Some spans.items) × IfSome key (IsKeyOf u)
 IsRootTold u roots chains (Chained front place base) =
@@ -74,18 +74,16 @@ TellsRoot u roots chains result = MatchResult result (IsRootTold u roots chains)
 abbrev pub IsToldByLines : UnitParts → KnownRoots → UnitRanges → Type 0
 IsToldByLines u roots told = (chains : RangeChains) → IsRootTold u roots chains told
 
--- The same whatever roots were met.
-abbrev pub IsToldAnew : UnitParts → UnitRanges → Type 0
-IsToldAnew u told = (roots : KnownRoots) → IsToldByLines u roots told
-
 -- ---- what is told of a unit
 
--- A unit is built, and has a key that was met.
-pub record IsAgain (s : FileSections) (roots : KnownRoots) (known : KnownRoot) (announced : Option (Option (List Span))) : Type 0 where
+-- A unit is built, and has a key that was met; one of its own tells the same, if there is one.
+pub record IsAgain (s : FileSections) (roots : KnownRoots) (known : KnownRoot) (key : Option RootKey)
+    (announced : Option (Option (List Span))) : Type 0 where
   pub unit : UnitParts
   pub main : unit.sections ≡ s
   pub met : IsKnown roots known
   pub told : IsToldBy known.key unit
+  pub own : IfSome key (IsKeyOf unit)
   pub is : announced ≡ by_root (Some unit)
 
 -- A unit is built, and announces the ranges of a key that was met, moved.
@@ -103,7 +101,7 @@ pub record IsChained (chains : RangeChains) (announced : Option (Option (List Sp
 
 -- What is told of a unit is what it announces.
 abbrev pub IsTold : FileSections → KnownRoots → RangeChains → Option (Option (List Span)) → UnitRanges → Type 0
-IsTold s roots chains announced (Again known) = IsAgain s roots known announced
+IsTold s roots chains announced (Again known key) = IsAgain s roots known key announced
 IsTold s roots chains announced (Moved m) = IsMoved s roots m announced
 IsTold s roots chains announced (Spans spans key) = (announced ≡ Some (Some spans.items)) × IfSome key (AreSpansOf s spans.items)
 IsTold s roots chains announced (Chained front place base) =
@@ -153,6 +151,11 @@ pub record IsRootOf (s : FileSections) (ranges : KeptRanges) (known : KnownRoot)
 abbrev pub AreRoots : FileSections → KeptRanges → KnownRoots → Type 0
 AreRoots s ranges roots = (key : RootKey) → IfSome (get root_cmp roots.roots key) (λ keeper. IsRootOf s ranges (record { key = key; keeper = keeper }))
 
+-- A key is noted with a keeper, if there is one.
+abbrev pub NotesKey : KnownRoots → Option RootKey → Option ℕ → KnownRoots → Type 0
+NotesKey old key keeper new = (s : FileSections) (ranges : KeptRanges) → AreRoots s ranges old
+    → IfSome key (λ k. IsRootOf s ranges (record { key = k; keeper = keeper })) → AreRoots s ranges new
+
 -- A key is noted if its units have a keeper.
 abbrev pub NotesKept : KnownRoots → RootKey → Option ℕ → KnownRoots → Type 0
 NotesKept old key keeper new = (s : FileSections) (ranges : KeptRanges) → AreRoots s ranges old
@@ -177,7 +180,7 @@ pub record CanBeChained (ranges : KeptRanges) (chains : RangeChains) (place : Li
 
 -- What is told of a unit can be kept: its keeper is one, and pieces of its chains are.
 abbrev pub CanBeKept : KeptRanges → KnownRanges → UnitRanges → Type 0
-CanBeKept ranges known (Again met) = IfSome met.keeper (λ keeper. slice_get ranges.keepers keeper ≡ Some keeper)
+CanBeKept ranges known (Again met key) = IfSome met.keeper (λ keeper. slice_get ranges.keepers keeper ≡ Some keeper)
 CanBeKept ranges known (Moved m) = CanBeMoved ranges m
 CanBeKept ranges known (Spans spans key) = Unit {0}
 CanBeKept ranges known (Chained front place base) = CanBeChained ranges known.lists.chains place base

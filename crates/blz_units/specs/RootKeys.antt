@@ -3,8 +3,9 @@ use Rattle.std.specs.Prelude.{◌≡◌, ℕ, List, [], Option, Some, None}
 use Rattle.std.specs.declared.cmp.Ordering.{Ordering}
 use Rattle.blz_entry.specs.RangeLists.{bounds_of, not_empty}
 use Rattle.blz_entry.specs.declared.range_tail.RangeTail.{RangeTail}
-use Rattle.blz_functions.specs.Leaves.{UnitParts, ranges_in, spans_behind}
+use Rattle.blz_functions.specs.Leaves.{UnitParts, lying, ranges_in, spans_behind}
 use Rattle.blz_info.specs.FileSections.{FileSections}
+use Rattle.blz_line.specs.ProgramTables.{ProgramTable, program_at}
 use Rattle.blz_ranges.specs.declared.span.Span.{Span}
 use Rattle.blz_units.specs.declared.root_key.ListKey.{ListKey}
 use Rattle.blz_units.specs.declared.program_key.ProgramKey.{ProgramKey}
@@ -13,7 +14,7 @@ use Rattle.blz_units.specs.declared.root_key.RangesKey.TheVariants.{Listed, Boun
 use Rattle.blz_units.specs.contracts.root_key.ListKeyOrd.TheImpl as lists
 use Rattle.blz_units.specs.contracts.root_key.RootKeyOrd.TheImpl as order
 use Rattle.blz_units.specs.declared.root_key.RootKey.{RootKey}
-use Rattle.blz_units.specs.declared.root_key.RootKey.TheVariants.{ByRanges, ByLines}
+use Rattle.blz_units.specs.declared.root_key.RootKey.TheVariants.{ByRanges, ByLines, ByRun}
 use Rattle.blz_units.specs.ProgramKeys.{IsReader}
 use Rattle.blz_units.specs.UnitTables.{root_spans}
 
@@ -68,14 +69,22 @@ abbrev pub HasProgram : Option ProgramKey → UnitParts → Type 0
 HasProgram None u = u.root.line ≡ None
 HasProgram (Some key) u = (u.root.line ≡ Some key.offset) × IsReader key u.header u.root
 
+-- A unit reads the line program of a key, with each name of its files.
+pub record ReadsProgram (key : ProgramKey) (u : UnitParts) : Type 0 where
+  pub has : HasProgram (Some key) u
+  pub table : ProgramTable
+  pub is : program_at (lying u.sections) u.header u.root key.offset ≡ Some table
+
 -- keys stand in the order of their fields
 abbrev pub root_cmp : RootKey → RootKey → Ordering
 root_cmp = order.ghosts.cmp
 
--- A key tells what a unit announces: what tells its ranges where it has some, and its line program where it has none.
+-- A key tells what a unit announces: what tells its ranges where it has some, and where it has none its line program, or
+-- the run of one that it reads.
 abbrev pub IsToldBy : RootKey → UnitParts → Type 0
 IsToldBy (ByRanges ranges) u = ranges ≡ ranges_key u
 IsToldBy (ByLines program) u = (ranges_in u u.root.ranges ≡ Some []) × HasProgram program u
+IsToldBy (ByRun program) u = (ranges_in u u.root.ranges ≡ Some []) × ReadsProgram program u
 
 -- Each unit of the same sections that is told by a key announces what the unit does.
 abbrev pub IsKeyOf : UnitParts → RootKey → Type 0

@@ -5,7 +5,7 @@ use Rattle.blz_bytes.specs.declared.orders.Key.{Key}
 use Rattle.blz_entry.specs.declared.root.UnitRoot.{UnitRoot}
 use Rattle.blz_error.specs.Fault.{Fault}
 use Rattle.blz_error.specs.declared.kind.ErrorKind.TheVariants.{OutOfMemory}
-use Rattle.blz_functions.specs.Leaves.{lying}
+use Rattle.blz_functions.specs.Leaves.{UnitParts, lying}
 use Rattle.blz_info.specs.FileSections.{FileSections}
 use Rattle.blz_info.specs.declared.units.UnitHeader.{UnitHeader}
 use Rattle.blz_line.specs.Lookups.{spans_of}
@@ -48,6 +48,10 @@ pub record IsReadAt (s : FileSections) (h : UnitHeader) (r : UnitRoot) (at : ℕ
   pub offset : at ≡ read.key.offset
   pub reader : IsReader read.key h r
   pub is : IsProgramAt s read.key read.program
+
+-- the same of a unit
+abbrev pub IsReadBy : UnitParts → ℕ → ReadProgram → Type 0
+IsReadBy u at read = IsReadAt u.sections u.header u.root at read
 
 -- Where the order of a run was accepted as it is told, that of its program was.
 abbrev pub KeepsOrder : Option OrderedRun → Result ReadProgram Fault → Type 0

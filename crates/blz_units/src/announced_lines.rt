@@ -3,15 +3,17 @@ ghost use Rattle.std.specs.Prelude.{◌≡◌, ◌++◌, [], Some, IfOk, IfSome,
 ghost use Rattle.blz_functions.specs.Leaves.{ranges_in};
 ghost use Rattle.blz_functions.specs.Opened.{open_view};
 ghost use Rattle.blz_line.specs.Lookups.{span_of, spans_of};
-ghost use Rattle.blz_units.specs.Keeping.{IsMetOf, IsToldAnew, IsToldByLines};
-ghost use Rattle.blz_units.specs.SharedPrograms.{covered_by, table_of, ButForMemory};
+ghost use Rattle.blz_units.specs.Keeping.{IsMetOf, IsToldByLines};
+ghost use Rattle.blz_units.specs.RootKeys.{IsKeyOf, IsToldBy};
+ghost use Rattle.blz_units.specs.SharedPrograms.{covered_by, table_of, ButForMemory, IsReadBy};
+ghost use Rattle.blz_units.specs.SharedRuns.{AreRuns};
 
 use crate::announcement::UnitRanges;
 use crate::known_roots::{KnownRoot, KnownRoots};
 use crate::program_key::ProgramKey;
 use crate::read_program::ReadProgram;
 use crate::root_key::RootKey;
-use blz_bytes::AsTheyStand;
+use crate::shared_runs::SharedRuns;
 use blz_entry::Span;
 use blz_error::Result;
 use blz_functions::OpenUnit;
@@ -73,41 +75,87 @@ fn known_program(unit: &OpenUnit<'_, '_>, roots: &KnownRoots) -> Option<KnownRoo
     }
 }
 
-/// What the sequences of the line program of a unit without ranges cover.
-fn program_ranges(alloc: Global, unit: &OpenUnit<'_, '_>, at: u64) -> Result<UnitRanges>
+/// What tells the sequences of a line program that a unit reads: where a name of its files is told by
+/// an index, and all can be read, that is its run, which units that find their strings elsewhere have.
+fn sequences_key(unit: &OpenUnit<'_, '_>, at: u64, read: &ReadProgram) -> RootKey
     requires none { ranges_in (open_view unit.now) unit.now.root.ranges ≡ Some [] }
     requires line { unit.now.root.line ≡ Some at }
-    ensures { ButForMemory (IsToldAnew (open_view unit.now)) result }
+    requires read { IsReadBy (open_view unit.now) at read.now }
+    ensures told { IsToldBy result (open_view unit.now) }
+    ensures key { IsKeyOf (open_view unit.now) result }
 {
-    let ReadProgram { key, program } = ReadProgram::read(
-        alloc,
-        &mut AsTheyStand,
-        &unit.sections,
-        &unit.header,
-        &unit.root,
-        at,
-    )?;
-    let spans = covered(alloc, &program)?;
-    Ok(UnitRanges::Spans(spans, Some(RootKey::ByLines(Some(key)))))
+    let own = RootKey::ByLines(Some(read.key));
+    if read.key.strings.is_none() {
+        return own;
+    }
+    match &read.program {
+        Some(_) => RootKey::ByRun(ProgramKey::for_all(&unit.header, at)),
+        None => own,
+    }
 }
 
-/// What the sequences of the lines of a unit without ranges cover: nothing is read where its line program was met.
+/// What a unit without ranges announces by the line program that it reads. Its sequences are gone
+/// through only where no unit announced them yet.
+fn told_by_program(
+    alloc: Global,
+    unit: &OpenUnit<'_, '_>,
+    roots: &KnownRoots,
+    at: u64,
+    read: &ReadProgram,
+) -> std::result::Result<UnitRanges, AllocError>
+    requires none { ranges_in (open_view unit.now) unit.now.root.ranges ≡ Some [] }
+    requires line { unit.now.root.line ≡ Some at }
+    requires read { IsReadBy (open_view unit.now) at read.now }
+    ensures { IfOk result (IsToldByLines (open_view unit.now) roots.now) }
+{
+    let key = sequences_key(unit, at, read);
+    if let Some(known) = roots.find(key) {
+        return Ok(UnitRanges::Again(known, Some(RootKey::ByLines(Some(read.key)))));
+    }
+    let spans = covered(alloc, &read.program)?;
+    Ok(UnitRanges::Spans(spans, Some(key)))
+}
+
+/// What the sequences of the line program of a unit without ranges cover.
+fn program_ranges(
+    alloc: Global,
+    unit: &OpenUnit<'_, '_>,
+    roots: &KnownRoots,
+    runs: &mut SharedRuns,
+    at: u64,
+) -> Result<UnitRanges>
+    requires none { ranges_in (open_view unit.now) unit.now.root.ranges ≡ Some [] }
+    requires line { unit.now.root.line ≡ Some at }
+    requires runs { AreRuns (open_view unit.now).sections.line runs.old }
+    ensures value { ButForMemory (IsToldByLines (open_view unit.now) roots.now) result }
+    ensures kept { AreRuns (open_view unit.now).sections.line runs.new }
+{
+    let run = runs.run_in_any_order(alloc, &unit.sections.line, &unit.header, at)?;
+    let read = ReadProgram::of_run(alloc, &unit.sections, &unit.header, &unit.root, at, run)?;
+    Ok(told_by_program(alloc, unit, roots, at, &read)?)
+}
+
+/// What the sequences of the lines of a unit without ranges cover: nothing is read where its line
+/// program was met.
 pub fn ranges_by_lines(
     alloc: Global,
     unit: &OpenUnit<'_, '_>,
     roots: &KnownRoots,
+    runs: &mut SharedRuns,
 ) -> Result<UnitRanges>
-    requires { ranges_in (open_view unit.now) unit.now.root.ranges ≡ Some [] }
-    ensures { ButForMemory (IsToldByLines (open_view unit.now) roots.now) result }
+    requires none { ranges_in (open_view unit.now) unit.now.root.ranges ≡ Some [] }
+    requires runs { AreRuns (open_view unit.now).sections.line runs.old }
+    ensures value { ButForMemory (IsToldByLines (open_view unit.now) roots.now) result }
+    ensures kept { AreRuns (open_view unit.now).sections.line runs.new }
 {
     if let Some(known) = known_program(unit, roots) {
-        return Ok(UnitRanges::Again(known));
+        return Ok(UnitRanges::Again(known, None));
     }
     match unit.root.line {
-        Some(at) => program_ranges(alloc, unit, at),
+        Some(at) => program_ranges(alloc, unit, roots, runs, at),
         None => {
             let spans = Vec::new(alloc);
             Ok(UnitRanges::Spans(spans, Some(RootKey::ByLines(None))))
-        }
+        },
     }
 }

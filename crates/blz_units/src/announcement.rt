@@ -22,8 +22,8 @@ pub struct MovedRoot {
 /// What a unit announces.
 #[derive(Drop)]
 pub enum UnitRanges {
-    /// What units do with a key that was met.
-    Again(KnownRoot),
+    /// What units do with a key that was met, and a key of its own where that tells the same.
+    Again(KnownRoot, Option<RootKey>),
     /// What units do with a key that was met, moved.
     Moved(MovedRoot),
     /// Some ranges, with the key of its root where that tells them.

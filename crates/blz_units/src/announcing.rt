@@ -91,14 +91,14 @@ fn read_root(
     match lists.chains.ranges_of(alloc, unit)? {
         ToldRanges::Read(spans) => {
             if spans.is_empty() {
-                return ranges_by_lines(alloc, unit, roots);
+                return ranges_by_lines(alloc, unit, roots, &mut lists.runs);
             }
             lists.relative.note(unit, spans.len())?;
             Ok(UnitRanges::Spans(spans, Some(RootKey::ByRanges(ranges_key(unit)))))
         },
         ToldRanges::InChain(front, place) => {
             if has_none(front.as_slice(), place) {
-                return ranges_by_lines(alloc, unit, roots);
+                return ranges_by_lines(alloc, unit, roots, &mut lists.runs);
             }
             Ok(UnitRanges::Chained(front, place, 0))
         },
@@ -119,7 +119,7 @@ fn root_ranges(
 {
     let key = RootKey::ByRanges(ranges_key(unit));
     if let Some(known) = roots.find(key) {
-        return Ok(UnitRanges::Again(known));
+        return Ok(UnitRanges::Again(known, None));
     }
     if let Some(moved) = lists.relative.moved(unit, roots)? {
         return Ok(UnitRanges::Moved(moved));

@@ -3,7 +3,7 @@ ghost use Rattle.std.specs.Prelude.{◌≡◌, IfSome, IfOk};
 ghost use Rattle.std.specs.BTreeMap.{IsEmpty};
 ghost use Rattle.blz_info.specs.FileSections.{FileSections};
 ghost use Rattle.blz_announced.specs.Units.{KeptRanges};
-ghost use Rattle.blz_units.specs.Keeping.{AreKnown, AreRoots, CanBeKept, IsKnown, IsRootOf, KeepsTold, NotesKept};
+ghost use Rattle.blz_units.specs.Keeping.{AreKnown, CanBeKept, IsKnown, KeepsTold, NotesKept, NotesKey};
 
 use crate::announcement::UnitRanges;
 use crate::root_key::RootKey;
@@ -50,7 +50,7 @@ impl KnownRoots {
 
     /// Notes one more, where there is a key.
     pub fn note(&mut self, key: Option<RootKey>, keeper: Option<usize>) -> Result<(), AllocError>
-        ensures { IfOk result (λ _. (s : FileSections) (ranges : KeptRanges) → AreRoots s ranges self.old → IfSome key (λ k. IsRootOf s ranges (record { key = k; keeper = keeper })) → AreRoots s ranges self.new) }
+        ensures { IfOk result (λ _. NotesKey self.old key keeper self.new) }
     {
         match key {
             Some(key) => {
@@ -101,7 +101,11 @@ impl KnownRanges {
         ensures { IfOk result (λ k. KeepsTold ranges self.old told k self.new) }
     {
         match told {
-            UnitRanges::Again(known) => ranges.again(known.keeper),
+            UnitRanges::Again(known, key) => {
+                let ranges = ranges.again(known.keeper)?;
+                self.roots.note(key, known.keeper)?;
+                Ok(ranges)
+            },
             UnitRanges::Moved(moved) => {
                 let (ranges, keeper) = ranges.shifted_unit(alloc, moved.keeper, moved.shift)?;
                 self.roots.note_kept(moved.key, keeper)?;

@@ -3,7 +3,6 @@ ghost use Rattle.std.specs.Prelude.{◌≡◌, IfOk, IfSome};
 ghost use Rattle.blz_info.specs.Contents.{section_view};
 ghost use Rattle.blz_info.specs.FileSections.{sections_view};
 ghost use Rattle.blz_line.specs.ProgramRuns.{by_index, run_at, IsRunOrderedBy};
-ghost use Rattle.blz_line.specs.ProgramTables.{IsOrderedBy};
 ghost use Rattle.blz_units.specs.ProgramKeys.{key_by};
 ghost use Rattle.blz_units.specs.SharedPrograms.{ButForMemory, IsReadAt, IsReadOrNone, KeepsOrder};
 ghost use Rattle.blz_units.specs.SharedRuns.{IsRunOf};
@@ -62,23 +61,7 @@ fn key_of(run: &ProgramRun, header: &UnitHeader, root: &UnitRoot, at: u64) -> Pr
 }
 
 impl ReadProgram {
-    /// The line program at an offset, as a unit reads it.
-    pub fn read<O: Orders>(
-        alloc: Global,
-        orders: &mut O,
-        sections: &Sections<'_, '_>,
-        header: &UnitHeader,
-        root: &UnitRoot,
-        at: u64,
-    ) -> Result<ReadProgram>
-        ensures value { ButForMemory (IsReadAt (sections_view sections.now) header.now root.now at) result }
-        ensures accepted { IfOk result (λ r. IfSome r.program (IsOrderedBy O.pair_places)) }
-    {
-        let run = run_or_none(alloc, orders, &sections.line, header, at)?;
-        ReadProgram::of_run(alloc, sections, header, root, at, run)
-    }
-
-    /// The same by its run.
+    /// The line program at an offset, as a unit reads it, by its run.
     pub fn of_run(
         alloc: Global,
         sections: &Sections<'_, '_>,

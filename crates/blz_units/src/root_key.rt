@@ -36,6 +36,8 @@ pub enum RootKey {
     ByRanges(RangesKey),
     /// Its line program, if it has one, since there are no ranges.
     ByLines(Option<ProgramKey>),
+    /// The run of its line program, of whose files it reads each name, since there are no ranges.
+    ByRun(ProgramKey),
 }
 
 fn list_key(unit: &OpenUnit<'_, '_>, offset: u64) -> ListKey

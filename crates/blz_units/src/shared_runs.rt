@@ -8,7 +8,7 @@ ghost use Rattle.blz_units.specs.SharedRuns.{AreRuns, IsFoundRun, IsRunOf, Keeps
 
 use crate::program_key::ProgramKey;
 use crate::read_program::run_or_none;
-use blz_bytes::Orders;
+use blz_bytes::{AsTheyStand, Orders};
 use blz_entry::{Section, UnitHeader};
 use blz_error::Result;
 use blz_line::ProgramRun;
@@ -81,6 +81,25 @@ impl SharedRuns {
         };
         self.keep_by_index(header, at, &run)?;
         Ok(Some(run))
+    }
+
+    /// The run of the line program at an offset of `.debug_line`, as a unit finds it, in whatever order
+    /// it is kept; none where it has no value.
+    pub fn run_in_any_order(
+        &mut self,
+        alloc: Global,
+        section: &Section<'_, '_>,
+        header: &UnitHeader,
+        at: u64,
+    ) -> Result<Option<ProgramRun>>
+        requires { AreRuns (section_view section.now) self.old }
+        ensures value { ButForMemory (IsRunOf (section_view section.now) header.now at) result }
+        ensures kept { AreRuns (section_view section.now) self.new }
+    {
+        match self.find(header, at) {
+            Some(run) => Ok(Some(run.share()?)),
+            None => self.run_anew(alloc, &mut AsTheyStand, section, header, at),
+        }
     }
 
     /// The run of the line program at an offset of `.debug_line`, as a unit finds it; none where it has no value.

@@ -31,8 +31,8 @@ returns-else-has_none-clause-value c =
     let some : 0 < length front.items + count_in place = rw (← c.as_slice.ensures.value) (c.has_none.ensures.some c.if-has_none.false) in
     root_in_chain u _ front.items place told some
 
-pub ranges_by_lines-requires-then-has_none : goal.ranges_by_lines-requires-then-has_none
-ranges_by_lines-requires-then-has_none c =
+pub ranges_by_lines-requires-then-has_none-clause-none : goal.ranges_by_lines-requires-then-has_none-clause-none
+ranges_by_lines-requires-then-has_none-clause-none c =
     let u = open_view c.args.unit.now in
     let front = c.in-InChain.front in
     let told = rw c.in-InChain.is at c.in_ok-spans.ensures.told in
