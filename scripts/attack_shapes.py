@@ -262,6 +262,24 @@ def units_of_one_header_without_its_last_file(n):
     return units_of_one_program(n, whole[:-3] + bytes([ord("a")] * 3))
 
 
+def rows_of_a_file_by_index(n):
+    """A program of rows of one file, whose name is the first string of a unit."""
+    paths = bytes([1, DW_LNCT_PATH, DW_FORM_STRING, 1]) + text("/p") + bytes([1, DW_LNCT_PATH, DW_FORM_STRX1, 1, 0])
+    return line_program_of(paths, SET_FILE_0 + many_rows(n))
+
+
+def string_offsets_of_units(n):
+    """So many offsets of one string, the first of which is that of the first unit."""
+    return {"str_offsets": with_length(struct.pack("<HH", 5, 0) + bytes(4 * n)), "str": text("a.c")}
+
+
+@shape
+def units_without_ranges_of_one_program_with_string_offsets_of_each_unit_and_a_name_by_index(n):
+    shapes = {ROOT: root([LINES, (DW_AT_STR_OFFSETS_BASE, DW_FORM_SEC_OFFSET)], 0)}
+    units = b"".join(unit(entry(shapes, ROOT, 0, 8 + 4 * k)) for k in range(n))
+    return Attack(dwarf(shapes, units, line=rows_of_a_file_by_index(16 * n), **string_offsets_of_units(n)), [BASE])
+
+
 @shape
 def units_of_one_program_of_rows_with_ranges(n):
     shapes = {ROOT: root([*RANGE, LINES], 0)}
@@ -295,11 +313,9 @@ def asked_units_of_one_program_of_rows_with_string_offsets_of_each_unit(n):
 
 @shape
 def asked_units_of_one_program_of_rows_with_string_offsets_of_each_unit_and_a_name_by_index(n):
-    paths = bytes([1, DW_LNCT_PATH, DW_FORM_STRING, 1]) + text("/p") + bytes([1, DW_LNCT_PATH, DW_FORM_STRX1, 1, 0])
-    rows = line_program_of(paths, SET_FILE_0 + many_rows(16 * n))
-    offsets = with_length(struct.pack("<HH", 5, 0) + bytes(4 * n))
+    rows = rows_of_a_file_by_index(16 * n)
     bases = [(DW_AT_STR_OFFSETS_BASE, DW_FORM_SEC_OFFSET)]
-    return asked_units_of_one_program(n, rows, bases, lambda k: 8 + 4 * k, str_offsets=offsets, str=text("a.c"))
+    return asked_units_of_one_program(n, rows, bases, lambda k: 8 + 4 * k, **string_offsets_of_units(n))
 
 
 @shape
