@@ -11,6 +11,9 @@ pub mod ShiftedRanges
 pub mod ShiftedSearch
 pub mod OfKeepers
 pub mod SeenRanges
+pub mod HullSteps
+pub mod ApartTurns
+pub mod SpreadSteps
 pub mod BegunSteps
 pub mod BehindSteps
 pub mod LeftOver

@@ -110,6 +110,26 @@ module _ (kept : List (Owned Span)) (keepers ends : List ℕ) (are : AreEnds kep
 lies_from : (kept : List (Owned Span)) (keepers ends : List ℕ) → AreEnds kept keepers ends → (keeper end : ℕ) → slice_get keepers keeper ≡ Some keeper → slice_get ends keeper ≡ Some end → LiesFrom kept keeper (start_of ends keeper) end
 lies_from kept keepers ends are keeper end row is = let lt = slice_get_within keepers keeper _ row in lies kept keepers ends are keeper end is (start_of ends keeper) (is_start kept keepers ends are keeper (omega arith))
 
+-- The ranges from a place up to another are those of a keeper.
+pub record LiesAt (kept : List (Owned Span)) (keeper start end : ℕ) : Type 0 where
+  pub within : end ≤ length kept
+  pub own : (p : ℕ) (x : Owned Span) → slice_get kept p ≡ Some x → start ≤ p → p < end → x.owner ≡ keeper
+  pub from : (p : ℕ) (x : Owned Span) → slice_get kept p ≡ Some x → x.owner ≡ keeper → start ≤ p
+  pub below : (p : ℕ) (x : Owned Span) → slice_get kept p ≡ Some x → x.owner ≡ keeper → p < end
+
+pub owns_at : (kept : List (Owned Span)) (keepers ends : List ℕ) → AreEnds kept keepers ends → (keeper end : ℕ) → keeper < length keepers → end ≡ get_or ends keeper end → LiesAt kept keeper (start_of ends keeper) end
+owns_at kept keepers ends are keeper end lt read =
+    let count = are.count in
+    let e = there_at ends keeper (omega arith) in
+    let is : slice_get ends keeper ≡ Some end = e.1 ∙ ap (λ (n : ℕ). Some n) (sym (get_or_from_slice_get ends keeper e.0 end e.1) ∙ sym read) in
+    let s = is_start kept keepers ends are keeper (omega arith) in
+    record {
+      within = are.within keeper end is;
+      own = λ p x at ge less. let b = s.above p x at ge in let c = are.below keeper end p x is at less in omega arith;
+      from = λ p x at own. elim (cases_lt p (start_of ends keeper)) [ inl less ↦ absurd (let b = s.below p x at less in omega arith) | inr ge ↦ ge ];
+      below = λ p x at own. elim (cases_lt p end) [ inl less ↦ less | inr ge ↦ absurd (let c = are.above keeper end p x is at ge in omega arith) ];
+    }
+
 -- the same, where the end is read at its place
 pub lies_at : (kept : List (Owned Span)) (keepers ends : List ℕ) → AreEnds kept keepers ends → (keeper end : ℕ) → slice_get keepers keeper ≡ Some keeper → end ≡ get_or ends keeper end → LiesFrom kept keeper (start_of ends keeper) end
 lies_at kept keepers ends are keeper end row is =

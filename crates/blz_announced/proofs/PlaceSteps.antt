@@ -224,13 +224,16 @@ module _ (a : AnnouncedParts) (rows : HaveKeepers a.kept.ranges a.keepers) where
       let lt = slice_get_within copies_in (full_place copies_in (own_place n x.0.owner)) _ (stands_at n x.0.owner x.0.item x.1).copy in
       omega arith
 
-  -- a bound that was proved of the ranges that are kept
-  pub first_cost : (spans : List Span) (ordered : Bool) (cost : ℕ) → items_of ranges ≡ spans → (ordered ≡ true → AreApart spans → cost ≤ 4 * (2 * length spans + 1)) → ordered ≡ true → AreApart all_in → cost ≤ 4 * (2 * length (all_of_parts a).ranges + 1)
-  first_cost spans ordered cost e few is apart =
-      let k = few is (subst AreApart e (apart_kept apart)) in
+  -- a bound by the ranges that are kept
+  pub kept_cost : (spans : List Span) (cost : ℕ) → items_of ranges ≡ spans → cost ≤ 4 * (2 * length spans + 1) → cost ≤ 4 * (2 * length (all_of_parts a).ranges + 1)
+  kept_cost spans cost e few =
       let l = ap length e in
       let m = length-map ranges (λ (x : Owned Span). x.item) in
       let n = fewer (length ranges) refl in
       let o : length (told copies_in) ≡ length copies_in = length-map copies_in (λ (c : Copy). record { item = c.span; owner = c.part }) in
       let t : length (all_of_parts a).ranges ≡ length (told copies_in) = refl in
       omega arith
+
+  -- a bound that was proved of the ranges that are kept
+  pub first_cost : (spans : List Span) (ordered : Bool) (cost : ℕ) → items_of ranges ≡ spans → (ordered ≡ true → AreApart spans → cost ≤ 4 * (2 * length spans + 1)) → ordered ≡ true → AreApart all_in → cost ≤ 4 * (2 * length (all_of_parts a).ranges + 1)
+  first_cost spans ordered cost e few is apart = kept_cost spans cost e (few is (subst AreApart e (apart_kept apart)))

@@ -17,11 +17,11 @@ use Rattle.blz_announced.proofs.NextCopies.{mapped, some_is}
 
 -- ---- copies of longer lists
 
-mapped_both : {A B : Type 0} (f : A → B) (xs ys : List A) → map f (xs ++ ys) ≡ map f xs ++ map f ys
+pub mapped_both : {A B : Type 0} (f : A → B) (xs ys : List A) → map f (xs ++ ys) ≡ map f xs ++ map f ys
 mapped_both f [] ys = refl
 mapped_both {B = B} f (x ∷ xs) ys = ap (λ (l : List B). f x ∷ l) (mapped_both f xs ys)
 
-keeper_more : (kept : List (Owned Span)) (first : ℕ) (keepers : List ℕ) (part keeper : ℕ) → part ≡ first + length keepers → copies kept first (keepers ++ keeper ∷ []) ≡ copies kept first keepers ++ copies_of part keeper 0 kept
+pub keeper_more : (kept : List (Owned Span)) (first : ℕ) (keepers : List ℕ) (part keeper : ℕ) → part ≡ first + length keepers → copies kept first (keepers ++ keeper ∷ []) ≡ copies kept first keepers ++ copies_of part keeper 0 kept
 unfolding copies
 keeper_more kept first [] part keeper e = let z : first ≡ part = omega arith in append-nil (copies_of first keeper 0 kept) ∙ ap (λ (n : ℕ). copies_of n keeper 0 kept) z
 keeper_more kept first (k ∷ keepers) part keeper e =

@@ -152,7 +152,7 @@ shifts_alike old new count (x ∷ ranges) alike below =
     ap (λ (m : Option Shift). record { item = moved_by m x.item; owner = x.owner } ∷ by_shifts new ranges) (alike x.owner (below 0 x refl))
     ∙ ap (λ (l : List (Owned Span)). moved_one old x ∷ l) (shifts_alike old new count ranges alike (λ p y is. below (suc p) y is))
 
-own_moved : (shifts : List (Option Shift)) (part : ℕ) (m : Option Shift) (spans : List Span) → shift_of shifts part ≡ m → by_shifts shifts (own_all part spans) ≡ own_all part (map (moved_by m) spans)
+pub own_moved : (shifts : List (Option Shift)) (part : ℕ) (m : Option Shift) (spans : List Span) → shift_of shifts part ≡ m → by_shifts shifts (own_all part spans) ≡ own_all part (map (moved_by m) spans)
 own_moved shifts part m [] e = refl
 own_moved shifts part m (s ∷ spans) e =
     ap (λ (o : Option Shift). record { item = moved_by o s; owner = part } ∷ by_shifts shifts (own_all part spans)) e

@@ -1,5 +1,5 @@
 -- The ranges that cover an address one after the other, where the ranges of some parts are moved.
-use Rattle.std.proofs.Common.{◌≡◌, ℕ, ◌<◌, Bool, true, false, List, length, drop, Option, Some, None, refl, sym, ap, subst, ◌∙◌, arith, inl, inr}
+use Rattle.std.proofs.Common.{◌≡◌, ℕ, ◌<◌, Bool, true, false, List, [], ◌∷◌, length, drop, Option, Some, None, refl, sym, ap, subst, ◌∙◌, arith, inl, inr}
 use Rattle.std.specs.Prelude.{option_map, IfSome}
 use Rattle.std.specs.List.{slice_get}
 use Rattle.std.proofs.lemmas.Bool.{cases_lt}
@@ -242,6 +242,41 @@ module _ (of : ShiftedParts) (addr : ℕ) where
         let parts = ap (λ l. owners_of ranges (places_left ranges addr l)) (left_after found place h.is) ∙ parts_behind ranges addr (left_at of step) s.left place refl in
         ap (λ (l : List ℕ). seen (all_by_shifts of.shifts (all_of_parts of.parts)) addr l (is_first (step_behind found))) parts
         ∙ ap (λ (b : Bool). seen (all_by_shifts of.shifts (all_of_parts of.parts)) addr (drop 1 all_left) b) (not_first found)
+
+  -- ---- where one range alone covers the address
+
+  abbrev parts_to_tell : List ℕ
+  parts_to_tell = owners_of ranges (places_to_come of addr First)
+
+  abbrev first_place_of_all : Option ℕ
+  first_place_of_all = slice_get (places_to_come of addr First) 0
+
+  pub first_part : (found : Option Reached) → IsFirstOr of (search_for addr None) Anywhere found → part_of found ≡ slice_get parts_to_tell 0
+  first_part found f =
+      let h = first_reached found f in
+      part_by found first_place_of_all h.is h.reached ∙ part_next ranges addr (left_at of First) tt first_place_of_all refl
+
+  nothing_at : (places : List ℕ) → None ≡ slice_get places 0 → places ≡ []
+  nothing_at [] e = refl
+  nothing_at (p ∷ places) e = absurd cc
+
+  -- none is left behind it
+  pub none_behind : (found : Option Reached) → IsFirstOr of (search_for addr None) Anywhere found → IfSome found (λ r. (q : Reached) → IsReached of addr q → ComesAfter r q → ⊥) → drop 1 parts_to_tell ≡ []
+  none_behind found f alone =
+      let h = first_reached found f in
+      let left = left_after found first_place_of_all h.is in
+      let kept = subst (IsLeft ranges addr) (sym left) (turn_kept ranges addr (left_at of First) tt first_place_of_all refl) in
+      sym (parts_behind ranges addr (left_at of First) tt first_place_of_all refl)
+      ∙ (ap (λ l. owners_of ranges (places_left ranges addr l)) (sym left) ∙ over found f alone kept)
+    where
+      over : (found : Option Reached) → IsFirstOr of (search_for addr None) Anywhere found → IfSome found (λ r. (q : Reached) → IsReached of addr q → ComesAfter r q → ⊥) → IsLeft ranges addr (left_at of (step_behind found))
+          → owners_of ranges (places_left ranges addr (left_at of (step_behind found))) ≡ []
+      over None f alone kept = refl
+      over (Some r) f alone kept =
+          let k = f.reached in
+          let place = full_place_of of r in
+          let next = is_next all addr place (span_of r k) None (span_at r k) (next_found r k None (λ q l among after. alone q l after)) ∙ after_place ranges addr place kept in
+          ap (owners_of ranges) (nothing_at (places_left ranges addr (left_at of (After r))) next)
 
   -- Some two ranges share an address, so no few looks are owed.
   pub no_few : (step : Step) → IsStepOf of addr step → (looks : ℕ) → TakesFew (all_by_shifts of.shifts (all_of_parts of.parts)) looks

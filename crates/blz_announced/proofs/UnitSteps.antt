@@ -1,6 +1,6 @@
 -- The units of parts, and ranges told by them.
 use Rattle.std.proofs.Common.{◌≡◌, ℕ, zero, suc, ◌+◌, ◌<◌, ◌≤◌, List, [], ◌∷◌, ◌++◌, length, map, Option, Some, None, refl, sym, ap, subst, ◌∙◌, arith, inl, inr, ◌⊎◌, append_assoc, length-append}
-use Rattle.std.specs.Prelude.{unwrap_or, option_map, true, IfOk, IfSome, Result, Ok, Err}
+use Rattle.std.specs.Prelude.{unwrap_or, option_map, Bool, true, IfOk, IfSome, Result, Ok, Err}
 use Rattle.std.specs.List.{slice_get}
 use Rattle.std.specs.Option.{option_to_list}
 use Rattle.std.proofs.lemmas.Bool.{cases_lt}
@@ -16,12 +16,12 @@ use Rattle.blz_announced.specs.Announced.{to_tell, units_covering, Announcing, T
 use Rattle.blz_announced.specs.Copies.{all_kept_parts, all_of_parts, all_ranges, copies, list_of, AnnouncedParts, Copy, IsOnePartMore, KeptParts}
 use Rattle.blz_announced.specs.Seen.{ArePartsOnce, Holds, LeavesOut}
 use Rattle.blz_announced.specs.Shifts.{all_by_shifts, by_shifts, moved_by, moved_one, shift_of, shifted, AreNoted, CanBeShifted, MayMove, MeetShifted, Shiftable, StayWithin}
-use Rattle.blz_announced.specs.Units.{all_by_units, all_kept, all_shifted, announced_by_units, by_units, kept_by_units, parts_all, parts_kept, unit_of, units_to_tell, AreShifted, AreToldOnce, IsFilled, IsListOf, IsNoted, IsOnce, IsOnceMore, IsPartAgain, IsShiftedPart, IsShiftedUnit, IsWithKeptPart, IsWithPart, IsWithShifted, IsWithShiftedPart, IsWithUnit, KeptRanges, TellAlike, Announced}
+use Rattle.blz_announced.specs.Units.{all_by_units, all_kept, all_shifted, announced_by_units, by_units, kept_by_units, parts_all, parts_kept, unit_of, units_to_tell, AreMoved, AreToldOnce, DoMeet, IsFilled, IsListOf, IsNoted, IsOnce, IsOnceMore, IsPartAgain, IsShiftedPart, IsShiftedUnit, IsWithKeptPart, IsWithPart, IsWithShifted, IsWithShiftedPart, IsWithUnit, KeptRanges, TellAlike, Announced}
 use Rattle.blz_announced.specs.declared.shift.Shift.{Shift}
 use Rattle.blz_announced.proofs.Copies.{are_copies, in_back, there_at, Stands}
 use Rattle.blz_announced.proofs.ListsOf.{list_told, IsInKept}
-use Rattle.blz_announced.proofs.NextCopies.{full_item, mapped, some_is}
-use Rattle.blz_announced.proofs.ShiftedRanges.{by_none, moved_more, moved_none, AreBelow}
+use Rattle.blz_announced.proofs.NextCopies.{mapped, some_is}
+use Rattle.blz_announced.proofs.ShiftedRanges.{by_none, moved_at, moved_more, moved_none, AreBelow}
 
 -- ---- the units that are noted
 
@@ -180,13 +180,17 @@ module _ (old new : KeptParts) (spans : List Span) (more : IsOnePartMore old spa
   ]
 
 -- one part more that stays
-pub stays_shifted : (old new : KeptParts) (spans : List Span) (shifts : List (Option Shift)) → IsOnePartMore old spans new → AreShifted old shifts → AreShifted new shifts
-stays_shifted old new spans shifts more are =
+pub stays_shifted : (old new : KeptParts) (spans : List Span) (shifts : List (Option Shift)) (noted : Bool) → IsOnePartMore old spans new → AreMoved old shifts noted → AreMoved new shifts noted
+stays_shifted old new spans shifts noted more are =
     let none = none_past shifts (length old.keepers) are.within in
     record {
       within = let w = are.within in let c = more.count in omega arith;
       stay = still_stay old new spans more shifts shifts None (λ other lt. refl) none are.stay (λ keeper at s row is. tt);
-      meet = λ some. still_meet old new spans more shifts shifts None (λ other lt. refl) none (are.meet some);
+      own = λ part row. elim (cases_lt part (length old.keepers)) [
+        | inl lt ↦ are.own part (same_row old new spans more part part lt row)
+        | inr ge ↦ none_past shifts part (let w = are.within in omega arith)
+      ];
+      share = λ is. still_meet old new spans more shifts shifts None (λ other lt. refl) none (are.share is);
     }
 
 -- one part more that is moved
@@ -195,8 +199,11 @@ module _ (old new : KeptParts) (keeper : ℕ) (shift : Shift) (row : slice_get o
   abbrev own_list : List Span
   own_list = list_of old.ranges keeper
 
+  abbrev as_told : Copy → Owned Span
+  as_told c = record { item = c.span; owner = c.part }
+
   -- the range of the keeper itself, and the one that is moved
-  two_meet : before ≡ [] → MeetShifted own_list shift → AreApart (items_of (all_shifted new after)) → ⊥
+  two_meet : shift_of before keeper ≡ None → MeetShifted own_list shift → AreApart (items_of (all_shifted new after)) → ⊥
   two_meet none w apart = by (apart.apart here.at there w.span (shifted shift w.moved) differ first second)
     where
       all : List (Owned Span)
@@ -215,8 +222,8 @@ module _ (old new : KeptParts) (keeper : ℕ) (shift : Shift) (row : slice_get o
       items = ap items_of (all_more old new own_list more before after (Some shift) noted.before noted.here) ∙ map-append (λ (x : Owned Span). x.item) (all_shifted old before) (own_all (length old.keepers) (map (shifted shift) own_list))
 
       first_old : slice_get (items_of (all_shifted old before)) here.at ≡ Some w.span
-      first_old = ap (λ (l : List (Option Shift)). slice_get (items_of (by_shifts l (all_kept_parts old))) here.at) none
-          ∙ (ap (λ (l : List (Owned Span)). slice_get (items_of l) here.at) (by_none (all_kept_parts old)) ∙ full_item (copies old.ranges 0 old.keepers) here.at here.is)
+      first_old = moved_at before (all_kept_parts old) here.at (as_told (record { part = keeper; place = own.place; span = w.span })) (slice_get-map as_told (copies old.ranges 0 old.keepers) here.at ∙ ap (option_map as_told) here.is)
+          ∙ ap (λ (o : Option Shift). Some (moved_by o w.span)) none
 
       first : slice_get (items_of (all_shifted new after)) here.at ≡ Some w.span
       first = ap (λ (l : List Span). slice_get l here.at) items ∙ in_front (items_of (all_shifted old before)) (items_of (own_all (length old.keepers) (map (shifted shift) own_list))) here.at w.span first_old
@@ -237,11 +244,21 @@ module _ (old new : KeptParts) (keeper : ℕ) (shift : Shift) (row : slice_get o
       by (inl le) = w.meet.second le
       by (inr le) = w.meet.first le
 
-  pub moves_shifted : CanBeShifted shift own_list → (0 < length before) ⊎ MeetShifted own_list shift → AreShifted old before → AreShifted new after
-  moves_shifted can may are = record {
+  pub moves_shifted : (was now : Bool) → CanBeShifted shift own_list → (now ≡ true → (was ≡ true) ⊎ MeetShifted own_list shift) → AreMoved old before was → AreMoved new after now
+  moves_shifted was now can may are = record {
     within = let c = more.count in let n = noted.length_is in omega arith;
     stay = still_stay old new own_list more before after (Some shift) noted.before noted.here are.stay last;
-    meet = λ some. meet may;
+    own = λ part own. elim (cases_lt part (length old.keepers)) [
+      | inl lt ↦ noted.before part lt ∙ are.own part (same_row old new own_list more part part lt own)
+      | inr ge ↦ absurd (
+          let count = more.count in
+          let within = slice_get_within new.keepers part part own in
+          let low = slice_get_within old.keepers keeper keeper row in
+          let e : part ≡ length old.keepers = omega arith in
+          let same : part ≡ keeper = some_is (sym own ∙ (ap (slice_get new.keepers) e ∙ row_new)) in
+          omega arith)
+    ];
+    share = λ is. meet (may is);
   }
     where
       last : (k at : ℕ) (s : Span) → slice_get new.keepers (length old.keepers) ≡ Some k → slice_get (list_of new.ranges k) at ≡ Some s → Shiftable shift s
@@ -251,16 +268,9 @@ module _ (old new : KeptParts) (keeper : ℕ) (shift : Shift) (row : slice_get o
           let here = ap (λ (l : List Span). slice_get l at) (sym list) ∙ is in
           subst (Shiftable shift) (get_or_from_slice_get own_list at s s here) (can at s (slice_get_within own_list at s here))
 
-      meet : (0 < length before) ⊎ MeetShifted own_list shift → AreApart (items_of (all_shifted new after)) → ⊥
-      meet (inl some) = still_meet old new own_list more before after (Some shift) noted.before noted.here (are.meet some)
-      meet (inr w) = by before refl w
-        where
-          by : (l : List (Option Shift)) → before ≡ l → MeetShifted own_list shift → AreApart (items_of (all_shifted new after)) → ⊥
-          by [] e w = two_meet e w
-          by (m ∷ l) e w = still_meet old new own_list more before after (Some shift) noted.before noted.here (are.meet (some e))
-            where
-              some : before ≡ m ∷ l → 0 < length before
-              some e = let k = ap length e in omega arith
+      meet : (was ≡ true) ⊎ MeetShifted own_list shift → DoMeet new after
+      meet (inl is) = still_meet old new own_list more before after (Some shift) noted.before noted.here (are.share is)
+      meet (inr w) = two_meet (are.own keeper row) w
 
 -- ---- one unit more
 

@@ -1,6 +1,9 @@
 pub mod Ahead
 pub mod Announced
+pub mod ApartTold
 pub mod Asking
+pub mod Hulls
+pub mod Lying
 pub mod OfKeepers
 pub mod PartsTold
 pub mod Searching
@@ -9,5 +12,6 @@ pub mod Shifts
 pub mod Copies
 pub mod Repeats
 pub mod Seen
+pub mod Spread
 pub mod Turns
 pub mod Units

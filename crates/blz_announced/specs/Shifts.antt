@@ -38,6 +38,9 @@ abbrev pub MayMove : Option Shift → Span → Type 0
 MayMove None s = Unit {0}
 MayMove (Some m) s = Shiftable m s
 
+abbrev pub CanMove : Option Shift → List Span → Type 0
+CanMove m spans = All (MayMove m) spans
+
 -- the number of its keeper that stands for one of a part
 abbrev pub back_by : Option Shift → ℕ → Option ℕ
 back_by None n = Some n
@@ -78,17 +81,24 @@ pub record ShiftedParts : Type 0 where
   pub parts : AnnouncedParts
   pub shifts : List (Option Shift)
 
+abbrev pub shifted_by : List (Option Shift) → AnnouncedParts → ShiftedParts
+shifted_by shifts parts = record { parts = parts; shifts = shifts }
+
 -- Two ranges do not stand one behind the other.
 pub record Meet (s t : Span) : Type 0 where
   pub first : s.end ≤ t.begin → ⊥
   pub second : t.end ≤ s.begin → ⊥
 
--- A range of a list meets one that is moved.
-pub record MeetShifted (list : List Span) (m : Shift) : Type 0 where
+-- A range of a list meets one of another list, as both are moved.
+pub record MeetMoved (left : List Span) (m : Option Shift) (right : List Span) (n : Option Shift) : Type 0 where
   pub at : ℕ
   pub other : ℕ
   pub moved : Span
   pub span : Span
-  pub is_moved : slice_get list at ≡ Some moved
-  pub is : slice_get list other ≡ Some span
-  pub meet : Meet (shifted m moved) span
+  pub is_moved : slice_get left at ≡ Some moved
+  pub is : slice_get right other ≡ Some span
+  pub meet : Meet (moved_by m moved) (moved_by n span)
+
+-- A range of a list meets one that is moved.
+abbrev pub MeetShifted : List Span → Shift → Type 0
+MeetShifted list m = MeetMoved list (Some m) list None

@@ -1,6 +1,6 @@
 -- What units announce: each the lists of its parts, one behind the other. A list is kept once, for the first part that
 -- announces it, and ranges are sought among those of parts.
-use Rattle.std.specs.Prelude.{◌≡◌, ℕ, ◌+◌, ◌<◌, ◌≤◌, ◌++◌, length, true, List, [], map, Option, Some, IfSome, ◌⊎◌, unwrap_or}
+use Rattle.std.specs.Prelude.{◌≡◌, ℕ, ◌+◌, ◌<◌, ◌≤◌, ◌++◌, length, Bool, true, List, [], map, Option, Some, None, IfSome, unwrap_or}
 use Rattle.std.specs.List.{slice_get}
 use Rattle.blz_bytes.specs.declared.orders.Key.{Key}
 use Rattle.blz_ranges.specs.declared.span.Span.{Span}
@@ -8,9 +8,9 @@ use Rattle.blz_ranges.specs.Groups.{AreApart}
 use Rattle.blz_ranges.specs.Owned.{Owned, items_of, own_all}
 use Rattle.blz_ranges.specs.Ranges.{OwnedRanges}
 use Rattle.blz_announced.specs.Announced.{units_covering, Announcing}
-use Rattle.blz_announced.specs.Copies.{all_kept_parts, all_of_parts, list_of, AnnouncedParts, ArePartsOrderedBy, IsPartList, KeptParts}
+use Rattle.blz_announced.specs.Copies.{all_kept_parts, all_of_parts, AnnouncedParts, ArePartsOrderedBy, IsPartList, KeptParts}
 use Rattle.blz_announced.specs.Seen.{LeavesOut}
-use Rattle.blz_announced.specs.Shifts.{all_by_shifts, by_shifts, shifted, MeetShifted, StayWithin}
+use Rattle.blz_announced.specs.Shifts.{all_by_shifts, by_shifts, shift_of, shifted, StayWithin}
 use Rattle.blz_announced.specs.declared.shift.Shift.{Shift}
 
 -- ---- the units of parts
@@ -80,15 +80,26 @@ all_shifted parts shifts = by_shifts shifts (all_kept_parts parts)
 abbrev pub all_kept : KeptRanges → List (Owned Span)
 all_kept k = by_units k.units (all_shifted (parts_kept k) k.shifts)
 
+-- Some two of all ranges share an address, or one is empty.
+abbrev pub DoMeet : KeptParts → List (Option Shift) → Type 0
+DoMeet parts shifts = AreApart (items_of (all_shifted parts shifts)) → ⊥
+
 -- Where ranges of a part are moved, some two of all ranges share an address.
 pub record AreShifted (parts : KeptParts) (shifts : List (Option Shift)) : Type 0 where
   pub within : length shifts ≤ length parts.keepers
   pub stay : StayWithin parts.ranges parts.keepers shifts
-  pub meet : 0 < length shifts → AreApart (items_of (all_shifted parts shifts)) → ⊥
+  pub meet : 0 < length shifts → DoMeet parts shifts
 
-pub record AreKeptByUnits (parts : KeptParts) (units : List ℕ) (shifts : List (Option Shift)) : Type 0 where
+-- The same where that is noted. The ranges of keepers stay.
+pub record AreMoved (parts : KeptParts) (shifts : List (Option Shift)) (meet : Bool) : Type 0 where
+  pub within : length shifts ≤ length parts.keepers
+  pub stay : StayWithin parts.ranges parts.keepers shifts
+  pub own : (part : ℕ) → slice_get parts.keepers part ≡ Some part → shift_of shifts part ≡ None
+  pub share : meet ≡ true → DoMeet parts shifts
+
+pub record AreKeptByUnits (parts : KeptParts) (units : List ℕ) (shifts : List (Option Shift)) (meet : Bool) : Type 0 where
   pub noted : length units ≤ length parts.keepers
-  pub shifted : AreShifted parts shifts
+  pub shifted : AreMoved parts shifts meet
 
 -- A part announces some ranges if it has that keeper, and none without one.
 abbrev pub IsListOf : KeptRanges → List Span → Option ℕ → Type 0
@@ -122,10 +133,6 @@ pub record IsWithUnit (old : KeptRanges) (spans : List Span) (new : KeptRanges) 
 -- one unit more, which announces what one with a keeper does
 abbrev pub IsOnceMore : KeptRanges → Option ℕ → KeptRanges → Type 0
 IsOnceMore old keeper new = (spans : List Span) → IsListOf old spans keeper → IsWithUnit old spans new
-
--- One part more may be kept as one that announces what another does, moved: some two ranges share an address then.
-abbrev pub MayBeShifted : KeptRanges → ℕ → Shift → Type 0
-MayBeShifted k keeper shift = (0 < length k.shifts) ⊎ MeetShifted (list_of k.ranges keeper) shift
 
 -- one part more, which announces what one with a keeper does, each range moved
 abbrev pub IsShiftedMore : KeptRanges → ℕ → Shift → KeptRanges → Type 0

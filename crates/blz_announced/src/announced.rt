@@ -3,6 +3,8 @@ ghost use Rattle.std.specs.Prelude.{◌≡◌, IfOk};
 ghost use Rattle.blz_announced.specs.Units.{all_kept, announced_all, IsOrderedBy};
 
 use crate::announced_parts::AnnouncedParts;
+use crate::finding::{Finding, settled};
+use crate::hulls::Hulls;
 use crate::kept_ranges::KeptRanges;
 use crate::shift::Shift;
 use blz_bytes::Orders;
@@ -18,16 +20,19 @@ pub struct Announced {
     pub(crate) units: Vec<usize>,
     /// How the ranges of each part are moved, as far as that is noted.
     pub(crate) shifts: Vec<Option<Shift>>,
+    /// The hulls of parts, where these are found by them.
+    pub(crate) hulls: Option<Hulls>,
 }
 
 impl Model for Announced {
-    ghost use Rattle.blz_announced.specs.Units.{announced_by_units, kept_parts, Announced, AreShifted};
+    ghost use Rattle.blz_announced.specs.Hulls.{AreFoundBy};
+    ghost use Rattle.blz_announced.specs.Units.{announced_by_units, kept_parts, Announced};
 
     ghost Value = { Announced };
 
     ghost view = { λ a. announced_by_units a.parts a.units.items a.shifts.items };
 
-    ghost invariant = { λ a. AreShifted (kept_parts a.parts) a.shifts.items };
+    ghost invariant = { λ a. AreFoundBy (kept_parts a.parts) a.shifts.items a.hulls };
 }
 
 impl Announced {
@@ -40,7 +45,13 @@ impl Announced {
         ensures all { IfOk result (λ a. (announced_all a).ranges ≡ all_kept ranges) }
         ensures accepted { IfOk result (IsOrderedBy O.pair_places) }
     {
-        let (parts, units, shifts) = ranges.into_parts();
+        let (parts, units, shifts, meet) = ranges.into_parts();
+        let found = settled(alloc, orders, parts, shifts, meet)?;
+        let Finding {
+            parts,
+            shifts,
+            hulls,
+        } = found;
         let (spans, owners, keepers) = parts.into_parts();
         let parts = AnnouncedParts::build(alloc, orders, spans, owners, keepers)?;
         let units = fitted(units);
@@ -49,6 +60,7 @@ impl Announced {
             parts,
             units,
             shifts,
+            hulls,
         })
     }
 }

@@ -10,6 +10,7 @@ ghost use Rattle.blz_announced.specs.OfKeepers.{IsBestOr};
 ghost use Rattle.blz_announced.specs.Seen.{by_owner};
 
 mod alike;
+mod alone;
 mod repeats;
 mod seeing;
 

@@ -5,6 +5,8 @@ ghost use Rattle.std.specs.List.{slice_get};
 ghost use Rattle.blz_ranges.specs.Owned.{owned};
 ghost use Rattle.blz_announced.specs.Copies.{list_of, ranges_between, AreKeepers, IsPartList, IsSamePartMore, IsKeptPartMore};
 
+mod rising;
+
 use crate::keepers::Keepers;
 use blz_ranges::{Span, own};
 use std::alloc::{AllocError, Global};

@@ -1,16 +1,15 @@
 //! The ranges that units announce, while the units are read.
 ghost use Rattle.std.specs.Prelude.{◌≡◌, ◌≢◌, ◌+◌, [], IfOk, IfSome, Some, map, true};
-ghost use Rattle.std.specs.Bool.{OnTrue};
 ghost use Rattle.std.specs.List.{slice_get};
 ghost use Rattle.blz_announced.specs.Copies.{list_of};
 ghost use Rattle.blz_announced.specs.Shifts.{shifted, CanBeShifted};
-ghost use Rattle.blz_announced.specs.Units.{no_ranges, parts_kept, IsOnceMore, AreShifted, IsPartAgain, IsShiftedMore, IsShiftedPart, IsShiftedUnit, IsWithKeeper, IsWithKeptPart, MayBeShifted};
+ghost use Rattle.blz_announced.specs.Units.{no_ranges, parts_kept, IsOnceMore, AreMoved, IsPartAgain, IsShiftedMore, IsShiftedPart, IsShiftedUnit, IsWithKeeper, IsWithKeptPart};
 
 use crate::kept_parts::KeptParts;
 use crate::meeting::meet_shifted;
 use crate::part_units::noted;
 use crate::shift;
-use crate::shift::Shift;
+use crate::shift::{Shift, shifted_list};
 use blz_ranges::Span;
 use std::alloc::{AllocError, Global};
 use std::marker::Model;
@@ -25,6 +24,8 @@ pub struct KeptRanges {
     shifts: Vec<Option<Shift>>,
     /// How many units were read.
     count: usize,
+    /// Whether two ranges are known to share an address.
+    meet: bool,
 }
 
 impl Model for KeptRanges {
@@ -34,23 +35,11 @@ impl Model for KeptRanges {
 
     ghost view = { λ k. kept_by_units k.parts k.units.items k.shifts.items k.count };
 
-    ghost invariant = { λ k. AreKeptByUnits k.parts k.units.items k.shifts.items };
+    ghost invariant = { λ k. AreKeptByUnits k.parts k.units.items k.shifts.items k.meet };
 }
 
 /// From so many ranges on, parts that announce what others do, moved, are kept as such.
 const MANY_RANGES: usize = 65_536;
-
-/// The ranges of a list, each moved.
-fn shifted_list(alloc: Global, list: &[Span], shift: Shift) -> Result<Vec<Span>, AllocError>
-    requires { CanBeShifted shift list.now }
-    ensures { IfOk result (λ v. v.items ≡ map (shifted shift) list.now) }
-{
-    let mut spans = Vec::with_capacity(alloc, list.len())?;
-    for at in 0..list.len() {
-        spans.push(shift.shifted(list[at]))?;
-    }
-    Ok(spans)
-}
 
 impl KeptRanges {
     /// Of no units; takes no memory.
@@ -62,6 +51,7 @@ impl KeptRanges {
             units: Vec::new(alloc),
             shifts: Vec::new(alloc),
             count: 0,
+            meet: false,
         }
     }
 
@@ -76,6 +66,7 @@ impl KeptRanges {
             units,
             shifts: self.shifts,
             count: self.count,
+            meet: self.meet,
         };
         Ok((ranges, keeper))
     }
@@ -92,6 +83,7 @@ impl KeptRanges {
             units,
             shifts: self.shifts,
             count: self.count,
+            meet: self.meet,
         })
     }
 
@@ -107,6 +99,7 @@ impl KeptRanges {
             units: self.units,
             shifts: self.shifts,
             count,
+            meet: self.meet,
         })
     }
 
@@ -136,26 +129,13 @@ impl KeptRanges {
         Ok((ranges, keeper))
     }
 
-    /// Whether one part more may be kept as one that announces what another does, moved: where some two ranges share an
-    /// address, so that no few looks are owed for one of them.
-    fn may_shift(&self, keeper: usize, shift: Shift) -> bool
-        requires keeper { slice_get self.now.keepers keeper ≡ Some keeper }
-        requires stays { CanBeShifted shift (list_of self.now.ranges keeper) }
-        ensures { OnTrue result (MayBeShifted self.now keeper shift) }
-    {
-        if self.parts.len() < MANY_RANGES {
-            return false;
-        }
-        !self.shifts.is_empty() || meet_shifted(self.parts.list_of(keeper), shift)
-    }
-
     /// One part more of the unit that is read, which announces what another one does, moved, and is kept as that.
     fn with_shift(self, keeper: usize, shift: Shift) -> Result<KeptRanges, AllocError>
         requires keeper { slice_get self.keepers keeper ≡ Some keeper }
         requires stays { CanBeShifted shift (list_of self.ranges keeper) }
-        requires may { MayBeShifted self keeper shift }
         ensures { IfOk result (IsShiftedMore self keeper shift) }
     {
+        let meet = self.meet || meet_shifted(self.parts.list_of(keeper), shift);
         let part = self.parts.count();
         let units = noted(self.units, part, self.count)?;
         let shifts = shift::noted(self.shifts, part, shift)?;
@@ -165,6 +145,7 @@ impl KeptRanges {
             units,
             shifts,
             count: self.count,
+            meet,
         })
     }
 
@@ -180,7 +161,7 @@ impl KeptRanges {
         requires stays { CanBeShifted shift (list_of self.ranges keeper) }
         ensures { IfOk result (IsShiftedPart self keeper shift) }
     {
-        if self.may_shift(keeper, shift) {
+        if self.parts.len() >= MANY_RANGES {
             let ranges = self.with_shift(keeper, shift)?;
             return Ok((ranges, None));
         }
@@ -205,13 +186,14 @@ impl KeptRanges {
         Ok((ranges, found))
     }
 
-    /// What the parts announce, the units of these, and how they are moved.
-    pub(crate) fn into_parts(self) -> (KeptParts, Vec<usize>, Vec<Option<Shift>>)
+    /// What the parts announce, the units of these, how they are moved, and whether two ranges are known to share an
+    /// address.
+    pub(crate) fn into_parts(self) -> (KeptParts, Vec<usize>, Vec<Option<Shift>>, bool)
         ensures parts { result.0 ≡ parts_kept self }
         ensures units { result.1.items ≡ self.units }
         ensures shifts { result.2.items ≡ self.shifts }
-        ensures are { AreShifted result.0 result.2.items }
+        ensures are { AreMoved result.0 result.2.items result.3 }
     {
-        (self.parts, self.units, self.shifts)
+        (self.parts, self.units, self.shifts, self.meet)
     }
 }

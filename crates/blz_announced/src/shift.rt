@@ -1,9 +1,9 @@
 //! How ranges are moved.
-ghost use Rattle.std.specs.Prelude.{◌≡◌, ◌≤◌, ◌+◌, length, IfOk, Some};
-ghost use Rattle.blz_announced.specs.Shifts.{back_by, moved_by, shift_of, shifted, unshifted, AreFilled, AreNoted, MayMove, Shiftable};
+ghost use Rattle.std.specs.Prelude.{◌≡◌, ◌≤◌, ◌+◌, length, map, IfOk, Some};
+ghost use Rattle.blz_announced.specs.Shifts.{back_by, moved_by, shift_of, shifted, unshifted, AreFilled, AreNoted, CanBeShifted, MayMove, Shiftable};
 
 use blz_ranges::Span;
-use std::alloc::AllocError;
+use std::alloc::{AllocError, Global};
 
 /// How the ranges of a part are moved from those of its keeper: back by one number, and on by another.
 #[derive(Clone, Copy)]
@@ -33,6 +33,18 @@ impl Shift {
         }
         (number - self.by).checked_add(self.back)
     }
+}
+
+/// The ranges of a list, each moved.
+pub fn shifted_list(alloc: Global, list: &[Span], shift: Shift) -> Result<Vec<Span>, AllocError>
+    requires { CanBeShifted shift list.now }
+    ensures { IfOk result (λ v. v.items ≡ map (shifted shift) list.now) }
+{
+    let mut spans = Vec::with_capacity(alloc, list.len())?;
+    for at in 0..list.len() {
+        spans.push(shift.shifted(list[at]))?;
+    }
+    Ok(spans)
 }
 
 /// A range as a part has it.

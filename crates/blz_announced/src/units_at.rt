@@ -6,6 +6,7 @@ ghost use Rattle.blz_announced.specs.PartsTold.{parts_told};
 ghost use Rattle.blz_announced.specs.Units.{announced_all, parts_all, AreToldOnce, IsOnce};
 
 use crate::announced::Announced;
+use crate::apart_at::ApartAt;
 use crate::part_units::unit_of;
 use crate::parts_at::PartsAt;
 use crate::shifted_at::ShiftedAt;
@@ -18,6 +19,7 @@ use std::sync::ledger::Ledger;
 enum AnyParts<'u> {
     Found(PartsAt<'u>),
     Shifted(ShiftedAt<'u>),
+    Apart(ApartAt<'u>),
 }
 
 impl AnyParts<'_> {
@@ -30,6 +32,7 @@ impl AnyParts<'_> {
         match self {
             AnyParts::Found(parts) => parts.next_part(steps),
             AnyParts::Shifted(parts) => parts.next_part(steps),
+            AnyParts::Apart(parts) => parts.next_part(steps),
         }
     }
 }
@@ -42,7 +45,10 @@ fn parts_of(announced: &Announced, addr: u64) -> AnyParts<'_>
     if shifts.is_empty() {
         return AnyParts::Found(PartsAt::new(&announced.parts, addr));
     }
-    AnyParts::Shifted(ShiftedAt::new(&announced.parts, shifts, addr))
+    match &announced.hulls {
+        Some(hulls) => AnyParts::Apart(ApartAt::new(&announced.parts, shifts, hulls, addr)),
+        None => AnyParts::Shifted(ShiftedAt::new(&announced.parts, shifts, addr)),
+    }
 }
 
 /// The same, without some that were told before; where the ranges of some parts are moved none is left out.

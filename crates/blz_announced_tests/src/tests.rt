@@ -84,8 +84,13 @@ fn moved(
     Ok(ranges)
 }
 
-/// Unit 0 announces so many ranges elsewhere, unit 1 the list from 0x1000, unit 2 the same from 0x1010, unit 3 from 0x1022.
-fn four_units(alloc: Global, others: u64) -> Result<Announced, AllocError> {
+/// Unit 0 announces so many ranges elsewhere, unit 1 the list from 0x1000, units 2 and 3 the same from other bases.
+fn units_from(
+    alloc: Global,
+    others: u64,
+    second: u64,
+    third: u64,
+) -> Result<Announced, AllocError> {
     let elsewhere = bytes_apart(alloc, 0x10_0000, others)?;
     let list = ten_from(alloc, 0x1000)?;
     let (ranges, _) = KeptRanges::new(alloc).with_unit(elsewhere.as_slice())?;
@@ -93,9 +98,14 @@ fn four_units(alloc: Global, others: u64) -> Result<Announced, AllocError> {
     let Some(keeper) = keeper else {
         return Err(AllocError);
     };
-    let ranges = moved(alloc, ranges, list.as_slice(), keeper, 0x1010)?;
-    let ranges = moved(alloc, ranges, list.as_slice(), keeper, 0x1022)?;
+    let ranges = moved(alloc, ranges, list.as_slice(), keeper, second)?;
+    let ranges = moved(alloc, ranges, list.as_slice(), keeper, third)?;
     Announced::build(alloc, &mut ByStdSort, ranges)
+}
+
+/// The same with unit 2 from 0x1010 and unit 3 from 0x1022, so that ranges of all three share addresses.
+fn four_units(alloc: Global, others: u64) -> Result<Announced, AllocError> {
+    units_from(alloc, others, 0x1010, 0x1022)
 }
 
 /// The first four units that are told of an address.
@@ -144,5 +154,40 @@ fn units_kept_as_moved_are_told_in_the_same_order(rt: HostRuntime) -> Result<(),
     checked(&mut checks, &announced);
     checks.same(told(&announced, 0x10_0004), [Some(0), None, None, None]);
     checks.same(told(&announced, 0x10_0005), [None, None, None, None]);
+    checks.result()
+}
+
+#[test]
+fn moved_units_one_behind_the_other_are_told_alone(rt: HostRuntime) -> Result<(), Fail> {
+    let mut checks = Checks::new();
+    let announced = units_from(rt.alloc(), MANY, 0x3000, 0x2000).expect(&rt, "refused");
+    checks.same(told(&announced, 0x1003), [Some(1), None, None, None]);
+    checks.same(told(&announced, 0x2093), [Some(3), None, None, None]);
+    checks.same(told(&announced, 0x3011), [Some(2), None, None, None]);
+    checks.same(told(&announced, 0x3008), [None, None, None, None]);
+    checks.same(told(&announced, 0x1800), [None, None, None, None]);
+    checks.same(told(&announced, 0x10_0004), [Some(0), None, None, None]);
+    checks.same(told(&announced, 0x10_0005), [None, None, None, None]);
+    checks.result()
+}
+
+#[test]
+fn moved_units_that_meet_elsewhere_are_told_in_order(rt: HostRuntime) -> Result<(), Fail> {
+    let mut checks = Checks::new();
+    let announced = units_from(rt.alloc(), MANY, 0x3000, 0x3002).expect(&rt, "refused");
+    checks.same(told(&announced, 0x3013), [Some(3), Some(2), None, None]);
+    checks.same(told(&announced, 0x3010), [Some(2), None, None, None]);
+    checks.same(told(&announced, 0x1003), [Some(1), None, None, None]);
+    checks.result()
+}
+
+#[test]
+fn moved_units_between_one_another_are_told_range_by_range(rt: HostRuntime) -> Result<(), Fail> {
+    let mut checks = Checks::new();
+    let announced = units_from(rt.alloc(), MANY, 0x1008, 0x3000).expect(&rt, "refused");
+    checks.same(told(&announced, 0x1003), [Some(1), None, None, None]);
+    checks.same(told(&announced, 0x100b), [Some(2), None, None, None]);
+    checks.same(told(&announced, 0x1006), [None, None, None, None]);
+    checks.same(told(&announced, 0x3011), [Some(3), None, None, None]);
     checks.result()
 }

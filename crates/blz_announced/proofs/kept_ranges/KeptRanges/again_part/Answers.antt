@@ -13,7 +13,7 @@ invariant_of-result c =
     let more = c.in_ok-parts.ensures.same list (is, refl) in
     record {
       noted = omega (arith, more.count, c.in_ok-units.ensures.within, c.count.ensures);
-      shifted = stays_shifted k.parts c.in_ok-parts.parts list k.shifts.items more c.self.invariant.shifted;
+      shifted = stays_shifted k.parts c.in_ok-parts.parts list k.shifts.items k.meet more c.self.invariant.shifted;
     }
 
 pub returns : goal.returns

@@ -9,7 +9,7 @@ invariant_of-ranges c =
     let more = c.in_ok-parts.ensures.with_part in
     record {
       noted = omega (arith, more.count, c.in_ok-units.ensures.within, c.count.ensures);
-      shifted = stays_shifted k.parts c.in_ok-parts.parts c.args.spans.now k.shifts.items more c.self.invariant.shifted;
+      shifted = stays_shifted k.parts c.in_ok-parts.parts c.args.spans.now k.shifts.items k.meet more c.self.invariant.shifted;
     }
 
 pub returns : goal.returns
