@@ -48,11 +48,13 @@ def tails_of_a_range_list_within_one_another_of_units(n):
     return units_of_tails(lists, begins_of(lists), BASE + n)
 
 
-def units_of_each_base(lists, begins):
-    """A unit with a base of its own for each of some offsets within a list."""
+def units_of_each_base(lists, begins, apart=4):
+    """A unit with a base of its own, so far from the one before, for each of some offsets within a list."""
     shapes = {ROOT: root([(DW_AT_LOW_PC, DW_FORM_ADDR), *RANGES], 0)}
     data, first = range_lists(b"".join(lists) + b"\0")
-    units = [unit(entry(shapes, ROOT, BASE + 4 * k, first + begin)) for k, begin in enumerate(begins)]
+    begins = list(begins)
+    base = BASE if apart > 0 else BASE - apart * len(begins)
+    units = [unit(entry(shapes, ROOT, base + apart * k, first + begin)) for k, begin in enumerate(begins)]
     return Attack(dwarf(shapes, b"".join(units), rnglists=data), [BASE + 1])
 
 
@@ -64,6 +66,16 @@ def each_behind_its_base(n):
 def one_range_list_of_units_of_each_base(n):
     # all its ranges count from the base of the unit
     return units_of_each_base([offset_pair(4 * k, 4 * k + 1) for k in range(n)], [0] * n)
+
+
+@shape
+def one_range_list_of_units_of_each_base_one_behind_the_other(n):
+    return units_of_each_base([offset_pair(4 * k, 4 * k + 1) for k in range(n)], [0] * n, 4 * n)
+
+
+@shape
+def one_range_list_of_units_of_each_base_one_before_the_other(n):
+    return units_of_each_base([offset_pair(4 * k, 4 * k + 1) for k in range(n)], [0] * n, -4 * n)
 
 
 @shape
