@@ -1,6 +1,7 @@
 -- Ranges that rise, and parts whose hulls lie apart.
 use Rattle.std.proofs.Common.{◌≡◌, ℕ, zero, suc, ◌+◌, ◌-◌, ◌^◌, ◌<◌, ◌≤◌, true, List, [], ◌∷◌, ◌++◌, length, get_or, Option, Some, None, refl, sym, ap, subst, ◌∙◌, arith, inl, inr}
 use Rattle.std.specs.Prelude.{option_map}
+use Rattle.std.proofs.lemmas.List.{length-map}
 use Rattle.std.specs.List.{slice_get}
 use Rattle.std.proofs.lemmas.Bool.{cases_lt}
 use Rattle.std.proofs.lemmas.Option.{get_or_from_slice_get, slice_get_within}
@@ -11,7 +12,7 @@ use Rattle.blz_ranges.proofs.BestOf.{best_is_best}
 use Rattle.blz_ranges.proofs.ListEnds.{at_end, in_front}
 use Rattle.blz_ranges.proofs.OwnedItems.{items_owned, owner_owned}
 use Rattle.blz_announced.specs.Copies.{AnnouncedParts, HaveKeepers, IsKept, KeptParts}
-use Rattle.blz_announced.specs.Hulls.{part_in, part_under, DoRise, FollowsAt, HaveHullsTo, Hulls, IsAlone, IsAloneOr, IsCoveringAt, IsCoveringOr, IsHullBetween, IsHullOf, IsHullOfPart, IsHullOr, IsOneOf, IsOneOr, IsUnder, LieApart, RiseBetween}
+use Rattle.blz_announced.specs.Hulls.{part_in, part_under, DoRise, FollowsAt, HaveHullsTo, Hulls, IsAlone, IsAloneOr, IsCoveringAt, IsCoveringOr, IsHullBetween, IsHullOf, IsHullOfPart, IsHullOr, IsOneOf, IsOneOr, IsUnder, LieApart, RiseBetween, LiesAt, HasBounds}
 use Rattle.blz_announced.specs.OfKeepers.{IsBestOr}
 use Rattle.blz_announced.specs.Searching.{reached_at, IsReached}
 use Rattle.blz_announced.specs.Shifts.{back_by, moved_by, shift_of, shifted, MayMove, shifted_by}
@@ -19,7 +20,6 @@ use Rattle.blz_announced.specs.Units.{kept_parts}
 use Rattle.blz_announced.specs.declared.shift.Shift.{Shift}
 use Rattle.blz_announced.specs.declared.shifted_parts.Reached.{Reached}
 use Rattle.blz_announced.proofs.Copies.{there_at}
-use Rattle.blz_announced.proofs.ListsOf.{LiesAt}
 use Rattle.blz_announced.proofs.NextCopies.{has_item, item_at, some_is}
 use Rattle.blz_announced.proofs.ShiftedRanges.{covered, covered_back, covered_on, covering, none_covered}
 use Rattle.blz_announced.proofs.ShiftedSearch.{may_be_moved}
@@ -166,6 +166,17 @@ module _ (kept : List (Owned Span)) (keeper : ℕ) (rise : DoRise kept) where
 pub one_or : (a : AnnouncedParts) (part addr keeper : ℕ) → slice_get a.keepers part ≡ Some keeper → (o : Option ℕ) → IsBestOr (passes addr None) a.kept.ranges keeper o → IsOneOr a part addr o
 one_or a part addr keeper row None h = λ k row_k. subst (λ (n : ℕ). IsBestOr (passes addr None) a.kept.ranges n None) (some_is (sym row ∙ row_k)) h
 one_or a part addr keeper row (Some place) h = record { keeper = keeper; row = row; best = h }
+
+-- the range that is found between the bounds of a part
+module _ (a : AnnouncedParts) (rise : DoRise a.kept.ranges) (part start end : ℕ) (b : HasBounds a part start end) where
+  pub bounds_rise : RiseBetween (items_of a.kept.ranges) start end
+  bounds_rise = rise_between a.kept.ranges b.keeper rise start end b.lies
+
+  pub bounds_within : end ≤ length (items_of a.kept.ranges)
+  bounds_within = let long = length-map {B = Span} a.kept.ranges (λ (x : Owned Span). x.item) in let within = b.lies.within in omega (arith, long, within)
+
+  pub one_between : (addr : ℕ) (o : Option ℕ) → IsCoveringOr (items_of a.kept.ranges) start end addr o → IsOneOr a part addr o
+  one_between addr o h = one_or a part addr b.keeper b.row o (best_one a.kept.ranges b.keeper rise start end b.lies addr o h)
 
 -- the hull of a keeper, by its first range and its last one
 pub hull_by : (kept : List (Owned Span)) (keeper start end : ℕ) → DoRise kept → LiesAt kept keeper start end → (o : Option Span) → IsHullBetween (items_of kept) start end o → IsHullOr kept keeper o

@@ -7,6 +7,7 @@ use Rattle.std.proofs.lemmas.Option.{get_or_from_slice_get, slice_get-map, slice
 use Rattle.blz_ranges.specs.declared.span.Span.{Span}
 use Rattle.blz_ranges.specs.Owned.{Owned, items_of}
 use Rattle.blz_announced.specs.Copies.{copies_of, list_of, start_of, AreEnds, Copy, IsKept}
+use Rattle.blz_announced.specs.Hulls.{LiesAt}
 use Rattle.blz_announced.proofs.Copies.{copy_there, copy_told, there_at}
 use Rattle.blz_announced.proofs.NextCopies.{mapped}
 
@@ -109,13 +110,6 @@ module _ (kept : List (Owned Span)) (keepers ends : List ℕ) (are : AreEnds kep
 
 lies_from : (kept : List (Owned Span)) (keepers ends : List ℕ) → AreEnds kept keepers ends → (keeper end : ℕ) → slice_get keepers keeper ≡ Some keeper → slice_get ends keeper ≡ Some end → LiesFrom kept keeper (start_of ends keeper) end
 lies_from kept keepers ends are keeper end row is = let lt = slice_get_within keepers keeper _ row in lies kept keepers ends are keeper end is (start_of ends keeper) (is_start kept keepers ends are keeper (omega arith))
-
--- The ranges from a place up to another are those of a keeper.
-pub record LiesAt (kept : List (Owned Span)) (keeper start end : ℕ) : Type 0 where
-  pub within : end ≤ length kept
-  pub own : (p : ℕ) (x : Owned Span) → slice_get kept p ≡ Some x → start ≤ p → p < end → x.owner ≡ keeper
-  pub from : (p : ℕ) (x : Owned Span) → slice_get kept p ≡ Some x → x.owner ≡ keeper → start ≤ p
-  pub below : (p : ℕ) (x : Owned Span) → slice_get kept p ≡ Some x → x.owner ≡ keeper → p < end
 
 pub owns_at : (kept : List (Owned Span)) (keepers ends : List ℕ) → AreEnds kept keepers ends → (keeper end : ℕ) → keeper < length keepers → end ≡ get_or ends keeper end → LiesAt kept keeper (start_of ends keeper) end
 owns_at kept keepers ends are keeper end lt read =

@@ -1,5 +1,5 @@
 -- Parts whose ranges lie one behind the other: a hull is around all ranges of a part, and no two hulls share an address.
-use Rattle.std.specs.Prelude.{◌≡◌, ℕ, suc, ◌+◌, ◌-◌, ◌*◌, ◌^◌, ◌<◌, ◌≤◌, true, List, Option, Some, None}
+use Rattle.std.specs.Prelude.{◌≡◌, ℕ, suc, length, ◌+◌, ◌-◌, ◌*◌, ◌^◌, ◌<◌, ◌≤◌, true, List, Option, Some, None}
 use Rattle.std.specs.List.{slice_get}
 use Rattle.blz_ranges.specs.declared.span.Span.{Span}
 use Rattle.blz_ranges.specs.Best.{best, covers, passes}
@@ -136,6 +136,23 @@ pub record LieApart (parts : KeptParts) (shifts : List (Option Shift)) (h : Hull
 abbrev pub AreFoundBy : KeptParts → List (Option Shift) → Option Hulls → Type 0
 AreFoundBy parts shifts None = AreShifted parts shifts
 AreFoundBy parts shifts (Some h) = LieApart parts shifts h
+
+-- The ranges of a keeper are those from a place up to another.
+pub record LiesAt (kept : List (Owned Span)) (keeper start end : ℕ) : Type 0 where
+  pub within : end ≤ length kept
+  pub own : (p : ℕ) (x : Owned Span) → slice_get kept p ≡ Some x → start ≤ p → p < end → x.owner ≡ keeper
+  pub from : (p : ℕ) (x : Owned Span) → slice_get kept p ≡ Some x → x.owner ≡ keeper → start ≤ p
+  pub below : (p : ℕ) (x : Owned Span) → slice_get kept p ≡ Some x → x.owner ≡ keeper → p < end
+
+-- They are those of a part's keeper.
+pub record HasBounds (a : AnnouncedParts) (part start end : ℕ) : Type 0 where
+  pub keeper : ℕ
+  pub row : slice_get a.keepers part ≡ Some keeper
+  pub lies : LiesAt a.kept.ranges keeper start end
+
+abbrev pub HasBoundsOr : AnnouncedParts → ℕ → Option (ℕ × ℕ) → Type 0
+HasBoundsOr a part None = slice_get a.keepers part ≡ None
+HasBoundsOr a part (Some bounds) = HasBounds a part bounds.0 bounds.1
 
 -- The one range of a part that covers an address as its keeper has it, and that none does.
 pub record IsOneOf (a : AnnouncedParts) (part addr place : ℕ) : Type 0 where
