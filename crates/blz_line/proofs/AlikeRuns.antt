@@ -36,7 +36,7 @@ unfolding string_of indexed_string
 string_same s h g r q wide base (StrIndex index) = rw (wide, base) refl
 string_same s h g r q wide base _ = refl
 
-string_plain : (s : Sections) (h g : UnitHeader) (r q : UnitRoot) (v : AttrValue) → is_index v ≡ false → string_of s h r v ≡ string_of s g q v
+pub string_plain : (s : Sections) (h g : UnitHeader) (r q : UnitRoot) (v : AttrValue) → is_index v ≡ false → string_of s h r v ≡ string_of s g q v
 unfolding string_of
 string_plain s h g r q (StrIndex index) plain = absurd cc
 string_plain s h g r q _ plain = refl

@@ -7,5 +7,8 @@ pub mod RunRows
 pub mod RisingRows
 pub mod UnitFiles
 pub mod AlikeRuns
+pub mod StringTables
+pub mod SettledRuns
+pub mod MissingFiles
 pub mod Indices
 pub mod RunOrder

@@ -8,10 +8,14 @@ pub mod Registers
 pub mod Sequences
 pub mod Program
 pub mod FileNames
-pub mod ProgramFiles
-pub mod NamingView
+pub mod MissingFiles
+pub mod IndexedStrings
 pub mod UnitLines
 pub mod ProgramRuns
+pub mod SettledFiles
+pub mod ListedFiles
+pub mod ProgramFiles
+pub mod NamingView
 pub mod ProgramTables
 pub mod RowOrder
 pub mod Lookups

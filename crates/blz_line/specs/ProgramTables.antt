@@ -1,7 +1,6 @@
 -- The table of a line program, of which each unit that reads it so has its own: its sequences, and its files without the
 -- names of a unit (DWARF 5 section 6.2).
 use Rattle.std.specs.Prelude.{◌≡◌, ℕ, Bool, List, length, map, Option, Some, Result}
-use Rattle.std.specs.Arc.{arc_value}
 use Rattle.blz_error.specs.Fault.{Fault}
 use Rattle.blz_error.specs.declared.kind.ErrorKind.TheVariants.{InvalidDwarf}
 use Rattle.blz_model.specs.Part.{Gives, or_mark}
@@ -17,6 +16,7 @@ use Rattle.blz_line.specs.declared.files.FirstFile.{FirstFile}
 use Rattle.blz_line.specs.declared.files.ProgramFiles.{ProgramFiles}
 use Rattle.blz_line.specs.declared.files.UnitNames.{UnitNames}
 use Rattle.blz_line.specs.FileNames.{naming_of, all_files}
+use Rattle.blz_line.specs.ListedFiles.{listed_view}
 use Rattle.blz_line.specs.Lookups.{spans_of}
 use Rattle.blz_line.specs.ProgramFiles.{files_by, first_of, nameless}
 use Rattle.blz_line.specs.ProgramRuns.{OrderedRun, RunParts, run_at}
@@ -68,7 +68,7 @@ GivesTable table result = Gives (λ (p : OrderedProgram). p.table) result (or_ma
 
 -- the same of files
 abbrev pub GivesFiles : Option (List FilePlaces) → Result ProgramFiles Fault → Type 0
-GivesFiles files result = Gives (λ (f : ProgramFiles). arc_value f.table) result (or_mark files InvalidDwarf)
+GivesFiles files result = Gives (λ (f : ProgramFiles). listed_view f.listed) result (or_mark files InvalidDwarf)
 
 -- the table of a unit with some names
 abbrev pub unit_table : UnitNames → ProgramTable → LineTable

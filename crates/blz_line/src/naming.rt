@@ -1,15 +1,17 @@
 //! How the entries of a table of files become files.
 ghost use Rattle.std.specs.Prelude.{◌≡◌, length, IfOk};
-ghost use Rattle.std.specs.Arc.{arc_value};
 ghost use Rattle.blz_error.specs.declared.kind.ErrorKind.TheVariants.{InvalidDwarf};
 ghost use Rattle.blz_model.specs.Part.{Gives, or_mark};
 ghost use Rattle.blz_line.specs.Tables.{copies};
 ghost use Rattle.blz_line.specs.FileNames.{directory_path, file_of, all_files};
-ghost use Rattle.blz_line.specs.NamingView.{naming_view};
+ghost use Rattle.blz_line.specs.MissingFiles.{is_missing, lacks_file};
+ghost use Rattle.blz_line.specs.ListedFiles.{listed_view};
+ghost use Rattle.blz_line.specs.NamingView.{naming_view, strings_view};
 ghost use Rattle.blz_line.specs.ProgramFiles.{first_of};
 
 use crate::broken::broken;
-use crate::files::{FilePlaces, FirstFile, ProgramFiles};
+use crate::files::{FilePlaces, FirstFile, ListedFiles, ProgramFiles};
+use crate::indexed_strings::UnitStrings;
 use crate::paths::FileEntry;
 use crate::table::Table;
 use blz_entry::{AttrValue, Sections, StrPlace, UnitHeader, UnitRoot, attr_string};
@@ -17,14 +19,33 @@ use blz_error::Result;
 use std::alloc::Global;
 use std::sync::Arc;
 
+/// Where strings are found.
+#[derive(Clone, Copy)]
+pub enum Strings<'a, 's, 'b> {
+    /// In sections, as a unit finds them.
+    Read(&'a Sections<'s, 'b>, &'a UnitHeader, &'a UnitRoot),
+    /// Among those that were read before.
+    Kept(&'a UnitStrings),
+}
+
 /// What the names of a table's files go by.
 #[derive(Clone, Copy)]
 pub struct Namer<'a, 's, 'b> {
-    pub sections: &'a Sections<'s, 'b>,
-    pub unit: &'a UnitHeader,
-    pub root: &'a UnitRoot,
+    pub strings: Strings<'a, 's, 'b>,
     pub version: u16,
     pub directories: &'a Table<FileEntry>,
+}
+
+impl Strings<'_, '_, '_> {
+    /// The string of a value; None exactly where it is none or cannot be read.
+    fn get(&self, value: AttrValue) -> Option<StrPlace>
+        ensures { result ≡ strings_view self.now value }
+    {
+        match *self {
+            Strings::Read(sections, unit, root) => attr_string(sections, unit, root, value),
+            Strings::Kept(strings) => strings.string_at(value),
+        }
+    }
 }
 
 impl Namer<'_, '_, '_> {
@@ -48,11 +69,11 @@ impl Namer<'_, '_, '_> {
     fn string_at(&self, value: AttrValue) -> Option<StrPlace>
         ensures { result ≡ (naming_view self.now).string_at value }
     {
-        attr_string(self.sections, self.unit, self.root, value)
+        self.strings.get(value)
     }
 
     #[tactic(auto, unfolding(crate::specs::FileNames::file_of, crate::specs::FileNames::file_in))]
-    fn file_of(&self, entry: FileEntry) -> Option<FilePlaces>
+    pub fn file_of(&self, entry: FileEntry) -> Option<FilePlaces>
         ensures { result ≡ file_of (naming_view self.now) entry }
     {
         let name = self.string_at(entry.path)?;
@@ -102,8 +123,43 @@ impl Namer<'_, '_, '_> {
         Ok(files)
     }
 
+    /// Whether an entry has no file.
+    fn is_missing(&self, entry: FileEntry) -> bool
+        ensures { result ≡ is_missing (file_of (naming_view self.now) entry) }
+    {
+        match self.file_of(entry) {
+            Some(_) => false,
+            None => true,
+        }
+    }
+
+    /// Whether there are some equal entries without a file.
+    fn lacks_equal(&self, repeated: Option<(u64, FileEntry)>) -> bool
+        ensures { result ≡ lacks_file (naming_view self.now) (copies repeated) }
+    {
+        match repeated {
+            Some((count, entry)) => count > 0 && self.is_missing(entry),
+            None => false,
+        }
+    }
+
+    /// Whether one of some entries has no file.
+    fn lacks_listed(&self, listed: &[FileEntry]) -> bool
+        ensures { result ≡ lacks_file (naming_view self.now) listed.now }
+    {
+        listed.iter().any(|entry| self.is_missing(*entry))
+    }
+
+    /// Whether an entry of a table has no file.
+    pub fn lacks_file(&self, entries: &Table<FileEntry>) -> bool
+        ensures { result ≡ lacks_file (naming_view self.now) entries.now }
+    {
+        let (repeated, listed) = entries.parts();
+        self.lacks_equal(repeated) || self.lacks_listed(listed)
+    }
+
     /// What file 0 is.
-    fn first_of(&self, entries: &Table<FileEntry>) -> FirstFile
+    pub fn first_of(&self, entries: &Table<FileEntry>) -> FirstFile
         ensures { result ≡ first_of self.now.version (length entries.now) }
     {
         if self.version <= 4 {
@@ -117,12 +173,12 @@ impl Namer<'_, '_, '_> {
 
     /// The files of the program; InvalidDwarf where a path or a directory cannot be read.
     pub fn files_of(&self, alloc: Global, entries: &Table<FileEntry>) -> Result<ProgramFiles>
-        ensures table { Gives (λ f. arc_value f.table) result (or_mark (all_files (naming_view self.now) entries.now) InvalidDwarf) }
+        ensures table { Gives (λ f. listed_view f.listed) result (or_mark (all_files (naming_view self.now) entries.now) InvalidDwarf) }
         ensures first { IfOk result (λ f. f.first ≡ first_of self.now.version (length entries.now)) }
     {
         let files = self.all_files(alloc, entries)?;
-        let table = Arc::new(alloc, files)?;
+        let listed = ListedFiles::Read(Arc::new(alloc, files)?);
         let first = self.first_of(entries);
-        Ok(ProgramFiles { first, table })
+        Ok(ProgramFiles { first, listed })
     }
 }

@@ -2,12 +2,18 @@
 ghost use Rattle.std.specs.Prelude.{◌≡◌, slice_get, IfOk};
 ghost use Rattle.blz_line.specs.Lookups.{row_in};
 ghost use Rattle.blz_line.specs.ProgramFiles.{files_by};
+ghost use Rattle.blz_line.specs.SettledFiles.{IsSettledFor};
+ghost use Rattle.blz_entry.specs.declared.root.UnitRoot.{UnitRoot};
+ghost use Rattle.blz_info.specs.declared.section.Sections.{Sections};
+ghost use Rattle.blz_info.specs.declared.units.UnitHeader.{UnitHeader};
 ghost use Rattle.blz_line.specs.ProgramTables.{program_at, table_in, GivesTable, IsOrderedAs, IsOrderedBy};
 
 use crate::files::{FilePlaces, ProgramFiles, UnitNames};
+use crate::indexed_strings::UnitStrings;
 use crate::ordered_sequences::OrderedSequences;
 use crate::program_run::ProgramRun;
 use crate::row::{LineRow, LineSequence};
+use crate::settled_files::SettledFiles;
 use blz_bytes::Orders;
 use blz_entry::{Sections, UnitHeader, UnitRoot};
 use blz_error::Result;
@@ -46,6 +52,20 @@ impl ProgramLines {
         ensures ordered { IfOk result (IsOrderedAs run.now) }
     {
         let files = run.files(alloc, sections, header, root)?;
+        let rows = run.rows()?;
+        Ok(ProgramLines { rows, files })
+    }
+
+    /// The same by its settled files and by the strings of the unit.
+    pub fn of_settled(
+        run: &ProgramRun,
+        files: SettledFiles,
+        strings: UnitStrings,
+    ) -> Result<ProgramLines>
+        ensures value { (s : Sections) (h : UnitHeader) (r : UnitRoot) → IsSettledFor s h r run.now.run files strings → GivesTable (table_in s h r run.now.run) result }
+        ensures ordered { IfOk result (IsOrderedAs run.now) }
+    {
+        let files = files.files_by(strings)?;
         let rows = run.rows()?;
         Ok(ProgramLines { rows, files })
     }

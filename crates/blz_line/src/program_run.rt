@@ -4,12 +4,14 @@ ghost use Rattle.blz_info.specs.Contents.{section_view};
 ghost use Rattle.blz_line.specs.ProgramRuns.{by_index, run_at, GivesRun, IsRunOrderedBy};
 ghost use Rattle.blz_line.specs.ProgramTables.{run_files, run_first, GivesFiles};
 ghost use Rattle.blz_line.specs.RowOrder.{AreRising};
+ghost use Rattle.blz_line.specs.SettledFiles.{AreSettled};
 
 use crate::files::ProgramFiles;
-use crate::naming::Namer;
+use crate::naming::{Namer, Strings};
 use crate::ordered_sequences::OrderedSequences;
 use crate::paths::{FileEntry, has_index};
 use crate::plain_run::PlainRun;
+use crate::settled_files::{SettledFiles, settled_table};
 use crate::table::Table;
 use blz_bytes::Orders;
 use blz_entry::{Section, Sections, UnitHeader, UnitRoot};
@@ -129,13 +131,30 @@ impl ProgramRun {
         ensures first { IfOk result (λ f. f.first ≡ run_first self.now.run) }
     {
         let namer = Namer {
-            sections,
-            unit,
-            root,
+            strings: Strings::Read(sections, unit, root),
             version: self.version,
             directories: self.directories.deref(),
         };
         namer.files_of(alloc, self.entries.deref())
+    }
+
+    /// The files with each string that is the same for each unit.
+    pub fn settled_files(
+        &self,
+        alloc: Global,
+        sections: &Sections<'_, '_>,
+        unit: &UnitHeader,
+        root: &UnitRoot,
+    ) -> std::result::Result<SettledFiles, AllocError>
+        ensures { IfOk result (AreSettled sections.now unit.now root.now self.now.run) }
+    {
+        let directories = settled_table(alloc, sections, unit, root, self.directories.deref())?;
+        let entries = settled_table(alloc, sections, unit, root, self.entries.deref())?;
+        Ok(SettledFiles {
+            version: self.version,
+            directories,
+            entries,
+        })
     }
 
     /// The sequences, and their order.
