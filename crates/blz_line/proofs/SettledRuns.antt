@@ -21,7 +21,7 @@ use Rattle.blz_line.specs.IndexedStrings.{settled_string, unit_string}
 use Rattle.blz_line.specs.ProgramFiles.{first_of}
 use Rattle.blz_line.specs.ProgramRuns.{RunParts}
 use Rattle.blz_line.specs.ProgramTables.{run_files, run_first, table_in}
-use Rattle.blz_line.specs.SettledFiles.{known, settled, settled_entry, settled_naming, AreSettled, IsSettledFor}
+use Rattle.blz_line.specs.SettledFiles.{files_with, known, settled, settled_entry, AreAlike, AreSettled, IsSettled, IsSettledFor}
 use Rattle.blz_line.specs.declared.files.FilePlaces.{FilePlaces}
 use Rattle.blz_line.specs.declared.indexed_strings.UnitStrings.{UnitStrings}
 use Rattle.blz_line.specs.declared.paths.FileEntry.{FileEntry}
@@ -90,13 +90,13 @@ module _ (s : Sections) (h g : UnitHeader) (r q : UnitRoot) (strings : ℕ → O
 
 -- the files of a run with the strings of a unit
 pub settled_files_are : (s : Sections) (h : UnitHeader) (r : UnitRoot) (run : RunParts) (files : SettledFiles) (strings : UnitStrings) → IsSettledFor s h r run files strings
-    → all_files (settled_naming files (unit_string strings)) (arc_value files.entries) ≡ run_files s h r run
+    → files_with files strings ≡ run_files s h r run
 settled_files_are s h r run files strings is =
-    rw (is.settled.version, is.settled.directories, is.settled.entries)
-    (all_are s h is.header r is.root (unit_string strings) is.found run.version run.directories run.entries)
+    rw (is.settled.settled.version, is.settled.settled.directories, is.settled.settled.entries)
+    (all_are s h is.settled.header r is.settled.root (unit_string strings) is.found run.version run.directories run.entries)
 
 pub settled_good : (s : Sections) (h : UnitHeader) (r : UnitRoot) (run : RunParts) (files : SettledFiles) (strings : UnitStrings) (list : List FilePlaces) → IsSettledFor s h r run files strings
-    → or_mark (all_files (settled_naming files (unit_string strings)) (arc_value files.entries)) InvalidDwarf ≡ Good list
+    → or_mark (files_with files strings) InvalidDwarf ≡ Good list
     → or_mark (table_in s h r run) InvalidDwarf ≡ Good (record { sequences = run.sequences; first = run_first run; files = list })
 unfolding table_in
 settled_good s h r run files strings list is good =
@@ -104,7 +104,7 @@ settled_good s h r run files strings list is good =
     rw named refl
 
 pub settled_fails : (s : Sections) (h : UnitHeader) (r : UnitRoot) (run : RunParts) (files : SettledFiles) (strings : UnitStrings) (k : ErrorKind) → IsSettledFor s h r run files strings
-    → Fails k (or_mark (all_files (settled_naming files (unit_string strings)) (arc_value files.entries)) InvalidDwarf)
+    → Fails k (or_mark (files_with files strings) InvalidDwarf)
     → Fails k (or_mark (table_in s h r run) InvalidDwarf)
 unfolding table_in
 settled_fails s h r run files strings k is fails =
@@ -113,3 +113,15 @@ settled_fails s h r run files strings k is fails =
 
 pub settled_first : (s : Sections) (h : UnitHeader) (r : UnitRoot) (run : RunParts) (files : SettledFiles) → AreSettled s h r run files → first_of files.version (length (arc_value files.entries)) ≡ run_first run
 settled_first s h r run files is = rw (is.version, is.entries, length-map run.entries (settled_entry (string_of s h r))) refl
+
+-- what is alike is of the same run
+pub alike_settled : (s : Sections) (run : RunParts) (f g : SettledFiles) → AreAlike f g → IsSettled s run f → IsSettled s run g
+alike_settled s run f g same is = record {
+  header = is.header;
+  root = is.root;
+  settled = record {
+    version = same.version ∙ is.settled.version;
+    directories = same.directories ∙ is.settled.directories;
+    entries = same.entries ∙ is.settled.entries;
+  };
+}

@@ -40,6 +40,10 @@ first_root h r = record r { str_offsets_base = if h.wide then r.str_offsets_base
 abbrev pub first_index : UnitHeader → UnitRoot → ℕ
 first_index h r = if h.wide then r.str_offsets_base / 8 else r.str_offsets_base / 4
 
+-- Strings are those of the unit whose offsets begin first, as others are of a unit.
+abbrev pub AreThoseBehind : UnitHeader → UnitRoot → IndexedStrings → UnitStrings → Type 0
+AreThoseBehind h r first strings = (s : Sections) → AreFrom s h (first_root h r) first → AreThoseOf s h r strings
+
 -- the string of a value that is settled but for its index
 abbrev pub settled_string : (ℕ → Option StrPlace) → AttrValue → Option StrPlace
 settled_string strings (Text place) = Some place

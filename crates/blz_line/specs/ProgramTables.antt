@@ -15,12 +15,15 @@ use Rattle.blz_line.specs.declared.files.FilePlaces.{FilePlaces}
 use Rattle.blz_line.specs.declared.files.FirstFile.{FirstFile}
 use Rattle.blz_line.specs.declared.files.ProgramFiles.{ProgramFiles}
 use Rattle.blz_line.specs.declared.files.UnitNames.{UnitNames}
+use Rattle.blz_line.specs.declared.indexed_strings.UnitStrings.{UnitStrings}
+use Rattle.blz_line.specs.declared.settled_files.SettledFiles.{SettledFiles}
 use Rattle.blz_line.specs.FileNames.{naming_of, all_files}
 use Rattle.blz_line.specs.ListedFiles.{listed_view}
 use Rattle.blz_line.specs.Lookups.{spans_of}
 use Rattle.blz_line.specs.ProgramFiles.{files_by, first_of, nameless}
 use Rattle.blz_line.specs.ProgramRuns.{OrderedRun, RunParts, run_at}
 use Rattle.blz_line.specs.Sequences.{Sequence}
+use Rattle.blz_line.specs.SettledFiles.{IsSettledFor}
 use Rattle.blz_line.specs.UnitLines.{LineTable}
 
 pub record ProgramTable : Type 0 where
@@ -65,6 +68,10 @@ program_at sections unit root at = do
 -- A call gives a table, or InvalidDwarf exactly where there is none.
 abbrev pub GivesTable : Option ProgramTable → Result OrderedProgram Fault → Type 0
 GivesTable table result = Gives (λ (p : OrderedProgram). p.table) result (or_mark table InvalidDwarf)
+
+-- A call gives the table of a run for each unit that the settled files and the strings are of.
+abbrev pub GivesSettled : RunParts → SettledFiles → UnitStrings → Result OrderedProgram Fault → Type 0
+GivesSettled run files strings result = (s : Sections) (h : UnitHeader) (r : UnitRoot) → IsSettledFor s h r run files strings → GivesTable (table_in s h r run) result
 
 -- the same of files
 abbrev pub GivesFiles : Option (List FilePlaces) → Result ProgramFiles Fault → Type 0

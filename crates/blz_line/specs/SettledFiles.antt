@@ -8,9 +8,10 @@ use Rattle.blz_info.specs.declared.text.StrPlace.{StrPlace}
 use Rattle.blz_info.specs.declared.units.UnitHeader.{UnitHeader}
 use Rattle.blz_info.specs.declared.value.AttrValue.{AttrValue}
 use Rattle.blz_info.specs.declared.value.AttrValue.TheVariants.{Other, StrIndex, Text}
-use Rattle.blz_line.specs.FileNames.{Naming}
-use Rattle.blz_line.specs.IndexedStrings.{settled_string, AreThoseOf}
+use Rattle.blz_line.specs.FileNames.{Naming, all_files}
+use Rattle.blz_line.specs.IndexedStrings.{settled_string, unit_string, AreThoseOf}
 use Rattle.blz_line.specs.ProgramRuns.{RunParts}
+use Rattle.blz_line.specs.declared.files.FilePlaces.{FilePlaces}
 use Rattle.blz_line.specs.declared.indexed_strings.UnitStrings.{UnitStrings}
 use Rattle.blz_line.specs.declared.paths.FileEntry.{FileEntry}
 use Rattle.blz_line.specs.declared.settled_files.SettledFiles.{SettledFiles}
@@ -29,6 +30,10 @@ settled read value = known (read value)
 abbrev pub settled_entry : (AttrValue → Option StrPlace) → FileEntry → FileEntry
 settled_entry read e = record { path = settled read e.path; directory = e.directory }
 
+-- the same of each of some entries, as a unit finds their strings
+abbrev pub settled_entries : Sections → UnitHeader → UnitRoot → List FileEntry → List FileEntry
+settled_entries s h r entries = map (settled_entry (string_of s h r)) entries
+
 -- what the names of settled files go by in a unit, by its strings
 abbrev pub settled_naming : SettledFiles → (ℕ → Option StrPlace) → Naming
 settled_naming files strings = record {
@@ -42,12 +47,26 @@ settled_naming files strings = record {
 -- They are the files of a run.
 pub record AreSettled (s : Sections) (h : UnitHeader) (r : UnitRoot) (run : RunParts) (files : SettledFiles) : Type 0 where
   pub version : files.version ≡ run.version
-  pub directories : arc_value files.directories ≡ map (settled_entry (string_of s h r)) run.directories
-  pub entries : arc_value files.entries ≡ map (settled_entry (string_of s h r)) run.entries
+  pub directories : arc_value files.directories ≡ settled_entries s h r run.directories
+  pub entries : arc_value files.entries ≡ settled_entries s h r run.entries
 
--- They are the files of a run, settled as any unit does it, with the strings that a unit finds by their indices.
-pub record IsSettledFor (s : Sections) (h : UnitHeader) (r : UnitRoot) (run : RunParts) (files : SettledFiles) (strings : UnitStrings) : Type 0 where
+-- They are that for some unit, and so for each.
+pub record IsSettled (s : Sections) (run : RunParts) (files : SettledFiles) : Type 0 where
   pub header : UnitHeader
   pub root : UnitRoot
   pub settled : AreSettled s header root run files
+
+-- Two have the same directories and entries.
+pub record AreAlike (f g : SettledFiles) : Type 0 where
+  pub version : g.version ≡ f.version
+  pub directories : arc_value g.directories ≡ arc_value f.directories
+  pub entries : arc_value g.entries ≡ arc_value f.entries
+
+-- the files that they are with the strings of a unit, each of which has to be there
+abbrev pub files_with : SettledFiles → UnitStrings → Option (List FilePlaces)
+files_with files strings = all_files (settled_naming files (unit_string strings)) (arc_value files.entries)
+
+-- They are the files of a run, with the strings that a unit finds by their indices.
+pub record IsSettledFor (s : Sections) (h : UnitHeader) (r : UnitRoot) (run : RunParts) (files : SettledFiles) (strings : UnitStrings) : Type 0 where
+  pub settled : IsSettled s run files
   pub found : AreThoseOf s h r strings

@@ -1,7 +1,6 @@
 //! The strings that `.debug_str_offsets` tells, read once for the units that find them by their indices.
 ghost use Rattle.std.specs.Prelude.{◌≡◌, IfOk};
-ghost use Rattle.blz_line.specs.IndexedStrings.{first_index, first_root, index_count, nth_string, settled_string, unit_string, AreFrom, AreThoseOf};
-ghost use Rattle.blz_info.specs.declared.section.Sections.{Sections};
+ghost use Rattle.blz_line.specs.IndexedStrings.{first_index, first_root, index_count, nth_string, settled_string, unit_string, AreFrom, AreThoseBehind};
 
 use blz_entry::{AttrValue, Sections, StrPlace, UnitHeader, UnitRoot, attr_string};
 use std::alloc::{AllocError, Global};
@@ -90,7 +89,7 @@ impl IndexedStrings {
 impl UnitStrings {
     /// Those of a unit among the strings of the unit whose offsets begin first.
     pub fn of_unit(strings: IndexedStrings, header: &UnitHeader, root: &UnitRoot) -> UnitStrings
-        ensures { (s : Sections) → AreFrom s header.now (first_root header.now root.now) strings → AreThoseOf s header.now root.now result }
+        ensures { AreThoseBehind header.now root.now strings result }
     {
         let first = first_index(header, root);
         UnitStrings { strings, first }

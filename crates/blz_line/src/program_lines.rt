@@ -2,11 +2,7 @@
 ghost use Rattle.std.specs.Prelude.{◌≡◌, slice_get, IfOk};
 ghost use Rattle.blz_line.specs.Lookups.{row_in};
 ghost use Rattle.blz_line.specs.ProgramFiles.{files_by};
-ghost use Rattle.blz_line.specs.SettledFiles.{IsSettledFor};
-ghost use Rattle.blz_entry.specs.declared.root.UnitRoot.{UnitRoot};
-ghost use Rattle.blz_info.specs.declared.section.Sections.{Sections};
-ghost use Rattle.blz_info.specs.declared.units.UnitHeader.{UnitHeader};
-ghost use Rattle.blz_line.specs.ProgramTables.{program_at, table_in, GivesTable, IsOrderedAs, IsOrderedBy};
+ghost use Rattle.blz_line.specs.ProgramTables.{program_at, table_in, GivesSettled, GivesTable, IsOrderedAs, IsOrderedBy};
 
 use crate::files::{FilePlaces, ProgramFiles, UnitNames};
 use crate::indexed_strings::UnitStrings;
@@ -62,7 +58,7 @@ impl ProgramLines {
         files: SettledFiles,
         strings: UnitStrings,
     ) -> Result<ProgramLines>
-        ensures value { (s : Sections) (h : UnitHeader) (r : UnitRoot) → IsSettledFor s h r run.now.run files strings → GivesTable (table_in s h r run.now.run) result }
+        ensures value { GivesSettled run.now.run files strings result }
         ensures ordered { IfOk result (IsOrderedAs run.now) }
     {
         let files = files.files_by(strings)?;

@@ -1,13 +1,12 @@
 //! The files of a line program, settled but for the names that units find by their indices.
-ghost use Rattle.std.specs.Prelude.{◌≡◌, map, length, IfOk};
+ghost use Rattle.std.specs.Prelude.{◌≡◌, length, IfOk};
 ghost use Rattle.std.specs.Arc.{arc_value};
 ghost use Rattle.blz_entry.specs.StringPlaces.{string_of};
-ghost use Rattle.blz_line.specs.FileNames.{all_files};
 ghost use Rattle.blz_line.specs.IndexedStrings.{unit_string};
 ghost use Rattle.blz_line.specs.NamingView.{naming_view};
 ghost use Rattle.blz_line.specs.ProgramFiles.{first_of};
 ghost use Rattle.blz_line.specs.ProgramTables.{GivesFiles};
-ghost use Rattle.blz_line.specs.SettledFiles.{settled, settled_entry, settled_naming};
+ghost use Rattle.blz_line.specs.SettledFiles.{files_with, settled, settled_entries, settled_entry, settled_naming, AreAlike};
 ghost use Rattle.blz_line.specs.Tables.{copies};
 
 use crate::broken::broken;
@@ -69,7 +68,7 @@ fn settled_equal(
     root: &UnitRoot,
     repeated: Option<(u64, FileEntry)>,
 ) -> Option<(u64, FileEntry)>
-    ensures { copies result ≡ map (settled_entry (string_of sections.now header.now root.now)) (copies repeated) }
+    ensures { copies result ≡ settled_entries sections.now header.now root.now (copies repeated) }
 {
     match repeated {
         Some((count, entry)) => Some((count, settled_entry(sections, header, root, entry))),
@@ -85,7 +84,7 @@ fn settled_listed(
     root: &UnitRoot,
     listed: &[FileEntry],
 ) -> std::result::Result<Vec<FileEntry>, AllocError>
-    ensures { IfOk result (λ v. v.items ≡ map (settled_entry (string_of sections.now header.now root.now)) listed.now) }
+    ensures { IfOk result (λ v. v.items ≡ settled_entries sections.now header.now root.now listed.now) }
 {
     listed
         .iter()
@@ -101,7 +100,7 @@ pub fn settled_table(
     root: &UnitRoot,
     entries: &Table<FileEntry>,
 ) -> std::result::Result<Arc<Table<FileEntry>>, AllocError>
-    ensures { IfOk result (λ t. arc_value t ≡ map (settled_entry (string_of sections.now header.now root.now)) entries.now) }
+    ensures { IfOk result (λ t. arc_value t ≡ settled_entries sections.now header.now root.now entries.now) }
 {
     let (repeated, listed) = entries.parts();
     let repeated = settled_equal(sections, header, root, repeated);
@@ -112,9 +111,7 @@ pub fn settled_table(
 impl SettledFiles {
     /// The same files once more.
     pub fn share(&self) -> std::result::Result<SettledFiles, AllocError>
-        ensures version { IfOk result (λ f. f.version ≡ self.now.version) }
-        ensures directories { IfOk result (λ f. arc_value f.directories ≡ arc_value self.now.directories) }
-        ensures entries { IfOk result (λ f. arc_value f.entries ≡ arc_value self.now.entries) }
+        ensures { IfOk result (AreAlike self.now) }
     {
         let directories = Arc::try_clone(&self.directories)?;
         let entries = Arc::try_clone(&self.entries)?;
@@ -138,7 +135,7 @@ impl SettledFiles {
 
     /// The files as a unit reads them; InvalidDwarf where a path or a directory cannot be read.
     pub fn files_by(self, strings: UnitStrings) -> Result<ProgramFiles>
-        ensures table { GivesFiles (all_files (settled_naming self (unit_string strings)) (arc_value self.entries)) result }
+        ensures table { GivesFiles (files_with self strings) result }
         ensures first { IfOk result (λ f. f.first ≡ first_of self.version (length (arc_value self.entries))) }
     {
         let namer = self.namer(&strings);

@@ -1,7 +1,6 @@
-use Rattle.std.proofs.Common.{map, replicate, sym, ap, ◌∙◌}
+use Rattle.std.proofs.Common.{sym}
 use Rattle.blz_entry.specs.StringPlaces.{string_of}
 use Rattle.blz_line.specs.SettledFiles.{settled_entry}
-use Rattle.blz_line.specs.Tables.{copies}
 use Rattle.blz_line.proofs.SettledRuns.{map_repeated}
 use Rattle.blz_line.proofs.settled_files.settled_equal.Goals as goal
 

@@ -1,4 +1,4 @@
-use Rattle.std.proofs.Common.{List, sym, ap, ◌∙◌}
+use Rattle.std.proofs.Common.{◌∙◌}
 use Rattle.std.proofs.lemmas.Result.{err_from_is_err_and}
 use Rattle.blz_line.proofs.SettledRuns.{settled_fails, settled_first, settled_good}
 use Rattle.blz_line.proofs.program_lines.ProgramLines.of_settled.Goals as goal
@@ -10,5 +10,5 @@ returns-in_err-files-clause-value c = λ s h r is.
 
 pub returns-clause-value : goal.returns-clause-value
 returns-clause-value c = λ s h r is.
-    let first = c.in_ok-files.ensures.first ∙ settled_first s is.header is.root c.args.run.now.run c.args.files is.settled in
+    let first = c.in_ok-files.ensures.first ∙ settled_first s is.settled.header is.settled.root c.args.run.now.run c.args.files is.settled.settled in
     rw (c.in_ok-rows.ensures.sequences, first) (settled_good s h r c.args.run.now.run c.args.files c.args.strings _ is c.in_ok-files.ensures.table)
