@@ -94,7 +94,7 @@ exact_piece x y e =
 
 -- ---- a line program
 
-exact_strings : CmpEqualImpliesEq strings.ghosts.cmp
+pub exact_strings : CmpEqualImpliesEq strings.ghosts.cmp
 exact_strings x y e =
     let wide = flag x.wide y.wide _ e in
     let base = exact_unsigned x.str_offsets_base y.str_offsets_base wide.1 in

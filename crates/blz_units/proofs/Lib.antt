@@ -32,4 +32,5 @@ pub mod MovedRoots
 pub mod FromZero
 pub mod SharedLists
 pub mod SharedRuns
+pub mod SharedNames
 pub mod SharedPrograms

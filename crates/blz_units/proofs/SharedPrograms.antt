@@ -20,6 +20,7 @@ use Rattle.blz_line.specs.ProgramTables.{OrderedProgram, ProgramTable, program_a
 use Rattle.blz_line.proofs.AlikeRuns.{plain_table, table_by, table_is, table_same}
 use Rattle.blz_units.specs.ProgramKeys.{for_all, key_by, program_cmp, strings_key, IsReader}
 use Rattle.blz_units.specs.SharedPrograms.{table_of, ArePrograms, ButForMemory, Finds, IsProgramAt, IsReadAt, IsReadOrNone}
+use Rattle.blz_units.specs.SharedNames.{AreNames}
 use Rattle.blz_units.specs.SharedRuns.{AreRuns}
 use Rattle.blz_units.specs.declared.program_key.ProgramKey.{ProgramKey}
 use Rattle.blz_units.specs.declared.program_key.StringsKey.{StringsKey}
@@ -92,18 +93,27 @@ none_read s h r at none = record {
 
 -- ---- what is kept
 
-pub one_program_more : (s : FileSections) (old new : SharedPrograms) (key : ProgramKey) (program : Option OrderedProgram) → Updates program_cmp old.kept new.kept key (Some program) → new.runs ≡ old.runs → IsProgramAt s key program → ArePrograms s old → ArePrograms s new
-one_program_more s old new key program u same here are = record {
+pub one_program_more : (s : FileSections) (old new : SharedPrograms) (key : ProgramKey) (program : Option OrderedProgram) → Updates program_cmp old.kept new.kept key (Some program) → new.runs ≡ old.runs → new.names ≡ old.names → IsProgramAt s key program → ArePrograms s old → ArePrograms s new
+one_program_more s old new key program u same named here are = record {
   kept = more_kept program_cmp exact_program old.kept new.kept key program (IsProgramAt s) u here are.kept;
   runs = subst (AreRuns s.line) (sym same) are.runs;
+  names = subst (AreNames s) (sym named) are.names;
 }
 
-pub programs_same : (s : FileSections) (old new : SharedPrograms) → new.kept.entries ≡ old.kept.entries → new.runs ≡ old.runs → ArePrograms s old → ArePrograms s new
-programs_same s old new e same are = record { kept = λ key. rw e (are.kept key); runs = subst (AreRuns s.line) (sym same) are.runs }
+pub programs_same : (s : FileSections) (old new : SharedPrograms) → new.kept.entries ≡ old.kept.entries → new.runs ≡ old.runs → new.names ≡ old.names → ArePrograms s old → ArePrograms s new
+programs_same s old new e same named are = record {
+  kept = λ key. rw e (are.kept key);
+  runs = subst (AreRuns s.line) (sym same) are.runs;
+  names = subst (AreNames s) (sym named) are.names;
+}
 
 -- the same programs beside other runs
-pub other_runs : (s : FileSections) (old new : SharedPrograms) → new.kept ≡ old.kept → AreRuns s.line new.runs → ArePrograms s old → ArePrograms s new
-other_runs s old new same runs are = record { kept = λ key. rw same (are.kept key); runs = runs }
+pub other_runs : (s : FileSections) (old new : SharedPrograms) → new.kept ≡ old.kept → new.names ≡ old.names → AreRuns s.line new.runs → ArePrograms s old → ArePrograms s new
+other_runs s old new same named runs are = record { kept = λ key. rw same (are.kept key); runs = runs; names = subst (AreNames s) (sym named) are.names }
+
+-- the same programs beside other names
+pub other_names : (s : FileSections) (old new : SharedPrograms) → new.kept ≡ old.kept → new.runs ≡ old.runs → AreNames s new.names → ArePrograms s old → ArePrograms s new
+other_names s old new same runs names are = record { kept = λ key. rw same (are.kept key); runs = subst (AreRuns s.line) (sym runs) are.runs; names = names }
 
 -- ---- what was read
 

@@ -19,6 +19,7 @@ pub mod UnitSites
 pub mod LongEntries
 pub mod SharedLists
 pub mod SharedRuns
+pub mod SharedNames
 pub mod SharedPrograms
 pub mod KeptParts
 pub mod KeptAnswers

@@ -6,13 +6,16 @@ use Rattle.blz_entry.specs.declared.root.UnitRoot.{UnitRoot}
 use Rattle.blz_error.specs.Fault.{Fault}
 use Rattle.blz_error.specs.declared.kind.ErrorKind.TheVariants.{OutOfMemory}
 use Rattle.blz_functions.specs.Leaves.{UnitParts, lying}
-use Rattle.blz_info.specs.FileSections.{FileSections}
+use Rattle.blz_info.specs.Contents.{section_view}
+use Rattle.blz_info.specs.FileSections.{FileSections, sections_view}
+use Rattle.blz_info.specs.declared.section.Sections.{Sections}
 use Rattle.blz_info.specs.declared.units.UnitHeader.{UnitHeader}
 use Rattle.blz_line.specs.Lookups.{spans_of}
-use Rattle.blz_line.specs.ProgramRuns.{OrderedRun, IsRunOrderedBy}
-use Rattle.blz_line.specs.ProgramTables.{OrderedProgram, ProgramTable, program_at, IsOrderedBy}
+use Rattle.blz_line.specs.ProgramRuns.{OrderedRun, RunParts, run_at, IsRunOrderedBy}
+use Rattle.blz_line.specs.ProgramTables.{OrderedProgram, ProgramTable, program_at, table_in, GivesTable, IsOrderedBy}
 use Rattle.blz_ranges.specs.declared.span.Span.{Span}
 use Rattle.blz_units.specs.ProgramKeys.{program_cmp, IsReader}
+use Rattle.blz_units.specs.SharedNames.{AreNames}
 use Rattle.blz_units.specs.SharedRuns.{AreRuns}
 use Rattle.blz_units.specs.declared.program_key.ProgramKey.{ProgramKey}
 use Rattle.blz_units.specs.declared.read_program.ReadProgram.{ReadProgram}
@@ -38,6 +41,7 @@ IsProgramAt s key program = (h : UnitHeader) (r : UnitRoot) → IsReader key h r
 pub record ArePrograms (s : FileSections) (programs : SharedPrograms) : Type 0 where
   pub kept : (key : ProgramKey) → IfSome (get program_cmp programs.kept key) (IsProgramAt s key)
   pub runs : AreRuns s.line programs.runs
+  pub names : AreNames s programs.names
 
 -- A unit finds a program wherever what is kept stands.
 abbrev pub IsFound : SharedPrograms → UnitHeader → UnitRoot → ℕ → Option OrderedProgram → Type 0
@@ -65,3 +69,7 @@ IsReadOrNone (Err fault) o = (o ≡ None) × (fault.kind ≢ OutOfMemory)
 -- Something holds of what a call gives, want of memory aside.
 abbrev pub ButForMemory : {T : Type 0} → (T → Type 0) → Result T Fault → Type 0
 ButForMemory P result = MatchResult result P (λ e. e.kind ≡ OutOfMemory)
+
+-- It is read so wherever the run is found, and gives what a call gave.
+abbrev pub ReadsLines : UnitHeader → UnitRoot → ℕ → RunParts → Result OrderedProgram Fault → Result ReadProgram Fault → Type 0
+ReadsLines h r at run program result = (s : Sections) → run_at (section_view s.line) at h.address_size ≡ Some run → GivesTable (table_in s h r run) program → ButForMemory (IsReadAt (sections_view s) h r at) result

@@ -31,6 +31,7 @@ mod relative_lists;
 mod root_key;
 mod root_lists;
 pub mod shared_lists;
+mod shared_names;
 pub mod shared_package;
 pub mod shared_parts;
 pub mod shared_programs;

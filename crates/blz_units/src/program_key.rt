@@ -20,7 +20,8 @@ pub struct ProgramKey {
     pub strings: Option<StringsKey>,
 }
 
-fn strings_key(header: &UnitHeader, root: &UnitRoot) -> StringsKey
+/// The key of a unit.
+pub fn strings_key(header: &UnitHeader, root: &UnitRoot) -> StringsKey
     ensures { result ≡ strings_key header.now root.now }
 {
     StringsKey {

@@ -1,10 +1,11 @@
 //! A line program, read for all units that read it alike.
-ghost use Rattle.std.specs.Prelude.{◌≡◌, IfOk, IfSome};
+ghost use Rattle.std.specs.Prelude.{◌≡◌, Some, IfOk, IfSome};
 ghost use Rattle.blz_info.specs.Contents.{section_view};
 ghost use Rattle.blz_info.specs.FileSections.{sections_view};
 ghost use Rattle.blz_line.specs.ProgramRuns.{by_index, run_at, IsRunOrderedBy};
+ghost use Rattle.blz_line.specs.ProgramTables.{IsOrderedAs};
 ghost use Rattle.blz_units.specs.ProgramKeys.{key_by};
-ghost use Rattle.blz_units.specs.SharedPrograms.{ButForMemory, IsReadAt, IsReadOrNone, KeepsOrder};
+ghost use Rattle.blz_units.specs.SharedPrograms.{ButForMemory, IsReadAt, IsReadOrNone, KeepsOrder, ReadsLines};
 ghost use Rattle.blz_units.specs.SharedRuns.{IsRunOf};
 
 use crate::program_key::ProgramKey;
@@ -80,10 +81,23 @@ impl ReadProgram {
                 program: None,
             });
         };
-        let key = key_of(&run, header, root, at);
         let program = ProgramLines::of_run(alloc, sections, header, root, &run);
+        ReadProgram::of_lines(header, root, at, &run, program)
+    }
+
+    /// The same by what the unit reads of its run.
+    pub fn of_lines(
+        header: &UnitHeader,
+        root: &UnitRoot,
+        at: u64,
+        run: &ProgramRun,
+        program: Result<ProgramLines>,
+    ) -> Result<ReadProgram>
+        ensures value { ReadsLines header.now root.now at run.now.run program result }
+        ensures order { IfOk program (IsOrderedAs run.now) → KeepsOrder (Some run.now) result }
+    {
         Ok(ReadProgram {
-            key,
+            key: key_of(run, header, root, at),
             program: or_none(program)?,
         })
     }

@@ -1,5 +1,6 @@
 //! Line programs, read once for all units that read them alike.
-ghost use Rattle.std.specs.Prelude.{map, option_map, IfOk, IfSome};
+ghost use Rattle.std.specs.Prelude.{◌≡◌, is_some, map, option_map, IfOk, IfSome};
+ghost use Rattle.std.specs.BTreeMap.{get};
 ghost use Rattle.blz_info.specs.Contents.{section_view};
 ghost use Rattle.blz_info.specs.FileSections.{FileSections, sections_view};
 ghost use Rattle.blz_line.specs.Lookups.{spans_of};
@@ -8,11 +9,13 @@ ghost use Rattle.blz_line.specs.ProgramTables.{program_at, GivesTable, IsOrdered
 ghost use Rattle.blz_line.specs.UnitLines.{OrderedLines, lines_of};
 ghost use Rattle.blz_model.specs.Part.{Gives};
 ghost use Rattle.blz_ranges.specs.Keyed.{IsAccepted, begin_key};
-ghost use Rattle.blz_units.specs.SharedPrograms.{ArePrograms, ButForMemory, IsFound, IsProgramAt};
+ghost use Rattle.blz_units.specs.ProgramKeys.{for_all, program_cmp};
+ghost use Rattle.blz_units.specs.SharedPrograms.{ArePrograms, ButForMemory, IsFound, IsProgramAt, IsReadAt, KeepsOrder};
 ghost use Rattle.blz_units.specs.SharedRuns.{IsRunOf};
 
 use crate::program_key::ProgramKey;
 use crate::read_program::ReadProgram;
+use crate::shared_names::SharedNames;
 use crate::shared_runs::SharedRuns;
 use blz_bytes::Orders;
 use blz_entry::{Sections, UnitHeader, UnitRoot, invalid};
@@ -27,6 +30,8 @@ pub struct SharedPrograms {
     pub kept: BTreeMap<ProgramKey, Option<ProgramLines>>,
     /// What those give of whose files a name is told by an index.
     pub runs: SharedRuns,
+    /// What such names are found by.
+    pub names: SharedNames,
 }
 
 impl SharedPrograms {
@@ -37,6 +42,7 @@ impl SharedPrograms {
         SharedPrograms {
             kept: BTreeMap::new(alloc),
             runs: SharedRuns::new(alloc),
+            names: SharedNames::new(alloc),
         }
     }
 
@@ -80,6 +86,41 @@ impl SharedPrograms {
         self.runs.run(alloc, orders, &sections.line, header, at)
     }
 
+    /// Whether what the line program at an offset gives is kept, for other units than those that read it alike.
+    fn has_run(&self, header: &UnitHeader, at: u64) -> bool
+        ensures { result ≡ is_some (get program_cmp self.now.runs.kept (for_all header.now at)) }
+    {
+        self.runs
+            .kept
+            .contains_key(&ProgramKey::for_all(header, at))
+    }
+
+    /// A line program as a unit reads it, by its run: where that is asked for again, by strings that are read once.
+    fn read_run(
+        &mut self,
+        alloc: Global,
+        sections: &Sections<'_, '_>,
+        header: &UnitHeader,
+        root: &UnitRoot,
+        at: u64,
+        run: Option<ProgramRun>,
+        again: bool,
+    ) -> Result<ReadProgram>
+        requires programs { ArePrograms (sections_view sections.now) self.old }
+        requires run { IsRunOf (section_view sections.now.line) header.now at run }
+        ensures value { ButForMemory (IsReadAt (sections_view sections.now) header.now root.now at) result }
+        ensures order { KeepsOrder run result }
+        ensures kept { ArePrograms (sections_view sections.now) self.new }
+    {
+        match run {
+            Some(run) if again => {
+                let lines = self.names.lines(alloc, sections, header, root, at, &run);
+                ReadProgram::of_lines(header, root, at, &run, lines)
+            }
+            run => ReadProgram::of_run(alloc, sections, header, root, at, run),
+        }
+    }
+
     /// Reads a program that is not kept, and keeps what it gives.
     fn read_anew<O: Orders>(
         &mut self,
@@ -95,10 +136,10 @@ impl SharedPrograms {
         ensures accepted { IfOk result (IsOrderedBy O.pair_places) }
         ensures kept { ArePrograms (sections_view sections.now) self.new }
     {
+        let again = self.has_run(header, at);
         let run = self.run(alloc, orders, sections, header, at)?;
-        let ReadProgram { key, program } = ReadProgram::of_run(
-            alloc, sections, header, root, at, run,
-        )?;
+        let read = self.read_run(alloc, sections, header, root, at, run, again);
+        let ReadProgram { key, program } = read?;
         let Some(program) = program else {
             self.keep(key, None)?;
             return Err(invalid("a line program has no value"));

@@ -3,7 +3,7 @@ use Rattle.blz_units.proofs.SharedPrograms.{one_program_more, programs_same}
 use Rattle.blz_units.proofs.shared_programs.SharedPrograms.keep.Goals as goal
 
 pub returns-in_err-insert : goal.returns-in_err-insert
-returns-in_err-insert c = λ s here are. programs_same s c.args.self.now (record { kept = c.insert.new.self; runs = c.args.self.now.runs }) c.in_err-insert.ensures.err refl are
+returns-in_err-insert c = λ s here are. programs_same s c.args.self.now (record { kept = c.insert.new.self; runs = c.args.self.now.runs; names = c.args.self.now.names }) c.in_err-insert.ensures.err refl refl are
 
 pub returns : goal.returns
-returns c = λ s here are. one_program_more s c.args.self.now (record { kept = c.insert.new.self; runs = c.args.self.now.runs }) c.args.key c.args.program c.in_ok-insert.ensures.updates refl here are
+returns c = λ s here are. one_program_more s c.args.self.now (record { kept = c.insert.new.self; runs = c.args.self.now.runs; names = c.args.self.now.names }) c.args.key c.args.program c.in_ok-insert.ensures.updates refl refl here are

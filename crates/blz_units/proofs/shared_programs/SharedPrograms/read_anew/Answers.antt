@@ -23,11 +23,11 @@ returns-in_err-keep-2-clause-kept g c =
     let s = sections_view c.args.sections.now in
     let same = c.in-Some.is ∙ ap (λ (p : OrderedProgram). Some p) (sym c.in_ok-kept.ensures) in
     let is = subst (λ (o : Option OrderedProgram). IsProgramAt s c.in_ok-key.field-0.key o) same c.in_ok-key.ensures.value.is in
-    c.keep-2.ensures s is c.run.ensures.kept
+    c.keep-2.ensures s is c.read_run-read.ensures.kept
 
 pub returns-clause-kept : goal.returns-clause-kept
 returns-clause-kept g c =
     let s = sections_view c.args.sections.now in
     let same = c.in-Some.is ∙ ap (λ (p : OrderedProgram). Some p) (sym c.in_ok-kept.ensures) in
     let is = subst (λ (o : Option OrderedProgram). IsProgramAt s c.in_ok-key.field-0.key o) same c.in_ok-key.ensures.value.is in
-    c.keep-2.ensures s is c.run.ensures.kept
+    c.keep-2.ensures s is c.read_run-read.ensures.kept
