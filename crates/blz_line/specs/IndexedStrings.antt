@@ -32,15 +32,15 @@ AreFrom s h r strings = (index : ℕ) → nth_string strings index ≡ string_of
 abbrev pub AreThoseOf : Sections → UnitHeader → UnitRoot → UnitStrings → Type 0
 AreThoseOf s h r strings = (index : ℕ) → unit_string strings index ≡ string_of s h r (StrIndex index)
 
--- the unit whose offsets begin before the first whole one, and by whole ones before a unit's
+-- a root whose offsets begin whole offsets before those of a unit, and as early as they can
 abbrev pub first_root : UnitHeader → UnitRoot → UnitRoot
 first_root h r = record r { str_offsets_base = if h.wide then r.str_offsets_base % 8 else r.str_offsets_base % 4 }
 
--- the index there of the first offset of the unit
+-- how many offsets stand between
 abbrev pub first_index : UnitHeader → UnitRoot → ℕ
 first_index h r = if h.wide then r.str_offsets_base / 8 else r.str_offsets_base / 4
 
--- Strings are those of the unit whose offsets begin first, as others are of a unit.
+-- Where some are the strings of that root, others are those of the unit.
 abbrev pub AreThoseBehind : UnitHeader → UnitRoot → IndexedStrings → UnitStrings → Type 0
 AreThoseBehind h r first strings = (s : Sections) → AreFrom s h (first_root h r) first → AreThoseOf s h r strings
 

@@ -6,17 +6,17 @@ use blz_entry::{AttrValue, Sections, StrPlace, UnitHeader, UnitRoot, attr_string
 use std::alloc::{AllocError, Global};
 use std::sync::Arc;
 
-/// The string of each index of a unit whose offsets begin at some place; none where it cannot be read.
+/// The string of each index of a unit, up to the end of the section; none where it cannot be read.
 #[derive(Drop)]
 pub struct IndexedStrings {
     pub places: Arc<Vec<Option<StrPlace>>>,
 }
 
-/// The strings of a unit whose offsets begin at one of that unit's.
+/// The strings of a unit, which are those of another one but for the first of them.
 #[derive(Drop)]
 pub struct UnitStrings {
     pub strings: IndexedStrings,
-    /// The index of its first one there.
+    /// How many stand before its own.
     pub first: u64,
 }
 
@@ -32,7 +32,7 @@ fn count_of(sections: &Sections<'_, '_>, header: &UnitHeader) -> usize
     }
 }
 
-/// The unit whose offsets begin before the first whole one, and by whole ones before a unit's.
+/// A root whose offsets begin whole offsets before those of a unit, and as early as they can.
 pub fn first_root(header: &UnitHeader, root: &UnitRoot) -> UnitRoot
     ensures { result ≡ first_root header.now root.now }
 {
@@ -43,7 +43,7 @@ pub fn first_root(header: &UnitHeader, root: &UnitRoot) -> UnitRoot
     }
 }
 
-/// The index there of the first offset of the unit.
+/// How many offsets stand between.
 fn first_index(header: &UnitHeader, root: &UnitRoot) -> u64
     ensures { result ≡ first_index header.now root.now }
 {

@@ -1,6 +1,5 @@
 -- What is kept of names is what each unit finds.
-use Rattle.std.proofs.Common.{◌≡◌, ℕ, Option, Some, List, map, refl, sym, ap, subst, ◌∙◌}
-use Rattle.std.specs.Arc.{arc_value}
+use Rattle.std.proofs.Common.{◌≡◌, ℕ, Option, Some, List, map, sym, ap, subst, ◌∙◌}
 use Rattle.std.specs.BTreeMap.{Updates}
 use Rattle.std.proofs.Math.Path.{fun_ext}
 use Rattle.blz_entry.specs.StringPlaces.{string_of}
@@ -16,7 +15,7 @@ use Rattle.blz_info.specs.declared.value.AttrValue.{AttrValue}
 use Rattle.blz_info.specs.declared.value.AttrValue.TheVariants.{StrIndex}
 use Rattle.blz_line.specs.IndexedStrings.{nth_string, AreFrom}
 use Rattle.blz_line.specs.ProgramRuns.{RunParts, run_at}
-use Rattle.blz_line.specs.SettledFiles.{settled_entry, AreAlike, AreSettled, IsSettled}
+use Rattle.blz_line.specs.SettledFiles.{settled_entry, AreAlike, IsSettled}
 use Rattle.blz_line.specs.declared.indexed_strings.IndexedStrings.{IndexedStrings}
 use Rattle.blz_line.specs.declared.paths.FileEntry.{FileEntry}
 use Rattle.blz_line.specs.declared.settled_files.SettledFiles.{SettledFiles}
