@@ -10,5 +10,6 @@ pub mod AlikeRuns
 pub mod StringTables
 pub mod SettledRuns
 pub mod MissingFiles
+pub mod NeededStrings
 pub mod Indices
 pub mod RunOrder

@@ -21,7 +21,7 @@ use Rattle.blz_line.specs.IndexedStrings.{settled_string, unit_string}
 use Rattle.blz_line.specs.ProgramFiles.{first_of}
 use Rattle.blz_line.specs.ProgramRuns.{RunParts}
 use Rattle.blz_line.specs.ProgramTables.{run_files, run_first, table_in}
-use Rattle.blz_line.specs.SettledFiles.{files_with, known, settled, settled_entry, AreAlike, AreSettled, IsSettled, IsSettledFor}
+use Rattle.blz_line.specs.SettledFiles.{files_with, known, settled, settled_entry, AreAlike, AreSettled, AreTold, IsSettled, IsSettledFor}
 use Rattle.blz_line.specs.declared.files.FilePlaces.{FilePlaces}
 use Rattle.blz_line.specs.declared.indexed_strings.UnitStrings.{UnitStrings}
 use Rattle.blz_line.specs.declared.paths.FileEntry.{FileEntry}
@@ -114,6 +114,9 @@ settled_fails s h r run files strings k is fails =
 pub settled_first : (s : Sections) (h : UnitHeader) (r : UnitRoot) (run : RunParts) (files : SettledFiles) → AreSettled s h r run files → first_of files.version (length (arc_value files.entries)) ≡ run_first run
 settled_first s h r run files is = rw (is.version, is.entries, length-map run.entries (settled_entry (string_of s h r))) refl
 
+alike_told : (f g : SettledFiles) → AreAlike f g → AreTold f → AreTold g
+alike_told f g same told = λ strings. rw (same.version, same.directories, same.entries, same.needed) (told strings)
+
 -- what is alike is of the same run
 pub alike_settled : (s : Sections) (run : RunParts) (f g : SettledFiles) → AreAlike f g → IsSettled s run f → IsSettled s run g
 alike_settled s run f g same is = record {
@@ -123,5 +126,6 @@ alike_settled s run f g same is = record {
     version = same.version ∙ is.settled.version;
     directories = same.directories ∙ is.settled.directories;
     entries = same.entries ∙ is.settled.entries;
+    told = alike_told f g same is.settled.told;
   };
 }

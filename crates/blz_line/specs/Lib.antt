@@ -12,10 +12,11 @@ pub mod MissingFiles
 pub mod IndexedStrings
 pub mod UnitLines
 pub mod ProgramRuns
+pub mod NamingView
+pub mod NeededStrings
 pub mod SettledFiles
 pub mod ListedFiles
 pub mod ProgramFiles
-pub mod NamingView
 pub mod ProgramTables
 pub mod RowOrder
 pub mod Lookups

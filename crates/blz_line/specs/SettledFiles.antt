@@ -10,6 +10,8 @@ use Rattle.blz_info.specs.declared.value.AttrValue.{AttrValue}
 use Rattle.blz_info.specs.declared.value.AttrValue.TheVariants.{Other, StrIndex, Text}
 use Rattle.blz_line.specs.FileNames.{Naming, all_files}
 use Rattle.blz_line.specs.IndexedStrings.{settled_string, unit_string, AreThoseOf}
+use Rattle.blz_line.specs.MissingFiles.{lacks_file}
+use Rattle.blz_line.specs.NeededStrings.{NeedsFor}
 use Rattle.blz_line.specs.ProgramRuns.{RunParts}
 use Rattle.blz_line.specs.declared.files.FilePlaces.{FilePlaces}
 use Rattle.blz_line.specs.declared.indexed_strings.UnitStrings.{UnitStrings}
@@ -44,11 +46,16 @@ settled_naming files strings = record {
   directories = arc_value files.directories;
 }
 
--- They are the files of a run.
+-- Whether each file has a name is told by what they need of the strings.
+abbrev pub AreTold : SettledFiles → Type 0
+AreTold files = NeedsFor (arc_value files.needed) (λ strings. lacks_file (settled_naming files strings) (arc_value files.entries))
+
+-- They are the files of a run, and it is told what they need.
 pub record AreSettled (s : Sections) (h : UnitHeader) (r : UnitRoot) (run : RunParts) (files : SettledFiles) : Type 0 where
   pub version : files.version ≡ run.version
   pub directories : arc_value files.directories ≡ settled_entries s h r run.directories
   pub entries : arc_value files.entries ≡ settled_entries s h r run.entries
+  pub told : AreTold files
 
 -- They are that for some unit, and so for each.
 pub record IsSettled (s : Sections) (run : RunParts) (files : SettledFiles) : Type 0 where
@@ -56,11 +63,12 @@ pub record IsSettled (s : Sections) (run : RunParts) (files : SettledFiles) : Ty
   pub root : UnitRoot
   pub settled : AreSettled s header root run files
 
--- Two have the same directories and entries.
+-- Two have the same directories and entries, and need the same strings.
 pub record AreAlike (f g : SettledFiles) : Type 0 where
   pub version : g.version ≡ f.version
   pub directories : arc_value g.directories ≡ arc_value f.directories
   pub entries : arc_value g.entries ≡ arc_value f.entries
+  pub needed : arc_value g.needed ≡ arc_value f.needed
 
 -- the files that they are with the strings of a unit, each of which has to be there
 abbrev pub files_with : SettledFiles → UnitStrings → Option (List FilePlaces)

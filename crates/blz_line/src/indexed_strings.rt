@@ -107,7 +107,7 @@ impl UnitStrings {
     }
 
     /// The string of an index.
-    fn get(&self, index: u64) -> Option<StrPlace>
+    pub(crate) fn get(&self, index: u64) -> Option<StrPlace>
         ensures { result ≡ unit_string self.now index }
     {
         self.strings.get(self.first.checked_add(index)?)

@@ -10,6 +10,7 @@ mod indexed_strings;
 mod lines;
 mod lookup;
 mod naming;
+mod needed_strings;
 mod opcode;
 mod ordered_sequences;
 mod paths;

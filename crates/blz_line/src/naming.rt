@@ -4,7 +4,6 @@ ghost use Rattle.blz_error.specs.declared.kind.ErrorKind.TheVariants.{InvalidDwa
 ghost use Rattle.blz_model.specs.Part.{Gives, or_mark};
 ghost use Rattle.blz_line.specs.Tables.{copies};
 ghost use Rattle.blz_line.specs.FileNames.{directory_path, file_of, all_files};
-ghost use Rattle.blz_line.specs.MissingFiles.{is_missing, lacks_file};
 ghost use Rattle.blz_line.specs.ListedFiles.{listed_view};
 ghost use Rattle.blz_line.specs.NamingView.{naming_view, strings_view};
 ghost use Rattle.blz_line.specs.ProgramFiles.{first_of};
@@ -49,7 +48,7 @@ impl Strings<'_, '_, '_> {
 }
 
 impl Namer<'_, '_, '_> {
-    fn directory_path(&self, number: u64) -> Option<AttrValue>
+    pub fn directory_path(&self, number: u64) -> Option<AttrValue>
         ensures { result ≡ directory_path (naming_view self.now) number }
     {
         if number == 0 {
@@ -121,41 +120,6 @@ impl Namer<'_, '_, '_> {
             files.push(file)?;
         }
         Ok(files)
-    }
-
-    /// Whether an entry has no file.
-    fn is_missing(&self, entry: FileEntry) -> bool
-        ensures { result ≡ is_missing (file_of (naming_view self.now) entry) }
-    {
-        match self.file_of(entry) {
-            Some(_) => false,
-            None => true,
-        }
-    }
-
-    /// Whether there are some equal entries without a file.
-    fn lacks_equal(&self, repeated: Option<(u64, FileEntry)>) -> bool
-        ensures { result ≡ lacks_file (naming_view self.now) (copies repeated) }
-    {
-        match repeated {
-            Some((count, entry)) => count > 0 && self.is_missing(entry),
-            None => false,
-        }
-    }
-
-    /// Whether one of some entries has no file.
-    fn lacks_listed(&self, listed: &[FileEntry]) -> bool
-        ensures { result ≡ lacks_file (naming_view self.now) listed.now }
-    {
-        listed.iter().any(|entry| self.is_missing(*entry))
-    }
-
-    /// Whether an entry of a table has no file.
-    pub fn lacks_file(&self, entries: &Table<FileEntry>) -> bool
-        ensures { result ≡ lacks_file (naming_view self.now) entries.now }
-    {
-        let (repeated, listed) = entries.parts();
-        self.lacks_equal(repeated) || self.lacks_listed(listed)
     }
 
     /// What file 0 is.

@@ -8,6 +8,7 @@ ghost use Rattle.blz_line.specs.SettledFiles.{AreSettled};
 
 use crate::files::ProgramFiles;
 use crate::naming::{Namer, Strings};
+use crate::needed_strings::NeededStrings;
 use crate::ordered_sequences::OrderedSequences;
 use crate::paths::{FileEntry, has_index};
 use crate::plain_run::PlainRun;
@@ -150,10 +151,17 @@ impl ProgramRun {
     {
         let directories = settled_table(alloc, sections, unit, root, self.directories.deref())?;
         let entries = settled_table(alloc, sections, unit, root, self.entries.deref())?;
+        let namer = Namer {
+            strings: Strings::Read(sections, unit, root),
+            version: self.version,
+            directories: directories.deref(),
+        };
+        let needed = Arc::new(alloc, NeededStrings::of(alloc, &namer, entries.deref())?)?;
         Ok(SettledFiles {
             version: self.version,
             directories,
             entries,
+            needed,
         })
     }
 

@@ -6,13 +6,14 @@ ghost use Rattle.blz_line.specs.IndexedStrings.{unit_string};
 ghost use Rattle.blz_line.specs.NamingView.{naming_view};
 ghost use Rattle.blz_line.specs.ProgramFiles.{first_of};
 ghost use Rattle.blz_line.specs.ProgramTables.{GivesFiles};
-ghost use Rattle.blz_line.specs.SettledFiles.{files_with, settled, settled_entries, settled_entry, settled_naming, AreAlike};
+ghost use Rattle.blz_line.specs.SettledFiles.{files_with, settled, settled_entries, settled_entry, settled_naming, AreAlike, AreTold};
 ghost use Rattle.blz_line.specs.Tables.{copies};
 
 use crate::broken::broken;
 use crate::files::{ListedFiles, ProgramFiles};
 use crate::indexed_strings::UnitStrings;
 use crate::naming::{Namer, Strings};
+use crate::needed_strings::NeededStrings;
 use crate::paths::FileEntry;
 use crate::table::Table;
 use blz_entry::{AttrValue, Sections, UnitHeader, UnitRoot, attr_string};
@@ -27,6 +28,8 @@ pub struct SettledFiles {
     pub version: u16,
     pub directories: Arc<Table<FileEntry>>,
     pub entries: Arc<Table<FileEntry>>,
+    /// What the entries need of the strings of each unit.
+    pub needed: Arc<NeededStrings>,
 }
 
 /// A value as its text, where it has one that is the same for each unit.
@@ -115,10 +118,12 @@ impl SettledFiles {
     {
         let directories = Arc::try_clone(&self.directories)?;
         let entries = Arc::try_clone(&self.entries)?;
+        let needed = Arc::try_clone(&self.needed)?;
         Ok(SettledFiles {
             version: self.version,
             directories,
             entries,
+            needed,
         })
     }
 
@@ -135,14 +140,13 @@ impl SettledFiles {
 
     /// The files as a unit reads them; InvalidDwarf where a path or a directory cannot be read.
     pub fn files_by(self, strings: UnitStrings) -> Result<ProgramFiles>
-        ensures table { GivesFiles (files_with self strings) result }
+        ensures table { AreTold self → GivesFiles (files_with self strings) result }
         ensures first { IfOk result (λ f. f.first ≡ first_of self.version (length (arc_value self.entries))) }
     {
-        let namer = self.namer(&strings);
-        if namer.lacks_file(self.entries.deref()) {
+        if self.needed.are_lacked_by(&strings) {
             return Err(broken());
         }
-        let first = namer.first_of(self.entries.deref());
+        let first = self.namer(&strings).first_of(self.entries.deref());
         Ok(ProgramFiles {
             first,
             listed: ListedFiles::ByIndex(self, strings),

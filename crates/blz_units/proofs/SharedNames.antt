@@ -79,6 +79,7 @@ module _ (s : Sections) (run : RunParts) where
       version = is.settled.version;
       directories = is.settled.directories ∙ lying_strings s is.header is.root run.directories;
       entries = is.settled.entries ∙ lying_strings s is.header is.root run.entries;
+      told = is.settled.told;
     };
   }
 
@@ -90,6 +91,7 @@ module _ (s : Sections) (run : RunParts) where
       version = is.settled.version;
       directories = is.settled.directories ∙ sym (lying_strings s is.header is.root run.directories);
       entries = is.settled.entries ∙ sym (lying_strings s is.header is.root run.entries);
+      told = is.settled.told;
     };
   }
 

@@ -1,24 +1,20 @@
-use Rattle.std.proofs.Common.{List, sym, ap, ◌∙◌}
-use Rattle.std.specs.Arc.{arc_value}
-use Rattle.blz_line.specs.FileNames.{Naming}
-use Rattle.blz_line.specs.MissingFiles.{lacks_file}
-use Rattle.blz_line.specs.NamingView.{naming_view}
-use Rattle.blz_line.specs.declared.paths.FileEntry.{FileEntry}
+use Rattle.std.proofs.Common.{sym, ap, ◌∙◌}
+use Rattle.blz_line.specs.IndexedStrings.{unit_string}
+use Rattle.blz_line.specs.NeededStrings.{lack_needed}
+use Rattle.blz_line.specs.declared.needed_strings.NeededStrings.{NeededStrings}
 use Rattle.blz_line.proofs.MissingFiles.{all_there, one_missing}
 use Rattle.blz_line.proofs.ProgramSteps.{fails_none}
 use Rattle.blz_line.proofs.TableSteps.{or_mark_some}
 use Rattle.blz_line.proofs.settled_files.SettledFiles.files_by.Goals as goal
 
-pub returns-then-lacks_file-clause-table : goal.returns-then-lacks_file-clause-table
-returns-then-lacks_file-clause-table c =
-    let entries = arc_value c.args.self.entries in
-    let read = ap (λ (es : List FileEntry). lacks_file (naming_view c.namer-namer.result) es) c.deref.ensures in
-    let tested = c.lacks_file.ensures ∙ (read ∙ ap (λ (n : Naming). lacks_file n entries) c.namer-namer.ensures) in
-    fails_none _ _ c.broken.ensures (one_missing _ _ (sym tested ∙ c.if-lacks_file.true))
+pub returns-then-are_lacked_by-clause-table : goal.returns-then-are_lacked_by-clause-table
+returns-then-are_lacked_by-clause-table c = λ told.
+    let strings = unit_string c.args.strings in
+    let tested = c.are_lacked_by.ensures ∙ (ap (λ (needed : NeededStrings). lack_needed needed strings) c.deref.ensures ∙ told strings) in
+    fails_none _ _ c.broken.ensures (one_missing _ _ (sym tested ∙ c.if-are_lacked_by.true))
 
 pub returns-clause-table : goal.returns-clause-table
-returns-clause-table c =
-    let entries = arc_value c.args.self.entries in
-    let read = ap (λ (es : List FileEntry). lacks_file (naming_view c.namer-namer.result) es) c.deref.ensures in
-    let tested = c.lacks_file.ensures ∙ (read ∙ ap (λ (n : Naming). lacks_file n entries) c.namer-namer.ensures) in
-    or_mark_some _ _ (all_there _ _ (sym tested ∙ c.if-lacks_file.false))
+returns-clause-table c = λ told.
+    let strings = unit_string c.args.strings in
+    let tested = c.are_lacked_by.ensures ∙ (ap (λ (needed : NeededStrings). lack_needed needed strings) c.deref.ensures ∙ told strings) in
+    or_mark_some _ _ (all_there _ _ (sym tested ∙ c.if-are_lacked_by.false))
