@@ -5,6 +5,7 @@ ghost use Rattle.blz_functions.specs.Opened.{open_view};
 ghost use Rattle.blz_line.specs.Lookups.{span_of, spans_of};
 ghost use Rattle.blz_units.specs.Keeping.{IsMetOf, IsToldByLines};
 ghost use Rattle.blz_units.specs.RootKeys.{IsKeyOf, IsToldBy};
+ghost use Rattle.blz_units.specs.SharedNames.{AreNames};
 ghost use Rattle.blz_units.specs.SharedPrograms.{covered_by, table_of, ButForMemory, IsReadBy};
 ghost use Rattle.blz_units.specs.SharedRuns.{AreRuns};
 
@@ -13,6 +14,7 @@ use crate::known_roots::{KnownRoot, KnownRoots};
 use crate::program_key::ProgramKey;
 use crate::read_program::ReadProgram;
 use crate::root_key::RootKey;
+use crate::shared_names::SharedNames;
 use crate::shared_runs::SharedRuns;
 use blz_entry::Span;
 use blz_error::Result;
@@ -122,16 +124,28 @@ fn program_ranges(
     unit: &OpenUnit<'_, '_>,
     roots: &KnownRoots,
     runs: &mut SharedRuns,
+    names: &mut SharedNames,
     at: u64,
 ) -> Result<UnitRanges>
     requires none { ranges_in (open_view unit.now) unit.now.root.ranges ≡ Some [] }
     requires line { unit.now.root.line ≡ Some at }
     requires runs { AreRuns (open_view unit.now).sections.line runs.old }
+    requires names { AreNames (open_view unit.now).sections names.old }
     ensures value { ButForMemory (IsToldByLines (open_view unit.now) roots.now) result }
-    ensures kept { AreRuns (open_view unit.now).sections.line runs.new }
+    ensures runs { AreRuns (open_view unit.now).sections.line runs.new }
+    ensures names { AreNames (open_view unit.now).sections names.new }
 {
+    let again = runs.has(&unit.header, at);
     let run = runs.run_in_any_order(alloc, &unit.sections.line, &unit.header, at)?;
-    let read = ReadProgram::of_run(alloc, &unit.sections, &unit.header, &unit.root, at, run)?;
+    let read = names.read_run(
+        alloc,
+        &unit.sections,
+        &unit.header,
+        &unit.root,
+        at,
+        run,
+        again,
+    )?;
     Ok(told_by_program(alloc, unit, roots, at, &read)?)
 }
 
@@ -142,17 +156,20 @@ pub fn ranges_by_lines(
     unit: &OpenUnit<'_, '_>,
     roots: &KnownRoots,
     runs: &mut SharedRuns,
+    names: &mut SharedNames,
 ) -> Result<UnitRanges>
     requires none { ranges_in (open_view unit.now) unit.now.root.ranges ≡ Some [] }
     requires runs { AreRuns (open_view unit.now).sections.line runs.old }
+    requires names { AreNames (open_view unit.now).sections names.old }
     ensures value { ButForMemory (IsToldByLines (open_view unit.now) roots.now) result }
-    ensures kept { AreRuns (open_view unit.now).sections.line runs.new }
+    ensures runs { AreRuns (open_view unit.now).sections.line runs.new }
+    ensures names { AreNames (open_view unit.now).sections names.new }
 {
     if let Some(known) = known_program(unit, roots) {
         return Ok(UnitRanges::Again(known, None));
     }
     match unit.root.line {
-        Some(at) => program_ranges(alloc, unit, roots, runs, at),
+        Some(at) => program_ranges(alloc, unit, roots, runs, names, at),
         None => {
             let spans = Vec::new(alloc);
             Ok(UnitRanges::Spans(spans, Some(RootKey::ByLines(None))))

@@ -91,14 +91,14 @@ fn read_root(
     match lists.chains.ranges_of(alloc, unit)? {
         ToldRanges::Read(spans) => {
             if spans.is_empty() {
-                return ranges_by_lines(alloc, unit, roots, &mut lists.runs);
+                return ranges_by_lines(alloc, unit, roots, &mut lists.runs, &mut lists.names);
             }
             lists.relative.note(unit, spans.len())?;
             Ok(UnitRanges::Spans(spans, Some(RootKey::ByRanges(ranges_key(unit)))))
         },
         ToldRanges::InChain(front, place) => {
             if has_none(front.as_slice(), place) {
-                return ranges_by_lines(alloc, unit, roots, &mut lists.runs);
+                return ranges_by_lines(alloc, unit, roots, &mut lists.runs, &mut lists.names);
             }
             Ok(UnitRanges::Chained(front, place, 0))
         },

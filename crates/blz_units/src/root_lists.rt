@@ -6,6 +6,7 @@ ghost use Rattle.blz_units.specs.RootLists.{AreRootLists};
 
 use crate::range_chains::RangeChains;
 use crate::relative_lists::RelativeLists;
+use crate::shared_names::SharedNames;
 use crate::shared_runs::SharedRuns;
 use std::alloc::Global;
 
@@ -16,6 +17,8 @@ pub struct RootLists {
     pub relative: RelativeLists,
     /// What line programs give of whose files a name is told by an index.
     pub runs: SharedRuns,
+    /// What such names are found by.
+    pub names: SharedNames,
 }
 
 impl RootLists {
@@ -28,6 +31,7 @@ impl RootLists {
             chains: RangeChains::new(alloc),
             relative: RelativeLists::new(alloc),
             runs: SharedRuns::new(alloc),
+            names: SharedNames::new(alloc),
         }
     }
 }

@@ -8,8 +8,11 @@ ghost use Rattle.blz_line.specs.ProgramTables.{table_in, GivesTable, IsOrderedAs
 ghost use Rattle.blz_line.specs.SettledFiles.{IsSettled};
 ghost use Rattle.blz_units.specs.ProgramKeys.{for_all, strings_key};
 ghost use Rattle.blz_units.specs.SharedNames.{AreNames, IsFoundFiles, IsFoundStrings, KeepsFiles, KeepsStrings};
+ghost use Rattle.blz_units.specs.SharedPrograms.{ButForMemory, IsReadAt, KeepsOrder};
+ghost use Rattle.blz_units.specs.SharedRuns.{IsRunOf};
 
 use crate::program_key::{ProgramKey, StringsKey, strings_key};
+use crate::read_program::ReadProgram;
 use blz_entry::{Sections, UnitHeader, UnitRoot};
 use blz_error::Result;
 use blz_line::{IndexedStrings, ProgramLines, ProgramRun, SettledFiles, UnitStrings, first_root};
@@ -154,7 +157,7 @@ impl SharedNames {
 
     /// The table of a line program that was run, as a unit reads it; InvalidDwarf exactly where the string of a file has
     /// no value.
-    pub fn lines(
+    fn lines(
         &mut self,
         alloc: Global,
         sections: &Sections<'_, '_>,
@@ -173,5 +176,31 @@ impl SharedNames {
         let first = first_root(header, root);
         let strings = self.strings(alloc, sections, header, &first)?;
         ProgramLines::of_settled(run, files, UnitStrings::of_unit(strings, header, root))
+    }
+
+    /// A line program as a unit reads it, by its run: where that is asked for again, by what is read once.
+    pub fn read_run(
+        &mut self,
+        alloc: Global,
+        sections: &Sections<'_, '_>,
+        header: &UnitHeader,
+        root: &UnitRoot,
+        at: u64,
+        run: Option<ProgramRun>,
+        again: bool,
+    ) -> Result<ReadProgram>
+        requires names { AreNames (sections_view sections.now) self.old }
+        requires run { IsRunOf (section_view sections.now.line) header.now at run }
+        ensures value { ButForMemory (IsReadAt (sections_view sections.now) header.now root.now at) result }
+        ensures order { KeepsOrder run result }
+        ensures kept { AreNames (sections_view sections.now) self.new }
+    {
+        match run {
+            Some(run) if again => {
+                let lines = self.lines(alloc, sections, header, root, at, &run);
+                ReadProgram::of_lines(header, root, at, &run, lines)
+            }
+            run => ReadProgram::of_run(alloc, sections, header, root, at, run),
+        }
     }
 }

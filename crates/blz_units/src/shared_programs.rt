@@ -1,6 +1,5 @@
 //! Line programs, read once for all units that read them alike.
-ghost use Rattle.std.specs.Prelude.{◌≡◌, is_some, map, option_map, IfOk, IfSome};
-ghost use Rattle.std.specs.BTreeMap.{get};
+ghost use Rattle.std.specs.Prelude.{◌≡◌, map, option_map, IfOk, IfSome};
 ghost use Rattle.blz_info.specs.Contents.{section_view};
 ghost use Rattle.blz_info.specs.FileSections.{FileSections, sections_view};
 ghost use Rattle.blz_line.specs.Lookups.{spans_of};
@@ -9,7 +8,6 @@ ghost use Rattle.blz_line.specs.ProgramTables.{program_at, GivesTable, IsOrdered
 ghost use Rattle.blz_line.specs.UnitLines.{OrderedLines, lines_of};
 ghost use Rattle.blz_model.specs.Part.{Gives};
 ghost use Rattle.blz_ranges.specs.Keyed.{IsAccepted, begin_key};
-ghost use Rattle.blz_units.specs.ProgramKeys.{for_all, program_cmp};
 ghost use Rattle.blz_units.specs.SharedPrograms.{ArePrograms, ButForMemory, IsFound, IsProgramAt, IsReadAt, KeepsOrder};
 ghost use Rattle.blz_units.specs.SharedRuns.{IsRunOf};
 
@@ -86,15 +84,6 @@ impl SharedPrograms {
         self.runs.run(alloc, orders, &sections.line, header, at)
     }
 
-    /// Whether what the line program at an offset gives is kept, for other units than those that read it alike.
-    fn has_run(&self, header: &UnitHeader, at: u64) -> bool
-        ensures { result ≡ is_some (get program_cmp self.now.runs.kept (for_all header.now at)) }
-    {
-        self.runs
-            .kept
-            .contains_key(&ProgramKey::for_all(header, at))
-    }
-
     /// A line program as a unit reads it, by its run: where that is asked for again, by strings that are read once.
     fn read_run(
         &mut self,
@@ -112,13 +101,8 @@ impl SharedPrograms {
         ensures order { KeepsOrder run result }
         ensures kept { ArePrograms (sections_view sections.now) self.new }
     {
-        match run {
-            Some(run) if again => {
-                let lines = self.names.lines(alloc, sections, header, root, at, &run);
-                ReadProgram::of_lines(header, root, at, &run, lines)
-            }
-            run => ReadProgram::of_run(alloc, sections, header, root, at, run),
-        }
+        self.names
+            .read_run(alloc, sections, header, root, at, run, again)
     }
 
     /// Reads a program that is not kept, and keeps what it gives.
@@ -136,7 +120,7 @@ impl SharedPrograms {
         ensures accepted { IfOk result (IsOrderedBy O.pair_places) }
         ensures kept { ArePrograms (sections_view sections.now) self.new }
     {
-        let again = self.has_run(header, at);
+        let again = self.runs.has(header, at);
         let run = self.run(alloc, orders, sections, header, at)?;
         let read = self.read_run(alloc, sections, header, root, at, run, again);
         let ReadProgram { key, program } = read?;

@@ -1,8 +1,9 @@
 //! Line programs of whose files a name is told by an index, run once for all units.
-ghost use Rattle.std.specs.Prelude.{IfOk, IfSome};
+ghost use Rattle.std.specs.Prelude.{◌≡◌, is_some, IfOk, IfSome};
+ghost use Rattle.std.specs.BTreeMap.{get};
 ghost use Rattle.blz_info.specs.Contents.{Contents, section_view};
 ghost use Rattle.blz_line.specs.ProgramRuns.{IsRunOrderedBy};
-ghost use Rattle.blz_units.specs.ProgramKeys.{for_all};
+ghost use Rattle.blz_units.specs.ProgramKeys.{for_all, program_cmp};
 ghost use Rattle.blz_units.specs.SharedPrograms.{ButForMemory};
 ghost use Rattle.blz_units.specs.SharedRuns.{AreRuns, IsFoundRun, IsRunOf, KeepsRun};
 
@@ -60,6 +61,13 @@ impl SharedRuns {
         ensures { IfSome result (λ r. IsFoundRun self.now (for_all header.now at) r.now) }
     {
         self.kept.get(&ProgramKey::for_all(header, at))
+    }
+
+    /// Whether what the line program at an offset gives is kept.
+    pub fn has(&self, header: &UnitHeader, at: u64) -> bool
+        ensures { result ≡ is_some (get program_cmp self.now.kept (for_all header.now at)) }
+    {
+        self.kept.contains_key(&ProgramKey::for_all(header, at))
     }
 
     /// Runs a program that is not kept.
