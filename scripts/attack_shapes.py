@@ -268,16 +268,32 @@ def rows_of_a_file_by_index(n):
     return line_program_of(paths, SET_FILE_0 + many_rows(n))
 
 
+def files_by_index(n):
+    """A program of one row and n files, each of which has the first string of a unit for its name."""
+    paths = bytes([1, DW_LNCT_PATH, DW_FORM_STRING, 1]) + text("/p") + bytes([1, DW_LNCT_PATH, DW_FORM_STRX1])
+    rows = SET_FILE_0 + set_address(BASE) + COPY + advance(0x10000) + END_SEQUENCE
+    return line_program_of(paths + uleb(n) + bytes(n), rows)
+
+
 def string_offsets_of_units(n):
     """So many offsets of one string, the first of which is that of the first unit."""
     return {"str_offsets": with_length(struct.pack("<HH", 5, 0) + bytes(4 * n)), "str": text("a.c")}
 
 
-@shape
-def units_without_ranges_of_one_program_with_string_offsets_of_each_unit_and_a_name_by_index(n):
+def units_without_ranges_with_string_offsets_of_each_unit(n, program):
     shapes = {ROOT: root([LINES, (DW_AT_STR_OFFSETS_BASE, DW_FORM_SEC_OFFSET)], 0)}
     units = b"".join(unit(entry(shapes, ROOT, 0, 8 + 4 * k)) for k in range(n))
-    return Attack(dwarf(shapes, units, line=rows_of_a_file_by_index(16 * n), **string_offsets_of_units(n)), [BASE])
+    return Attack(dwarf(shapes, units, line=program, **string_offsets_of_units(n)), [BASE])
+
+
+@shape
+def units_without_ranges_of_one_program_with_string_offsets_of_each_unit_and_a_name_by_index(n):
+    return units_without_ranges_with_string_offsets_of_each_unit(n, rows_of_a_file_by_index(16 * n))
+
+
+@shape
+def units_without_ranges_of_one_program_of_files_by_index(n):
+    return units_without_ranges_with_string_offsets_of_each_unit(n, files_by_index(16 * n))
 
 
 @shape
@@ -316,6 +332,12 @@ def asked_units_of_one_program_of_rows_with_string_offsets_of_each_unit_and_a_na
     rows = rows_of_a_file_by_index(16 * n)
     bases = [(DW_AT_STR_OFFSETS_BASE, DW_FORM_SEC_OFFSET)]
     return asked_units_of_one_program(n, rows, bases, lambda k: 8 + 4 * k, **string_offsets_of_units(n))
+
+
+@shape
+def asked_units_of_one_program_of_files_by_index(n):
+    bases = [(DW_AT_STR_OFFSETS_BASE, DW_FORM_SEC_OFFSET)]
+    return asked_units_of_one_program(n, files_by_index(16 * n), bases, lambda k: 8 + 4 * k, **string_offsets_of_units(n))
 
 
 @shape
