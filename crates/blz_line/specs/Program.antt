@@ -1,5 +1,8 @@
 -- The line number program: a fold of one step for each opcode (DWARF 5 section 6.2.5).
-use Rattle.std.specs.Prelude.{ℕ, zero, suc, ◌+◌, ◌-◌, ◌%◌, ◌^◌, Bool, false, ◌||◌, List, [], ◌∷◌, ◌++◌, length, take, slice_get, Option, Some, None, ◌==◌, nat_lt, if◌then◌else◌}
+use Rattle.std.specs.Prelude.{ℕ, zero, suc, ◌+◌, ◌-◌, ◌%◌, ◌^◌, Bool, false, ◌||◌, List, [], ◌∷◌, ◌++◌, length, take, slice_get, Option, Some, None, ◌==◌, nat_lt, if◌then◌else◌, ◌≡◌, MatchResult, Result}
+use Rattle.blz_error.specs.Fault.{Fault}
+use Rattle.blz_error.specs.declared.kind.ErrorKind.TheVariants.{OutOfMemory, InvalidDwarf}
+use Rattle.blz_model.specs.Part.{Fails, or_mark}
 use Rattle.blz_model.specs.Reads.{◌>>=◌}
 use Rattle.blz_info.specs.Contents.{Contents}
 use Rattle.blz_line.specs.declared.row.LineRow.{LineRow}
@@ -18,6 +21,15 @@ pub record State : Type 0 where
   pub rows : List LineRow
   pub sequences : List Sequence
   pub files : List FileEntry
+
+-- the same without the registers
+pub record Given : Type 0 where
+  pub rows : List LineRow
+  pub sequences : List Sequence
+  pub files : List FileEntry
+
+abbrev pub state_of : Registers → Given → State
+state_of registers g = record { registers = registers; rows = g.rows; sequences = g.sequences; files = g.files }
 
 -- before the first opcode, with the files of the header
 abbrev pub first_state : List FileEntry → State
@@ -83,3 +95,17 @@ run_in r counts s (suc n) state at = if nat_lt at (length s.bytes) then (do
 
 unfoldable pub run_from : Rules → List ℕ → Contents → State → ℕ → Option State
 run_from r counts s state at = run_in r counts s (length s.bytes + 1) state at
+
+-- A call notes what an opcode does beside the registers, but for want of memory.
+abbrev pub NotesOp : Op → Registers → Given → Given → Result Registers Fault → Type 0
+NotesOp op registers old new result =
+    MatchResult result (λ g. state_of g new ≡ noted op (state_of registers old)) (λ e. e.kind ≡ OutOfMemory)
+
+-- The registers aside, something is the state that a program ends in.
+pub record IsEnd (state : Option State) (given : Given) : Type 0 where
+  pub registers : Registers
+  pub is : state ≡ Some (state_of registers given)
+
+-- A call gives it, or InvalidDwarf exactly where there is none.
+abbrev pub GivesState : Option State → Result Given Fault → Type 0
+GivesState state result = MatchResult result (IsEnd state) (λ e. Fails e.kind (or_mark state InvalidDwarf))

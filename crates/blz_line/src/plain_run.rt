@@ -8,7 +8,7 @@ ghost use Rattle.blz_line.specs.RowOrder.{AreRising};
 
 use crate::header::{LineHeader, header_at};
 use crate::paths::FileEntry;
-use crate::program::{Machine, run};
+use crate::program::run;
 use crate::row::LineSequence;
 use crate::table::Table;
 use blz_entry::{Section, cut};
@@ -46,9 +46,8 @@ fn run_of(alloc: Global, section: &Section<'_, '_>, header: LineHeader) -> Resul
     let line = cut(section, header.end);
     let counts = header.counts(section);
     let (directories, files) = header.into_paths();
-    let mut machine = Machine::new(alloc, files);
-    run(alloc, rules, counts, &line, program, &mut machine)?;
-    let (sequences, entries) = machine.into_parts();
+    let given = run(alloc, rules, counts, &line, program, files)?;
+    let (sequences, entries) = given.into_parts();
     Ok(PlainRun {
         version: rules.version,
         directories,

@@ -1,9 +1,8 @@
 //! The machine that runs a line number program.
-ghost use Rattle.std.specs.Prelude.{◌≡◌, ◌≤◌, ◌<◌, ◌+◌, length, IfOk, Some, MatchResult};
-ghost use Rattle.blz_error.specs.declared.kind.ErrorKind.TheVariants.{InvalidDwarf};
-ghost use Rattle.blz_model.specs.Part.{Fails, or_mark};
+ghost use Rattle.std.specs.Prelude.{◌≡◌, ◌≤◌, ◌<◌, ◌+◌, length, IfOk};
 ghost use Rattle.blz_info.specs.Contents.{section_view};
-ghost use Rattle.blz_line.specs.Program.{State, first_state, last_is_at, with_row, row_of, ended, step, run_from};
+ghost use Rattle.blz_line.specs.Program.{first_state, last_is_at, state_of, with_row, row_of, ended, run_from, GivesState, NotesOp};
+ghost use Rattle.blz_line.specs.Registers.{first_registers};
 
 use crate::broken::broken;
 use crate::opcode::{Op, op_at};
@@ -49,30 +48,28 @@ fn row_of(registers: Registers) -> LineRow
     }
 }
 
-/// The state between two opcodes.
+/// What a program gave so far, beside its registers: these stand apart, so that they stay out of memory.
 #[derive(Drop)]
-pub struct Machine {
-    registers: Registers,
+pub struct Given {
     rows: Vec<LineRow>,
     sequences: Vec<LineSequence>,
     files: Table<FileEntry>,
 }
 
-impl Model for Machine {
-    ghost use Rattle.blz_line.specs.Program.{State};
+impl Model for Given {
+    ghost use Rattle.blz_line.specs.Program.{Given};
 
-    ghost Value = { State };
+    ghost Value = { Given };
 
-    ghost view = { λ m. record { registers = m.registers; rows = m.rows.items; sequences = m.sequences.items; files = m.files } };
+    ghost view = { λ g. record { rows = g.rows.items; sequences = g.sequences.items; files = g.files } };
 }
 
-impl Machine {
+impl Given {
     /// Before the first opcode, with the files of the header.
-    pub fn new(alloc: Global, files: Table<FileEntry>) -> Machine
-        ensures { result ≡ first_state files }
+    fn new(alloc: Global, files: Table<FileEntry>) -> Given
+        ensures { state_of first_registers result ≡ first_state files }
     {
-        Machine {
-            registers: Registers::first(),
+        Given {
             rows: Vec::new(alloc),
             sequences: Vec::new(alloc),
             files,
@@ -87,71 +84,73 @@ impl Machine {
         (self.sequences, self.files)
     }
 
-    #[tactic(auto, unfolding(crate::specs::Program::step, crate::specs::Program::ended))]
-    fn step(&mut self, alloc: Global, rules: Rules, op: Op) -> Result<()>
-        requires ops { 0 < rules.max_ops }
-        requires range { 0 < rules.line_range }
-        ensures { MatchResult result (λ _. step rules self.old op ≡ Some self.new) (λ e. Fails e.kind (or_mark (step rules self.old op) InvalidDwarf)) }
+    /// Notes what an opcode does that left the registers so, and gives the registers behind it.
+    fn noted(&mut self, alloc: Global, registers: Registers, op: Op) -> Result<Registers>
+        ensures { NotesOp op registers self.old self.new result }
     {
-        let Some(registers) = self.registers.moved_by(rules, op) else {
-            return Err(broken());
-        };
-        self.registers = registers;
         match op {
             Op::Special(_) | Op::Copy => {
                 if !registers.skipping {
                     put_row(&mut self.rows, row_of(registers))?;
                 }
             }
-            Op::EndSequence => self.end(alloc)?,
+            Op::EndSequence => {
+                self.end(alloc, registers)?;
+                return Ok(Registers::first());
+            }
             Op::DefineFile(file) => self.files.push(file)?,
             _ => {}
         }
-        Ok(())
+        Ok(registers)
     }
 
     #[tactic(auto, unfolding(crate::specs::Program::ended))]
-    fn end(&mut self, alloc: Global) -> std::result::Result<(), AllocError>
-        ensures { IfOk result (λ _. self.new ≡ ended self.old) }
+    fn end(&mut self, alloc: Global, registers: Registers) -> std::result::Result<(), AllocError>
+        ensures { IfOk result (λ _. state_of first_registers self.new ≡ ended (state_of registers self.old)) }
     {
         let mut rows = mem::replace(&mut self.rows, Vec::new(alloc));
         // rows are most of what a reader keeps, so no room is left behind them
         rows.shrink_to_fit();
-        if !self.registers.skipping && !rows.is_empty() {
+        if !registers.skipping && !rows.is_empty() {
             let start = rows[0].address;
-            let end = self.registers.address;
+            let end = registers.address;
             self.sequences.push(LineSequence::new(start, end, rows))?;
         }
-        self.registers = Registers::first();
         Ok(())
     }
 }
 
-/// Runs the program from an offset to the end of the section's bytes; InvalidDwarf where it has no value.
+/// Runs the program of a header with some files, from an offset to the end of the section's bytes; InvalidDwarf where it
+/// has no value.
 pub fn run(
     alloc: Global,
     rules: Rules,
     counts: &[u8],
     section: &Section<'_, '_>,
     at: usize,
-    machine: &mut Machine,
-) -> Result<()>
+    files: Table<FileEntry>,
+) -> Result<Given>
     requires within { at ≤ length section.now.bytes.now }
     requires counted { rules.opcode_base ≤ length counts.now + 1 }
     requires ops { 0 < rules.max_ops }
     requires range { 0 < rules.line_range }
-    ensures { MatchResult result (λ _. run_from rules counts.now (section_view section.now) machine.old at ≡ Some machine.new) (λ e. Fails e.kind (or_mark (run_from rules counts.now (section_view section.now) machine.old at) InvalidDwarf)) }
+    ensures { GivesState (run_from rules counts.now (section_view section.now) (first_state files) at) result }
 {
+    let mut given = Given::new(alloc, files);
+    let mut registers = Registers::first();
     let mut offset = at;
     // an opcode takes a byte at least, so the bytes end first
     for _ in 0..section.bytes.len() + 1 {
         if offset >= section.bytes.len() {
-            return Ok(());
+            return Ok(given);
         }
         let Some((op, next)) = op_at(rules, counts, section, offset) else {
             return Err(broken());
         };
-        machine.step(alloc, rules, op)?;
+        let Some(moved) = registers.moved_by(rules, op) else {
+            return Err(broken());
+        };
+        registers = given.noted(alloc, moved, op)?;
         offset = next;
     }
     Err(broken())
