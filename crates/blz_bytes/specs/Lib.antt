@@ -1,3 +1,4 @@
+pub mod Allowance
 pub mod CursorValue
 pub mod Inserted
 pub mod Joined

@@ -1,4 +1,5 @@
-//! Bytes: readers, orders that are handed in and checked, lists whose looks are counted, a map that only grows, paths.
+//! Bytes: readers, orders that are handed in and checked, lists whose looks are counted, a map that only grows, paths,
+//! and how much a file may make its reader keep and read again.
 #![tactic(auto)]
 
 mod align_up;
@@ -13,6 +14,7 @@ mod path_text;
 mod places;
 mod ranked;
 mod read_raw;
+mod room;
 
 pub use align_up::{align_up_u32, align_up_usize};
 pub use blz_records::{ByteOrder, Pod};
@@ -27,3 +29,4 @@ pub use path_text::bytes_to_path;
 pub use places::{number_at, piece_at, u8_at, u16_at, u32_at, u64_at, zero_ended_at};
 pub use ranked::{check_names, check_pairs};
 pub use read_raw::ReadRaw;
+pub use room::{LEAST_WORDS, Room, WORDS_A_BYTE};
