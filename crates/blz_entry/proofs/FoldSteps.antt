@@ -1,5 +1,5 @@
 -- One turn of a loop that makes a step of each attribute that is wanted, where no other one changes anything.
-use Rattle.std.proofs.Common.{◌≡◌, ◌∙◌, ℕ, List, [], ◌∷◌, Option, Some, None, refl, inl, inr}
+use Rattle.std.proofs.Common.{◌≡◌, ◌∙◌, ℕ, false, List, [], ◌∷◌, Option, Some, None, refl, inl, inr}
 use Rattle.std.specs.Prelude.{if◌then◌else◌}
 use Rattle.std.proofs.lemmas.Bool.{cases_Bool}
 use Rattle.blz_model.specs.Reads.{Read, ◌>>=◌}
@@ -7,18 +7,17 @@ use Rattle.blz_info.specs.Contents.{Contents}
 use Rattle.blz_info.specs.Attributes.{attribute, attributes}
 use Rattle.blz_entry.specs.Folds.{fold_maybe, over_attributes, over_pending}
 use Rattle.blz_info.specs.Walks.{Walk}
-use Rattle.blz_info.specs.Wanted.{Wanted, tells, wanted_in, wanted_of}
+use Rattle.blz_info.specs.Wanted.{Wanted, is_wanted, wanted_in, wanted_of}
 use Rattle.blz_info.specs.declared.abbreviations.AttrSpec.{AttrSpec}
 use Rattle.blz_info.specs.declared.encoding.Encoding.{Encoding}
 use Rattle.blz_info.specs.declared.text.StrBase.{StrBase}
 use Rattle.blz_info.specs.declared.value.AttrValue.{AttrValue}
-use Rattle.blz_entry.proofs.Settled.{LooksAt, SkipsLanguages, untold_step}
 
 -- an attribute before others
-abbrev pub with_first : ℕ × AttrValue → Read (List (ℕ × AttrValue)) → Read (List (ℕ × AttrValue))
+abbrev with_first : ℕ × AttrValue → Read (List (ℕ × AttrValue)) → Read (List (ℕ × AttrValue))
 with_first a o = o >>= λ r. Some (a ∷ r.0, r.1)
 
-abbrev pub steps_over : {S : Type 0} → (S → ℕ × AttrValue → Option S) → S → Read (List (ℕ × AttrValue)) → Option S
+abbrev steps_over : {S : Type 0} → (S → ℕ × AttrValue → Option S) → S → Read (List (ℕ × AttrValue)) → Option S
 steps_over step s o = o >>= λ r. fold_maybe step s r.0
 
 abbrev nothing : {S : Type 0} → S → Option S
@@ -28,7 +27,7 @@ nothing_behind : {S : Type 0} (o : Option S) → None ≡ (o >>= nothing)
 nothing_behind None = refl
 nothing_behind (Some t) = refl
 
-pub first_step : {S : Type 0} (step : S → ℕ × AttrValue → Option S) (s : S) (a : ℕ × AttrValue) (o : Read (List (ℕ × AttrValue))) → steps_over step s (with_first a o) ≡ (step s a >>= λ t. steps_over step t o)
+first_step : {S : Type 0} (step : S → ℕ × AttrValue → Option S) (s : S) (a : ℕ × AttrValue) (o : Read (List (ℕ × AttrValue))) → steps_over step s (with_first a o) ≡ (step s a >>= λ t. steps_over step t o)
 first_step step s a None = nothing_behind (step s a)
 first_step step s a (Some r) = refl
 
@@ -40,26 +39,21 @@ from_found step s e base c (Some a) rest next = step s a >>= λ t. over_attribut
 abbrev from_wanted : {S : Type 0} → (S → ℕ × AttrValue → Option S) → S → Encoding → StrBase → Contents → Option Wanted → Option S
 from_wanted step s e base c o = o >>= λ r. from_found step s e base c r.0 r.1.0 r.1.1
 
--- nothing is done where the first attribute does not tell anything
-over_untold : {S : Type 0} (step : S → ℕ × AttrValue → Option S) (s : S) (a : ℕ × AttrValue) (o : Read (List (ℕ × AttrValue))) → ((r : List (ℕ × AttrValue) × ℕ) → o ≡ Some r → fold_maybe step s (a ∷ r.0) ≡ fold_maybe step s r.0) → steps_over step s (with_first a o) ≡ steps_over step s o
-over_untold step s a None h = refl
-over_untold step s a (Some r) h = h r refl
-
-first_over : {S : Type 0} (step : S → ℕ × AttrValue → Option S) (k : LooksAt S step) (s : S) (a : AttrSpec) (rest : List AttrSpec) (e : Encoding) (base : StrBase) (c : Contents) (at : ℕ) (o : Read AttrValue) → attribute a e base c at ≡ o → SkipsLanguages step s (a ∷ rest)
-    → (SkipsLanguages step s rest → (n : ℕ) → over_attributes step s rest e base c n ≡ from_wanted step s e base c (wanted_in rest e base c n))
-    → steps_over step s (o >>= λ v. with_first (a.name, v.0) (attributes rest e base c v.1)) ≡ from_wanted step s e base c (o >>= λ v. if tells a rest then Some (Some (a.name, v.0), (rest, v.1)) else wanted_in rest e base c v.1)
-first_over step k s a rest e base c at None read skips later = refl
-first_over step k s a rest e base c at (Some v) read skips later = elim (cases_Bool (tells a rest)) [
-  | inl told ↦ rw told (first_step step s (a.name, v.0) (attributes rest e base c v.1))
+first_over : {S : Type 0} (step : S → ℕ × AttrValue → Option S) (ignores : (s : S) (n : ℕ) (v : AttrValue) → is_wanted n ≡ false → step s (n, v) ≡ Some s) (s : S) (a : AttrSpec) (rest : List AttrSpec) (e : Encoding) (base : StrBase) (c : Contents) (o : Read AttrValue)
+    → ((n : ℕ) → over_attributes step s rest e base c n ≡ from_wanted step s e base c (wanted_in rest e base c n))
+    → steps_over step s (o >>= λ v. with_first (a.name, v.0) (attributes rest e base c v.1)) ≡ from_wanted step s e base c (o >>= λ v. if is_wanted a.name then Some (Some (a.name, v.0), (rest, v.1)) else wanted_in rest e base c v.1)
+first_over step ignores s a rest e base c None later = refl
+first_over step ignores s a rest e base c (Some v) later = elim (cases_Bool (is_wanted a.name)) [
+  | inl wanted ↦ rw wanted (first_step step s (a.name, v.0) (attributes rest e base c v.1))
   | inr other ↦
-      let more = skips other in
-      rw other (over_untold step s (a.name, v.0) (attributes rest e base c v.1) (λ r reads. untold_step step k s a rest e base c at v.1 v.0 r more.0 read other reads) ∙ later more.1 v.1)
+      let same = ignores s a.name v.0 other in
+      rw other (first_step step s (a.name, v.0) (attributes rest e base c v.1) ∙ rw same (later v.1))
 ]
 
-over_wanted : {S : Type 0} (step : S → ℕ × AttrValue → Option S) (k : LooksAt S step) (s : S) (specs : List AttrSpec) (e : Encoding) (base : StrBase) (c : Contents) (at : ℕ) → SkipsLanguages step s specs → over_attributes step s specs e base c at ≡ from_wanted step s e base c (wanted_in specs e base c at)
+over_wanted : {S : Type 0} (step : S → ℕ × AttrValue → Option S) (ignores : (s : S) (n : ℕ) (v : AttrValue) → is_wanted n ≡ false → step s (n, v) ≡ Some s) (s : S) (specs : List AttrSpec) (e : Encoding) (base : StrBase) (c : Contents) (at : ℕ) → over_attributes step s specs e base c at ≡ from_wanted step s e base c (wanted_in specs e base c at)
 unfolding attributes wanted_in
-over_wanted step k s [] e base c at skips = refl
-over_wanted step k s (a ∷ rest) e base c at skips = first_over step k s a rest e base c at (attribute a e base c at) refl skips (λ more n. over_wanted step k s rest e base c n more)
+over_wanted step ignores s [] e base c at = refl
+over_wanted step ignores s (a ∷ rest) e base c at = first_over step ignores s a rest e base c (attribute a e base c at) (λ n. over_wanted step ignores s rest e base c n)
 
 -- the same of a walk
 abbrev from_walk : {S : Type 0} → (S → ℕ × AttrValue → Option S) → S → Option (ℕ × AttrValue) → Walk → Option S
@@ -80,22 +74,22 @@ walk_by : {S : Type 0} (step : S → ℕ × AttrValue → Option S) (s : S) (w :
 walk_by step s w None = refl
 walk_by step s w (Some r) = walk_on step s w r.0 r.1.0 r.1.1
 
-over_walk : {S : Type 0} (step : S → ℕ × AttrValue → Option S) (k : LooksAt S step) (s : S) (w : Walk) → SkipsLanguages step s w.pending → over_pending step s w ≡ (wanted_of w >>= from_step step s)
+over_walk : {S : Type 0} (step : S → ℕ × AttrValue → Option S) (ignores : (s : S) (n : ℕ) (v : AttrValue) → is_wanted n ≡ false → step s (n, v) ≡ Some s) (s : S) (w : Walk) → over_pending step s w ≡ (wanted_of w >>= from_step step s)
 unfolding wanted_of
-over_walk step k s w skips =
-    over_wanted step k s w.pending w.source.encoding w.source.base w.source.section w.place skips
+over_walk step ignores s w =
+    over_wanted step ignores s w.pending w.source.encoding w.source.base w.source.section w.place
     ∙ walk_by step s w (wanted_in w.pending w.source.encoding w.source.base w.source.section w.place)
 
 -- ---- what a call gave
 
-pub over_none : {S : Type 0} (step : S → ℕ × AttrValue → Option S) (k : LooksAt S step) (s : S) (w : Walk) → SkipsLanguages step s w.pending → wanted_of w ≡ None → over_pending step s w ≡ None
-over_none step k s w skips h = over_walk step k s w skips ∙ rw h refl
+pub over_none : {S : Type 0} (step : S → ℕ × AttrValue → Option S) (ignores : (s : S) (n : ℕ) (v : AttrValue) → is_wanted n ≡ false → step s (n, v) ≡ Some s) (s : S) (w : Walk) → wanted_of w ≡ None → over_pending step s w ≡ None
+over_none step ignores s w h = over_walk step ignores s w ∙ rw h refl
 
-pub over_end : {S : Type 0} (step : S → ℕ × AttrValue → Option S) (k : LooksAt S step) (s : S) (w new : Walk) → SkipsLanguages step s w.pending → wanted_of w ≡ Some (None, new) → over_pending step s w ≡ Some s
-over_end step k s w new skips h = over_walk step k s w skips ∙ rw h refl
+pub over_end : {S : Type 0} (step : S → ℕ × AttrValue → Option S) (ignores : (s : S) (n : ℕ) (v : AttrValue) → is_wanted n ≡ false → step s (n, v) ≡ Some s) (s : S) (w new : Walk) → wanted_of w ≡ Some (None, new) → over_pending step s w ≡ Some s
+over_end step ignores s w new h = over_walk step ignores s w ∙ rw h refl
 
-pub over_more : {S : Type 0} (step : S → ℕ × AttrValue → Option S) (k : LooksAt S step) (s t : S) (w new : Walk) (a : ℕ × AttrValue) → SkipsLanguages step s w.pending → wanted_of w ≡ Some (Some a, new) → step s a ≡ Some t → over_pending step s w ≡ over_pending step t new
-over_more step k s t w new a skips h made = over_walk step k s w skips ∙ rw (h, made) refl
+pub over_more : {S : Type 0} (step : S → ℕ × AttrValue → Option S) (ignores : (s : S) (n : ℕ) (v : AttrValue) → is_wanted n ≡ false → step s (n, v) ≡ Some s) (s t : S) (w new : Walk) (a : ℕ × AttrValue) → wanted_of w ≡ Some (Some a, new) → step s a ≡ Some t → over_pending step s w ≡ over_pending step t new
+over_more step ignores s t w new a h made = over_walk step ignores s w ∙ rw (h, made) refl
 
-pub over_fails : {S : Type 0} (step : S → ℕ × AttrValue → Option S) (k : LooksAt S step) (s : S) (w new : Walk) (a : ℕ × AttrValue) → SkipsLanguages step s w.pending → wanted_of w ≡ Some (Some a, new) → step s a ≡ None → over_pending step s w ≡ None
-over_fails step k s w new a skips h fails = over_walk step k s w skips ∙ rw (h, fails) refl
+pub over_fails : {S : Type 0} (step : S → ℕ × AttrValue → Option S) (ignores : (s : S) (n : ℕ) (v : AttrValue) → is_wanted n ≡ false → step s (n, v) ≡ Some s) (s : S) (w new : Walk) (a : ℕ × AttrValue) → wanted_of w ≡ Some (Some a, new) → step s a ≡ None → over_pending step s w ≡ None
+over_fails step ignores s w new a h fails = over_walk step ignores s w ∙ rw (h, fails) refl

@@ -1,10 +1,4 @@
 pub mod RangeSteps
-pub mod FreeTails
-pub mod RelativeTails
-pub mod Settled
 pub mod FoldSteps
-pub mod RangesSettled
 pub mod RootSteps
-pub mod RootSettled
-pub mod RootLanguage
 pub mod SetSteps

@@ -2,6 +2,5 @@ pub mod Folds
 pub mod StringPlaces
 pub mod AddressIndexes
 pub mod RangeLists
-pub mod RangeTails
 pub mod Roots
 pub mod AddressSets

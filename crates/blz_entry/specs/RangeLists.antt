@@ -99,14 +99,6 @@ is_end (Offsets begin end) = false
 is_end (Addresses begin end) = false
 is_end (Length begin len) = false
 
--- whether the range of an entry counts from the base
-abbrev pub counts_from_base : RangeEntry → Bool
-counts_from_base End = false
-counts_from_base (Base a) = false
-counts_from_base (Offsets begin end) = true
-counts_from_base (Addresses begin end) = false
-counts_from_base (Length begin len) = false
-
 -- versions 2 to 4: a pair of addresses
 abbrev pub pair_meaning : ℕ → ℕ → ℕ → RangeEntry
 pair_meaning address_size first second = if (first == 0) && (second == 0) then End else (if first == greatest address_size then Base second else Offsets first second)

@@ -186,6 +186,7 @@ impl ArangeSet {
     /// the last of them. The section is the one that the set came from.
     pub fn next_range(&mut self, section: &Section<'_, '_>) -> Option<Span>
         ensures value { MatchOption result (pairs_of (section_view section.now) self.old ≡ []) (λ x. pairs_of (section_view section.now) self.old ≡ x ∷ pairs_of (section_view section.now) self.new) }
+        ensures ended { result ≡ None → self.new ≡ self.old }
         ensures same { self.new ≡ record self.old { at = self.new.at } }
     {
         let (range, next) = next_kept(self.address_size, self.end, section, self.at)?;

@@ -4,7 +4,6 @@
 mod addresses;
 mod aranges;
 mod range_list;
-mod range_tail;
 mod ranges;
 mod root;
 mod strings;
@@ -12,14 +11,12 @@ mod strings;
 pub use addresses::address;
 pub use aranges::{ArangeSet, Aranges};
 pub use blz_info::{
-    Abbreviation, Abbreviations, AttrSpec, AttrValue, AttributeLists, BrokenTables, Declarations,
-    Encoding, Entries, Entry, Extent, Field, Form, Listed, Makes, Passing, Section, Sections,
-    StrBase, StrPart, StrPlace, Texts, UnitHeader, UnitHeaders, UnitKind, Width, address_at, cut,
-    extent_at, fixed_at, form_value, invalid, laws, list_unit, offset_at,
+    Abbreviation, Abbreviations, AttrSpec, AttrValue, Encoding, Entries, Entry, Extent, Field,
+    Form, Listed, Makes, Passing, Section, Sections, StrBase, StrPart, StrPlace, Texts, UnitHeader,
+    UnitHeaders, UnitKind, Width, address_at, cut, extent_at, fixed_at, form_value, invalid, laws,
+    list_unit, offset_at,
 };
 pub use blz_ranges::Span;
-pub use range_list::greatest;
-pub use range_tail::RangeTail;
 pub use ranges::{RangeAttributes, attr_ranges_offset};
 pub use root::UnitRoot;
-pub use strings::{attr_string, supplementary_string};
+pub use strings::{attr_string, search_words, supplementary_string};

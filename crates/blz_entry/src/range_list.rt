@@ -1,17 +1,22 @@
 //! Lists of ranges.
-ghost use Rattle.std.specs.Prelude.{◌≡◌, ◌≤◌, ◌<◌, ◌+◌, ◌^◌, length, IfErr, OnOk, OnErr, ◌++◌};
+ghost use Rattle.std.specs.Prelude.{◌≡◌, ◌≤◌, ◌<◌, ◌+◌, ◌^◌, length, take, vec_len, IfErr, OnOk, OnErr, MatchResult, Some, ◌++◌};
 ghost use Rattle.std.specs.Option.{option_to_list};
 ghost use Rattle.blz_error.specs.declared.kind.ErrorKind.TheVariants.{OutOfMemory};
+ghost use Rattle.blz_model.specs.Part.{Fails};
 ghost use Rattle.blz_info.specs.Contents.{section_view};
-ghost use Rattle.blz_entry.specs.RangeLists.{greatest, is_dead, live, spelled, base_behind, is_end, counts_from_base, pair_meaning, pair_at, base_of_index, both_by_index, begin_by_index, offset_pair, base_address, begin_and_end, begin_and_length, coded_entry, coded_entry_at, range_entry_at, list_length};
+ghost use Rattle.blz_info.specs.Marks.{or_invalid};
+ghost use Rattle.blz_entry.specs.RangeLists.{greatest, is_dead, live, spelled, base_behind, is_end, pair_meaning, pair_at, base_of_index, both_by_index, begin_by_index, offset_pair, base_address, begin_and_end, begin_and_length, coded_entry, coded_entry_at, range_entry_at, list_length, spans_from};
 
 use crate::addresses::address_of;
 use crate::root::UnitRoot;
-use blz_bytes::{u8_at, uleb_at};
+use blz_bytes::{Room, u8_at, uleb_at};
 use blz_constants::dwarf;
 use blz_error::Result;
-use blz_info::{Section, Sections, UnitHeader, address_at};
+use blz_info::{Section, Sections, UnitHeader, address_at, invalid};
 use blz_ranges::Span;
+
+/// What a range that is kept takes of a file's room: its own words, its owner and its place in an index.
+const RANGE_WORDS: u64 = 10;
 
 /// An entry of a list of ranges.
 #[derive(Clone, Copy)]
@@ -29,7 +34,7 @@ pub(crate) enum RangeEntry {
 }
 
 /// The greatest address.
-pub fn greatest(address_size: u8) -> u64
+pub(crate) fn greatest(address_size: u8) -> u64
     ensures value { result ≡ greatest address_size }
     ensures above { 0 < result }
 {
@@ -63,7 +68,7 @@ fn live(version: u16, address_size: u8, begin: u128, end: u128) -> Option<Span>
     })
 }
 
-pub(crate) fn spelled(version: u16, address_size: u8, base: u64, entry: RangeEntry) -> Option<Span>
+fn spelled(version: u16, address_size: u8, base: u64, entry: RangeEntry) -> Option<Span>
     ensures { result ≡ spelled version address_size base entry }
 {
     match entry {
@@ -93,7 +98,7 @@ pub(crate) fn spelled(version: u16, address_size: u8, base: u64, entry: RangeEnt
     }
 }
 
-pub(crate) fn base_behind(base: u64, entry: RangeEntry) -> u64
+fn base_behind(base: u64, entry: RangeEntry) -> u64
     ensures { result ≡ base_behind base entry }
 {
     match entry {
@@ -102,20 +107,11 @@ pub(crate) fn base_behind(base: u64, entry: RangeEntry) -> u64
     }
 }
 
-pub(crate) fn is_end(entry: RangeEntry) -> bool
+fn is_end(entry: RangeEntry) -> bool
     ensures { result ≡ is_end entry }
 {
     match entry {
         RangeEntry::End => true,
-        _ => false,
-    }
-}
-
-pub(crate) fn counts_from_base(entry: RangeEntry) -> bool
-    ensures { result ≡ counts_from_base entry }
-{
-    match entry {
-        RangeEntry::Offsets(..) => true,
         _ => false,
     }
 }
@@ -258,7 +254,7 @@ fn coded_entry_at(
 }
 
 #[tactic(auto, unfolding(crate::specs::RangeLists::range_entry_at))]
-pub(crate) fn range_entry_at(
+fn range_entry_at(
     sections: &Sections<'_, '_>,
     header: &UnitHeader,
     root: &UnitRoot,
@@ -273,7 +269,7 @@ pub(crate) fn range_entry_at(
     }
 }
 
-pub(crate) fn list_length(sections: &Sections<'_, '_>, header: &UnitHeader) -> usize
+fn list_length(sections: &Sections<'_, '_>, header: &UnitHeader) -> usize
     ensures value { result ≡ list_length sections.now header.now }
     ensures small { result < 2 ^ 63 }
 {
@@ -284,13 +280,52 @@ pub(crate) fn list_length(sections: &Sections<'_, '_>, header: &UnitHeader) -> u
     }
 }
 
-pub(crate) fn put(out: &mut Vec<Span>, span: Option<Span>) -> Result<()>
+pub(crate) fn put(room: &mut Room, out: &mut Vec<Span>, span: Option<Span>) -> Result<()>
     ensures ok { OnOk result (out.new.items ≡ out.old.items ++ option_to_list span) }
     ensures err { OnErr result (out.new.items ≡ out.old.items) }
     ensures memory { IfErr result (λ e. e.kind ≡ OutOfMemory) }
 {
     if let Some(span) = span {
+        room.take(RANGE_WORDS)?;
         out.push(span)?;
     }
     Ok(())
+}
+
+/// Appends the ranges of a list, whose entries take of the room a word each. After an error more may stand behind what was
+/// there.
+pub(crate) fn append_list(
+    room: &mut Room,
+    sections: &Sections<'_, '_>,
+    header: &UnitHeader,
+    root: &UnitRoot,
+    offset: u64,
+    out: &mut Vec<Span>,
+) -> Result<()>
+    ensures value { MatchResult result (λ _. spans_from out.old.items sections.now header.now root.now offset ≡ Some out.new.items) (λ e. Fails e.kind (or_invalid (spans_from out.old.items sections.now header.now root.now offset))) }
+    ensures front { take (vec_len out.old) out.new.items ≡ out.old.items }
+{
+    let end = list_length(sections, header);
+    let mut base = root.low_pc;
+    let mut place = offset as usize;
+    for _ in 0..end + 1 {
+        if place == end {
+            return Ok(());
+        }
+        room.take(1)?;
+        let Some((entry, next)) = range_entry_at(sections, header, root, place) else {
+            return Err(invalid("an entry of a list of ranges is not whole or not known"));
+        };
+        if is_end(entry) {
+            return Ok(());
+        }
+        put(
+            room,
+            out,
+            spelled(header.version, header.address_size, base, entry),
+        )?;
+        base = base_behind(base, entry);
+        place = next;
+    }
+    Err(invalid("a list of ranges does not end"))
 }

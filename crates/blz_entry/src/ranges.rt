@@ -5,9 +5,9 @@ ghost use Rattle.blz_info.specs.Marks.{or_invalid};
 ghost use Rattle.blz_entry.specs.RangeLists.{range_offset, held_offset, answered_offset, with_low, with_high, range_step, sized, bounds_of, not_empty, ranges_of, joined, Appends};
 
 use crate::addresses::value_address;
-use crate::range_list::put;
-use crate::range_tail::append_list;
+use crate::range_list::{append_list, put};
 use crate::root::UnitRoot;
+use blz_bytes::Room;
 use blz_constants::dwarf;
 use blz_error::Result;
 use blz_info::{AttrValue, Sections, UnitHeader, indexed_offset, invalid};
@@ -209,6 +209,7 @@ impl RangeAttributes {
     // the ranges behind what is there; after an error more may stand there
     fn append(
         &self,
+        room: &mut Room,
         sections: &Sections<'_, '_>,
         header: &UnitHeader,
         root: &UnitRoot,
@@ -218,8 +219,8 @@ impl RangeAttributes {
         ensures front { take (vec_len out.old) out.new.items ≡ out.old.items }
     {
         match self.ranges_offset {
-            Some(offset) => append_list(sections, header, root, offset, out),
-            None => put(out, not_empty(self.bounds())),
+            Some(offset) => append_list(room, sections, header, root, offset, out),
+            None => put(room, out, not_empty(self.bounds())),
         }
     }
 
@@ -235,8 +236,22 @@ impl RangeAttributes {
     ) -> Result<bool>
         ensures { Appends (ranges_of self.now sections.now header.now root.now) out.old.items result out.new.items }
     {
+        self.append_ranges(&mut Room::endless(), sections, header, root, out)
+    }
+
+    /// The same, where what is read and kept takes of the room.
+    pub fn append_ranges(
+        &self,
+        room: &mut Room,
+        sections: &Sections<'_, '_>,
+        header: &UnitHeader,
+        root: &UnitRoot,
+        out: &mut Vec<Span>,
+    ) -> Result<bool>
+        ensures { Appends (ranges_of self.now sections.now header.now root.now) out.old.items result out.new.items }
+    {
         let before = out.len();
-        match self.append(sections, header, root, out) {
+        match self.append(room, sections, header, root, out) {
             Ok(()) => Ok(out.len() > before),
             Err(fault) => {
                 out.truncate(before);

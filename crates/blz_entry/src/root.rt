@@ -120,11 +120,7 @@ fn noted(values: RootValues, name: u64, value: AttrValue) -> RootValues
 fn noted_over(mut entries: Entries<'_, '_>) -> Option<RootValues>
     ensures { result ≡ over_pending noted_step nothing_noted entries.entry }
 {
-    // of languages the first counts; where it takes no bytes, the abbreviation tells it, and else it is read
-    let mut values = RootValues {
-        language: entries.bare_language(),
-        ..nothing_noted()
-    };
+    let mut values = nothing_noted();
     loop {
         let (name, value) = match entries.next_wanted() {
             Ok(Some(found)) => found,

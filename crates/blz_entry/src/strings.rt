@@ -106,3 +106,22 @@ pub fn supplementary_string(strings: &Section<'_, '_>, offset: u64) -> Option<St
 {
     text_in(StrPart::SupStrings, strings, offset)
 }
+
+/// The bytes of a text that take a word of a file's room, where its end is looked for.
+const BYTES_A_WORD: usize = 64;
+
+/// What looking for the end of the string of a value took of a file's room, in words: by the string that was found, and by
+/// its whole section where none was.
+pub fn search_words(sections: &Sections<'_, '_>, value: AttrValue, found: Option<StrPlace>) -> u64 {
+    let bytes = match (found, value) {
+        (Some(place), _) => place.len,
+        (None, AttrValue::StrRef(_) | AttrValue::StrIndex(_)) => sections.strings.bytes.len(),
+        (None, AttrValue::LineStrRef(_)) => sections.line_str.bytes.len(),
+        (None, AttrValue::SupStr(_)) => match &sections.sup_strings {
+            Some(strings) => strings.bytes.len(),
+            None => 0,
+        },
+        (None, _) => 0,
+    };
+    (bytes / BYTES_A_WORD) as u64
+}

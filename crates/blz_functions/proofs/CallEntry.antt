@@ -31,12 +31,11 @@ pub record Begins (u : UnitParts) (place : ℕ) (e : Walk) : Type 0 where
   pub pending : e.pending ≡ []
   pub source_is : e.source ≡ source_in u
   pub place_is : e.place ≡ place
-  pub depth_is : e.depth ≡ 0
 
 begins_by : (u : UnitParts) (place : ℕ) (e : Walk) (b : Bool) → is_among u place ≡ b → cond b (Good (walk_from (source_in u) place)) (Broken InvalidDwarf) ≡ Good e → Begins u place e
 begins_by u place e true is h =
     let w : walk_from (source_in u) place ≡ e = cc in
-    record { among = is; pending = sym (ap (λ (x : Walk). x.pending) w); source_is = sym (ap (λ (x : Walk). x.source) w); place_is = sym (ap (λ (x : Walk). x.place) w); depth_is = sym (ap (λ (x : Walk). x.depth) w) }
+    record { among = is; pending = sym (ap (λ (x : Walk). x.pending) w); source_is = sym (ap (λ (x : Walk). x.source) w); place_is = sym (ap (λ (x : Walk). x.place) w) }
 begins_by u place e false is h = absurd cc
 
 pub begins : (u : UnitParts) (place : ℕ) (e : Walk) → opened_at u place ≡ Good e → Begins u place e

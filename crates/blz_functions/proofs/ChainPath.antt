@@ -10,9 +10,7 @@ use Rattle.blz_ranges.specs.Best.{passes, IsBest}
 use Rattle.blz_ranges.specs.Groups.{group_is, in_group, spans_of}
 use Rattle.blz_ranges.specs.Owned.{Owned, items_of}
 use Rattle.blz_ranges.proofs.BestOf.{best_is_best}
-use Rattle.blz_functions.specs.AskedCalls.{AnswersAsTree, AskedCalls, asked_chain, by_all_ranges}
-use Rattle.blz_functions.specs.CallTree.{CallLists, IsTreeOf}
-use Rattle.blz_functions.specs.Chain.{TreeCall, call_range, ranges_of, owner_found, at_depth, with_next, picked, IsTree, CoveredBy, IsNested, Listed, IsPath}
+use Rattle.blz_functions.specs.Chain.{TreeCall, call_range, ranges_of, owner_found, at_depth, with_next, picked, chain, IsTree, CoveredBy, IsNested, Listed, IsPath}
 
 -- ---- what is picked, for any pick that finds a covering call of each depth
 
@@ -235,9 +233,10 @@ picks calls a depth (Some p) h =
 picked_by_best : (calls : List TreeCall) (a depth : ℕ) → IfPicked calls a depth (at_depth (ranges_of 0 calls) a depth)
 picked_by_best calls a depth = picks calls a depth _ (best_is_best (in_group (items_of (ranges_of 0 calls)) depth (passes a None)) (spans_of (items_of (ranges_of 0 calls))))
 
-chain_path : (calls : List TreeCall) (a : ℕ) (pick : ℕ → Option ℕ) → ((depth : ℕ) → pick depth ≡ at_depth (ranges_of 0 calls) a depth) → IsTree calls → IsNested calls → IsPath calls a (picked pick (length calls) 0)
-chain_path calls a pick same tree nested =
-    let picks : ((k : ℕ) → IfPicked calls a k (pick k)) = λ k. subst (λ (o : Option ℕ). IfPicked calls a k o) (sym (same k)) (picked_by_best calls a k) in
+pub chain_path : (calls : List TreeCall) (a : ℕ) → IsTree calls → IsNested calls → IsPath calls a (chain (ranges_of 0 calls) (length calls) a)
+chain_path calls a tree nested =
+    let pick : ℕ → Option ℕ = at_depth (ranges_of 0 calls) a in
+    let picks : ((k : ℕ) → IfPicked calls a k (pick k)) = picked_by_best calls a in
     record {
       cover = λ i c is. (picked_at calls a pick picks (length calls) 0 i c is).covered;
       all = λ c h.
@@ -256,10 +255,6 @@ chain_path calls a pick same tree nested =
           record { call = p.call; is = p.is; parent_is = p.parent_is ∙ ap (λ (n : ℕ). Some n) e };
     }
 
--- the same for calls that answer as the tree
-pub chain_is_path : (asked : AskedCalls) (a : ℕ) (list : List ℕ) (calls : List TreeCall) → list ≡ asked_chain asked a → AnswersAsTree asked calls → IsNested calls → IsPath calls a list
-chain_is_path asked a list calls e answers nested = rw (e, answers.count) (chain_path calls a (asked.at a) (answers.at a) answers.is_tree nested)
-
--- the calls that a tree makes answer as it
-pub tree_answers : (lists : CallLists) (tree : List TreeCall) → IsTreeOf lists tree → AnswersAsTree (by_all_ranges lists) tree
-tree_answers lists tree h = record { at = λ addr depth. ap (λ (r : List (Owned Grouped)). at_depth r addr depth) h.ranges; count = h.count; is_tree = h.is_tree }
+-- the same for the ranges and the number of calls that are kept
+pub chain_is_path : (ranges : List (Owned Grouped)) (n a : ℕ) (list : List ℕ) (calls : List TreeCall) → list ≡ chain ranges n a → ranges ≡ ranges_of 0 calls → n ≡ length calls → IsTree calls → IsNested calls → IsPath calls a list
+chain_is_path ranges n a list calls e f g tree nested = rw (e, f, g) (chain_path calls a tree nested)

@@ -5,25 +5,22 @@ use Rattle.blz_model.specs.Reads.{Read, ◌>>=◌}
 use Rattle.blz_info.specs.Attributes.{attribute, attributes}
 use Rattle.blz_entry.specs.Folds.{fold_maybe}
 use Rattle.blz_entry.specs.RangeLists.{range_step}
-use Rattle.blz_info.specs.Wanted.{Wanted, any_alike, tells, wanted_in, wanted_of}
+use Rattle.blz_info.specs.Wanted.{Wanted, is_wanted, wanted_in, wanted_of}
 use Rattle.blz_entry.specs.declared.ranges.RangeAttributes.{RangeAttributes}
 use Rattle.blz_info.specs.Walks.{Source, Walk}
 use Rattle.blz_model.specs.LebNumbers.{uleb}
 use Rattle.blz_info.proofs.Ahead.{Past, uleb_past}
-use Rattle.blz_info.proofs.Together.{some_is}
-use Rattle.blz_info.proofs.ValueSteps.{look}
-use Rattle.blz_info.proofs.BareValues.{IsBare, is_bare, bare_read, untold, first_or_later}
-use Rattle.blz_entry.proofs.Settled.{untold_step}
+use Rattle.blz_entry.proofs.RootSteps.{apart}
 use Rattle.std.proofs.lemmas.Bool.{cases_Bool, eqb-true}
 use Rattle.blz_info.specs.declared.abbreviations.AttrSpec.{AttrSpec}
 use Rattle.blz_info.specs.declared.text.StrPlace.{StrPlace}
 use Rattle.blz_info.specs.declared.value.AttrValue.{AttrValue}
+use Rattle.blz_functions.specs.declared.description.CallSite.{CallSite}
 use Rattle.blz_functions.specs.declared.description.Description.{Description}
 use Rattle.blz_functions.specs.declared.referred.Visited.TheVariants.{Named}
 use Rattle.blz_functions.specs.Describing.{Refer, tells_range, tells_site, with_call_site, description_step, described}
 use Rattle.blz_functions.specs.Leaves.{UnitParts, range_step_in, source_in}
-use Rattle.blz_functions.specs.Naming.{is_reference, unless_linked, name_step, visit_from, visit_end, linkage_of, name_behind, link_behind}
-use Rattle.blz_functions.proofs.IgnoredAttributes.{LeadsNowhere, IsOther, description_looks, is_other, language_is_other, language_skips, other_linkage, other_behind, other_link, bare_linkage, bare_behind}
+use Rattle.blz_functions.specs.Naming.{name_step, visit_from, visit_end, linkage_of, name_behind, link_behind}
 
 -- what stands at a place as the value of an attribute
 abbrev pub value_at : UnitParts → AttrSpec → ℕ → Option (AttrValue × ℕ)
@@ -76,7 +73,72 @@ pub visit_unread : (u : UnitParts) (spec : AttrSpec) (rest : List AttrSpec) (nam
 unfolding visit_from
 visit_unread u spec rest name link at read = rw read refl
 
+-- ---- an attribute that is not wanted changes nothing
+
+-- a name that is none of those that are wanted
+record IsOther (n : ℕ) : Type 0 where
+  name : eqb n 0x03 ≡ false
+  low : eqb n 0x11 ≡ false
+  high : eqb n 0x12 ≡ false
+  origin : eqb n 0x31 ≡ false
+  specification : eqb n 0x47 ≡ false
+  ranges : eqb n 0x55 ≡ false
+  column : eqb n 0x57 ≡ false
+  file : eqb n 0x58 ≡ false
+  line : eqb n 0x59 ≡ false
+  linkage : eqb n 0x6e ≡ false
+  mips : eqb n 0x2007 ≡ false
+
+is_other : (n : ℕ) → is_wanted n ≡ false → IsOther n
+unfolding is_wanted
+is_other n h = record {
+  name = apart n 0x03 h refl;
+  low = apart n 0x11 h refl;
+  high = apart n 0x12 h refl;
+  origin = apart n 0x31 h refl;
+  specification = apart n 0x47 h refl;
+  ranges = apart n 0x55 h refl;
+  column = apart n 0x57 h refl;
+  file = apart n 0x58 h refl;
+  line = apart n 0x59 h refl;
+  linkage = apart n 0x6e h refl;
+  mips = apart n 0x2007 h refl;
+}
+
+other_name : (refer : Refer) (u : UnitParts) (name : Option StrPlace) (n : ℕ) (v : AttrValue) → IsOther n → name_step refer u name (n, v) ≡ Some name
+unfolding name_step
+other_name refer u name n v h = rw (h.linkage, h.mips, h.name, h.origin, h.specification) refl
+
+other_ranges : (u : UnitParts) (r : RangeAttributes) (n : ℕ) (v : AttrValue) → IsOther n → range_step_in u r (n, v) ≡ Some r
+unfolding range_step_in range_step
+other_ranges u r n v h = rw (h.low, h.high, h.ranges) refl
+
+other_site : (version : ℕ) (s : CallSite) (n : ℕ) (v : AttrValue) → IsOther n → with_call_site version s (n, v) ≡ s
+other_site version s n v h = rw (h.file, h.line, h.column) refl
+
+other_step : (refer : Refer) (u : UnitParts) (d : Description) (n : ℕ) (v : AttrValue) → is_wanted n ≡ false → description_step refer u d (n, v) ≡ Some d
+unfolding description_step
+other_step refer u d n v h =
+    let other = is_other n h in
+    rw (other_name refer u d.name n v other, other_ranges u d.ranges n v other, other_site u.header.version d.site n v other) refl
+
+other_linkage : (u : UnitParts) (n : ℕ) (v : AttrValue) → IsOther n → linkage_of u n v ≡ None
+other_linkage u n v h = rw (h.linkage, h.mips) refl
+
+other_behind : (u : UnitParts) (n : ℕ) (v : AttrValue) (old : Option StrPlace) → IsOther n → name_behind u n v old ≡ old
+other_behind u n v old h = rw h.name refl
+
+other_link : (n : ℕ) (v : AttrValue) (old : Option AttrValue) → IsOther n → link_behind n v old ≡ old
+other_link n v old h = rw (h.origin, h.specification) refl
+
 -- ---- up to the next attribute that is wanted
+
+look : {A : Type 0} (o : Option A) → (o ≡ None) ⊎ ((x : A) × (o ≡ Some x))
+look None = inl refl
+look (Some x) = inr (x, refl)
+
+some_is : {A : Type 0} {x y : A} → Some x ≡ Some y → x ≡ y
+some_is h = cc
 
 -- what two of them that are one have in common
 same_met : {x y : Option (ℕ × AttrValue)} {xs ys : List AttrSpec} {m n : ℕ} → ◌≡◌ {A = Option Wanted} (Some (x, (xs, m))) (Some (y, (ys, n))) → (x ≡ y) × (xs ≡ ys) × (m ≡ n)
@@ -93,24 +155,12 @@ not_met h = cc
 abbrev pub wanted_at : UnitParts → List AttrSpec → ℕ → Option Wanted
 wanted_at u specs at = wanted_in specs (source_in u).encoding (source_in u).base (source_in u).section at
 
-untold_more : (step : Description → ℕ × AttrValue → Option Description) (d : Description) (a : ℕ × AttrValue) (o : Option (List (ℕ × AttrValue) × ℕ)) → ((r : List (ℕ × AttrValue) × ℕ) → o ≡ Some r → fold_maybe step d (a ∷ r.0) ≡ fold_maybe step d r.0) → ((o >>= in_front a) >>= folds step d) ≡ (o >>= folds step d)
-untold_more step d a None h = refl
-untold_more step d a (Some r) h = ap (λ (o : Option Description). o >>= at_place r.1) (h r refl)
-
-described_past : (refer : Refer) (u : UnitParts) → LeadsNowhere refer → (d : Description) (a : AttrSpec) (others : List AttrSpec) (at next : ℕ) (v : AttrValue) → value_at u a at ≡ Some (v, next) → tells a others ≡ false → described refer u d (a ∷ others) at ≡ described refer u d others next
-unfolding described attributes
-described_past refer u nowhere d a others at next v read h =
-    let e = (source_in u).encoding in
-    let base = (source_in u).base in
-    let s = (source_in u).section in
-    rw read (untold_more (description_step refer u) d (a.name, v) (attributes others e base s next) (λ r reads. untold_step (description_step refer u) (description_looks refer u nowhere) d a others e base s at next v r (language_skips refer u d a) read h reads))
-
-pub described_more : (refer : Refer) (u : UnitParts) → LeadsNowhere refer → (d e : Description) (specs rest : List AttrSpec) (at next n : ℕ) (v : AttrValue) → wanted_at u specs at ≡ Some (Some (n, v), (rest, next)) → description_step refer u d (n, v) ≡ Some e → described refer u d specs at ≡ described refer u e rest next
+pub described_more : (refer : Refer) (u : UnitParts) (d e : Description) (specs rest : List AttrSpec) (at next n : ℕ) (v : AttrValue) → wanted_at u specs at ≡ Some (Some (n, v), (rest, next)) → description_step refer u d (n, v) ≡ Some e → described refer u d specs at ≡ described refer u e rest next
 unfolding wanted_in
-described_more refer u nowhere d e [] rest at next n v h step = absurd (not_met (same_met h).0)
-described_more refer u nowhere d e (a ∷ others) rest at next n v h step = elim (look (value_at u a at)) [
+described_more refer u d e [] rest at next n v h step = absurd (not_met (same_met h).0)
+described_more refer u d e (a ∷ others) rest at next n v h step = elim (look (value_at u a at)) [
   | inl none ↦ absurd (let k = rw none at h in cc)
-  | inr read ↦ elim (cases_Bool (tells a others)) [
+  | inr read ↦ elim (cases_Bool (is_wanted a.name)) [
     | inl wanted ↦
         let k = rw (read.1, wanted) at h in
         let met = same_met k in
@@ -120,16 +170,16 @@ described_more refer u nowhere d e (a ∷ others) rest at next n v h step = elim
         described_on refer u d e a others at read.0.1 read.0.0 read.1 is ∙ rw (met.1, met.2) refl
     | inr other ↦
         let k = rw (read.1, other) at h in
-        described_past refer u nowhere d a others at read.0.1 read.0.0 read.1 other ∙ described_more refer u nowhere d e others rest read.0.1 next n v k step
+        described_on refer u d d a others at read.0.1 read.0.0 read.1 (other_step refer u d a.name read.0.0 other) ∙ described_more refer u d e others rest read.0.1 next n v k step
   ]
 ]
 
-pub described_fails : (refer : Refer) (u : UnitParts) → LeadsNowhere refer → (d : Description) (specs rest : List AttrSpec) (at next n : ℕ) (v : AttrValue) → wanted_at u specs at ≡ Some (Some (n, v), (rest, next)) → description_step refer u d (n, v) ≡ None → described refer u d specs at ≡ None
+pub described_fails : (refer : Refer) (u : UnitParts) (d : Description) (specs rest : List AttrSpec) (at next n : ℕ) (v : AttrValue) → wanted_at u specs at ≡ Some (Some (n, v), (rest, next)) → description_step refer u d (n, v) ≡ None → described refer u d specs at ≡ None
 unfolding wanted_in
-described_fails refer u nowhere d [] rest at next n v h step = absurd (not_met (same_met h).0)
-described_fails refer u nowhere d (a ∷ others) rest at next n v h step = elim (look (value_at u a at)) [
+described_fails refer u d [] rest at next n v h step = absurd (not_met (same_met h).0)
+described_fails refer u d (a ∷ others) rest at next n v h step = elim (look (value_at u a at)) [
   | inl none ↦ absurd (let k = rw none at h in cc)
-  | inr read ↦ elim (cases_Bool (tells a others)) [
+  | inr read ↦ elim (cases_Bool (is_wanted a.name)) [
     | inl wanted ↦
         let k = rw (read.1, wanted) at h in
         let met = same_met k in
@@ -139,83 +189,49 @@ described_fails refer u nowhere d (a ∷ others) rest at next n v h step = elim 
         described_broken refer u d a others at read.0.1 read.0.0 read.1 is
     | inr other ↦
         let k = rw (read.1, other) at h in
-        described_past refer u nowhere d a others at read.0.1 read.0.0 read.1 other ∙ described_fails refer u nowhere d others rest read.0.1 next n v k step
+        described_on refer u d d a others at read.0.1 read.0.0 read.1 (other_step refer u d a.name read.0.0 other) ∙ described_fails refer u d others rest read.0.1 next n v k step
   ]
 ]
 
-pub described_none : (refer : Refer) (u : UnitParts) → LeadsNowhere refer → (d : Description) (specs : List AttrSpec) (at : ℕ) → wanted_at u specs at ≡ None → described refer u d specs at ≡ None
+pub described_none : (refer : Refer) (u : UnitParts) (d : Description) (specs : List AttrSpec) (at : ℕ) → wanted_at u specs at ≡ None → described refer u d specs at ≡ None
 unfolding wanted_in
-described_none refer u nowhere d [] at h = absurd cc
-described_none refer u nowhere d (a ∷ others) at h = elim (look (value_at u a at)) [
+described_none refer u d [] at h = absurd cc
+described_none refer u d (a ∷ others) at h = elim (look (value_at u a at)) [
   | inl none ↦ described_unread refer u d a others at none
-  | inr read ↦ elim (cases_Bool (tells a others)) [
+  | inr read ↦ elim (cases_Bool (is_wanted a.name)) [
     | inl wanted ↦ absurd (let k = rw (read.1, wanted) at h in cc)
     | inr other ↦
         let k = rw (read.1, other) at h in
-        described_past refer u nowhere d a others at read.0.1 read.0.0 read.1 other ∙ described_none refer u nowhere d others read.0.1 k
+        described_on refer u d d a others at read.0.1 read.0.0 read.1 (other_step refer u d a.name read.0.0 other) ∙ described_none refer u d others read.0.1 k
   ]
 ]
 
-pub described_over : (refer : Refer) (u : UnitParts) → LeadsNowhere refer → (d : Description) (specs rest : List AttrSpec) (at next : ℕ) → wanted_at u specs at ≡ Some (None, (rest, next)) → described refer u d specs at ≡ Some (d, next)
+pub described_over : (refer : Refer) (u : UnitParts) (d : Description) (specs rest : List AttrSpec) (at next : ℕ) → wanted_at u specs at ≡ Some (None, (rest, next)) → described refer u d specs at ≡ Some (d, next)
 unfolding wanted_in
-described_over refer u nowhere d [] rest at next h = let same : at ≡ next = (same_met h).2 in rw same (described_end refer u d next)
-described_over refer u nowhere d (a ∷ others) rest at next h = elim (look (value_at u a at)) [
+described_over refer u d [] rest at next h = let same : at ≡ next = (same_met h).2 in rw same (described_end refer u d next)
+described_over refer u d (a ∷ others) rest at next h = elim (look (value_at u a at)) [
   | inl none ↦ absurd (let k = rw none at h in cc)
-  | inr read ↦ elim (cases_Bool (tells a others)) [
+  | inr read ↦ elim (cases_Bool (is_wanted a.name)) [
     | inl wanted ↦ absurd (let k = rw (read.1, wanted) at h in not_met (sym (same_met k).0))
     | inr other ↦
         let k = rw (read.1, other) at h in
-        described_past refer u nowhere d a others at read.0.1 read.0.0 read.1 other ∙ described_over refer u nowhere d others rest read.0.1 next k
+        described_on refer u d d a others at read.0.1 read.0.0 read.1 (other_step refer u d a.name read.0.0 other) ∙ described_over refer u d others rest read.0.1 next k
   ]
 ]
 
 -- the same for an entry that is referred to
 
--- the last of some references that take no bytes decides
-visit_settled : (u : UnitParts) (n : ℕ) (v : AttrValue) → is_reference n ≡ true → (specs : List AttrSpec) (name : Option StrPlace) (first second : Option AttrValue) (at : ℕ) → any_alike n v specs ≡ true → visit_from u specs name first at ≡ visit_from u specs name second at
-unfolding visit_from
-visit_settled u n v h [] name first second at later = absurd cc
-visit_settled u n v h (b ∷ rest) name first second at later = elim (look (value_at u b at)) [
-  | inl none ↦ rw none refl
-  | inr read ↦ elim (first_or_later n v b rest later) [
-    | inl alike ↦ let reference : is_reference b.name ≡ true = ap is_reference alike.name ∙ h in rw (read.1, reference) refl
-    | inr more ↦
-        let x = read.0.0 in
-        rw read.1 (ap (unless_linked (linkage_of u b.name x)) (visit_settled u n v h rest (name_behind u b.name x name) (link_behind b.name x first) (link_behind b.name x second) read.0.1 more))
-  ]
-]
-
-visit_again : (u : UnitParts) (a : AttrSpec) (others : List AttrSpec) (name : Option StrPlace) (link : Option AttrValue) (next : ℕ) (v : AttrValue) → any_alike a.name v others ≡ true → visit_from u others name (link_behind a.name v link) next ≡ visit_from u others name link next
-visit_again u a others name link next v later = elim (cases_Bool (is_reference a.name)) [
-  | inl reference ↦ visit_settled u a.name v reference others name (link_behind a.name v link) link next later
-  | inr other ↦ rw other refl
-]
-
-visit_other : (u : UnitParts) (a : AttrSpec) (others : List AttrSpec) (name : Option StrPlace) (link : Option AttrValue) (at next : ℕ) (v : AttrValue) → value_at u a at ≡ Some (v, next) → IsOther a.name → visit_from u (a ∷ others) name link at ≡ visit_from u others name link next
-visit_other u a others name link at next v read other =
+visit_past : (u : UnitParts) (a : AttrSpec) (others : List AttrSpec) (name : Option StrPlace) (link : Option AttrValue) (at next : ℕ) (v : AttrValue) → value_at u a at ≡ Some (v, next) → is_wanted a.name ≡ false → visit_from u (a ∷ others) name link at ≡ visit_from u others name link next
+visit_past u a others name link at next v read h =
+    let other = is_other a.name h in
     visit_on u a others name link at next v read (other_linkage u a.name v other) ∙ rw (other_behind u a.name v name other, other_link a.name v link other) refl
-
-visit_past : (u : UnitParts) (a : AttrSpec) (others : List AttrSpec) (name : Option StrPlace) (link : Option AttrValue) (at next : ℕ) (v : AttrValue) → value_at u a at ≡ Some (v, next) → tells a others ≡ false → visit_from u (a ∷ others) name link at ≡ visit_from u others name link next
-visit_past u a others name link at next v read h = elim (untold a others h) [
-  | inl unwanted ↦ visit_other u a others name link at next v read (is_other a.name unwanted)
-  | inr elsewhere ↦ elim elsewhere.by [
-    | inl language ↦ visit_other u a others name link at next v read (subst IsOther (sym (eqb-true a.name 0x13 language)) language_is_other)
-    | inr again ↦
-        let value : v ≡ elsewhere.value = ap (λ (r : AttrValue × ℕ). r.0) (some_is (sym read ∙ bare_read a elsewhere.value (source_in u).encoding (source_in u).base (source_in u).section at elsewhere.bare)) in
-        let bare : IsBare v = subst IsBare (sym value) (is_bare a elsewhere.value elsewhere.bare) in
-        let later : any_alike a.name v others ≡ true = ap (λ (w : AttrValue). any_alike a.name w others) value ∙ again.1 in
-        visit_on u a others name link at next v read (bare_linkage u a.name v bare)
-        ∙ ap (λ (o : Option StrPlace). visit_from u others o (link_behind a.name v link) next) (bare_behind u a.name v name bare)
-        ∙ visit_again u a others name link next v later
-  ]
-]
 
 pub visit_more : (u : UnitParts) (specs rest : List AttrSpec) (name : Option StrPlace) (link : Option AttrValue) (at next n : ℕ) (v : AttrValue) → wanted_at u specs at ≡ Some (Some (n, v), (rest, next)) → linkage_of u n v ≡ None → visit_from u specs name link at ≡ visit_from u rest (name_behind u n v name) (link_behind n v link) next
 unfolding wanted_in
 visit_more u [] rest name link at next n v h none = absurd (not_met (same_met h).0)
 visit_more u (a ∷ others) rest name link at next n v h none = elim (look (value_at u a at)) [
   | inl unread ↦ absurd (let k = rw unread at h in cc)
-  | inr read ↦ elim (cases_Bool (tells a others)) [
+  | inr read ↦ elim (cases_Bool (is_wanted a.name)) [
     | inl wanted ↦
         let k = rw (read.1, wanted) at h in
         let met = same_met k in
@@ -234,7 +250,7 @@ unfolding wanted_in
 visit_found u [] rest name link at next n v found h is = absurd (not_met (same_met h).0)
 visit_found u (a ∷ others) rest name link at next n v found h is = elim (look (value_at u a at)) [
   | inl unread ↦ absurd (let k = rw unread at h in cc)
-  | inr read ↦ elim (cases_Bool (tells a others)) [
+  | inr read ↦ elim (cases_Bool (is_wanted a.name)) [
     | inl wanted ↦
         let k = rw (read.1, wanted) at h in
         let met = same_met k in
@@ -253,7 +269,7 @@ unfolding wanted_in
 visit_none u [] name link at h = absurd cc
 visit_none u (a ∷ others) name link at h = elim (look (value_at u a at)) [
   | inl unread ↦ visit_unread u a others name link at unread
-  | inr read ↦ elim (cases_Bool (tells a others)) [
+  | inr read ↦ elim (cases_Bool (is_wanted a.name)) [
     | inl wanted ↦ absurd (let k = rw (read.1, wanted) at h in cc)
     | inr other ↦
         let k = rw (read.1, other) at h in
@@ -270,7 +286,7 @@ unfolding wanted_in
 visit_over u [] rest name link at next h = visit_last u name link at
 visit_over u (a ∷ others) rest name link at next h = elim (look (value_at u a at)) [
   | inl unread ↦ absurd (let k = rw unread at h in cc)
-  | inr read ↦ elim (cases_Bool (tells a others)) [
+  | inr read ↦ elim (cases_Bool (is_wanted a.name)) [
     | inl wanted ↦ absurd (let k = rw (read.1, wanted) at h in not_met (sym (same_met k).0))
     | inr other ↦
         let k = rw (read.1, other) at h in

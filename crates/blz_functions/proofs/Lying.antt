@@ -5,10 +5,8 @@ use Rattle.std.specs.Prelude.{if◌then◌else◌, ◌==◌}
 use Rattle.blz_model.specs.Reads.{◌>>=◌}
 use Rattle.blz_entry.specs.AddressIndexes.{address_of, value_address}
 use Rattle.blz_entry.specs.RangeLists.{range_offset, range_step, range_entry_at, coded_entry_at, coded_entry, base_of_index, both_by_index, begin_by_index, is_end, base_behind, spelled, list_length, spans_in, spans_from, ranges_by, ranges_of}
-use Rattle.blz_entry.specs.RangeTails.{entry_counts, tail_step}
 use Rattle.blz_entry.specs.StringPlaces.{string_of, indexed_string, sup_string}
 use Rattle.blz_entry.specs.declared.ranges.RangeAttributes.{RangeAttributes}
-use Rattle.blz_entry.specs.declared.range_tail.RangeTail.{RangeTail}
 use Rattle.blz_entry.specs.declared.root.UnitRoot.{UnitRoot}
 use Rattle.blz_info.specs.declared.section.Section.{Section}
 use Rattle.blz_info.specs.declared.section.Sections.{Sections}
@@ -51,11 +49,3 @@ list_lying s h root r (Some offset) = spans_lying s h root (list_length s h + 1)
 pub ranges_lying : (s : Sections) (h : UnitHeader) (root : UnitRoot) (r : RangeAttributes) → ranges_of r s h root ≡ ranges_of r (lying (sections_view s)) h root
 unfolding ranges_of
 ranges_lying s h root r = list_lying s h root r r.ranges_offset
-
-pub entry_lying : (s : Sections) (h : UnitHeader) (root : UnitRoot) (t : RangeTail) → tail_step s h root t ≡ tail_step (lying (sections_view s)) h root t
-unfolding tail_step range_entry_at coded_entry_at coded_entry base_of_index both_by_index begin_by_index address_of
-entry_lying s h root t = refl
-
-pub counts_lying : (s : Sections) (h : UnitHeader) (root : UnitRoot) (place : ℕ) → entry_counts s h root place ≡ entry_counts (lying (sections_view s)) h root place
-unfolding entry_counts range_entry_at coded_entry_at coded_entry base_of_index both_by_index begin_by_index address_of
-counts_lying s h root place = refl

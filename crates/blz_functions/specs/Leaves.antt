@@ -1,13 +1,11 @@
 -- What is read from the sections of a file, without where they lie in memory.
-use Rattle.std.specs.Prelude.{ℕ, Bool, List, Option, option_map}
+use Rattle.std.specs.Prelude.{ℕ, List, Option, option_map}
 use Rattle.blz_info.specs.Abbrevs.{Abbrev}
 use Rattle.blz_info.specs.Contents.{Contents}
 use Rattle.blz_entry.specs.RangeLists.{range_step, ranges_of}
-use Rattle.blz_entry.specs.RangeTails.{entry_counts, tail_spans, tail_step}
 use Rattle.blz_entry.specs.StringPlaces.{string_of}
 use Rattle.blz_info.specs.Walks.{Source, source_of}
 use Rattle.blz_entry.specs.declared.ranges.RangeAttributes.{RangeAttributes}
-use Rattle.blz_entry.specs.declared.range_tail.RangeTail.{RangeTail}
 use Rattle.blz_entry.specs.declared.root.UnitRoot.{UnitRoot}
 use Rattle.blz_info.specs.declared.section.Section.{Section}
 use Rattle.blz_info.specs.declared.section.Sections.{Sections}
@@ -54,18 +52,6 @@ range_step_in u r a = range_step (lying u.sections) u.header u.root r a
 
 unfoldable pub ranges_in : UnitParts → RangeAttributes → Option (List Span)
 ranges_in u r = ranges_of r (lying u.sections) u.header u.root
-
--- the ranges of a list from one of its entries on
-abbrev pub spans_behind : UnitParts → RangeTail → Option (List Span)
-spans_behind u tail = tail_spans (lying u.sections) u.header u.root tail
-
--- the range of an entry of a list, and the list behind it
-abbrev pub entry_behind : UnitParts → RangeTail → Option (Option (Option Span × RangeTail))
-entry_behind u tail = tail_step (lying u.sections) u.header u.root tail
-
--- whether that range counts from the base
-abbrev pub counts_at : UnitParts → RangeTail → Bool
-counts_at u tail = entry_counts (lying u.sections) u.header u.root tail.place
 
 abbrev pub source_in : UnitParts → Source
 source_in u = source_of (lying u.sections) u.header u.table

@@ -1,5 +1,5 @@
 -- Where references lead, and the names that they give (DWARF 5 section 7.5.5, class reference).
-use Rattle.std.specs.Prelude.{ℕ, zero, suc, ◌+◌, ◌-◌, Bool, true, false, ◌&&◌, List, [], ◌∷◌, Option, Some, None, nat_lt, nat_le, if◌then◌else◌}
+use Rattle.std.specs.Prelude.{ℕ, zero, suc, ◌+◌, ◌-◌, Bool, ◌&&◌, List, [], ◌∷◌, Option, Some, None, nat_lt, nat_le, if◌then◌else◌}
 use Rattle.blz_model.specs.Reads.{◌>>=◌}
 use Rattle.blz_info.specs.declared.text.StrPlace.{StrPlace}
 use Rattle.blz_info.specs.declared.units.UnitHeader.{UnitHeader}
@@ -9,13 +9,6 @@ use Rattle.blz_functions.specs.declared.referred.Visited.{Visited}
 use Rattle.blz_functions.specs.declared.referred.Visited.TheVariants.{Named, Leads, Nameless}
 use Rattle.blz_functions.specs.Leaves.{UnitParts}
 use Rattle.blz_functions.specs.Naming.{visited}
-
--- a value that refers to an entry
-abbrev pub refers : AttrValue → Bool
-refers (UnitRef distance) = true
-refers (InfoRef offset) = true
-refers (SupRef offset) = true
-refers _ = false
 
 -- the later of two units
 abbrev pub later : Option (ℕ × UnitHeader) → Option (ℕ × UnitHeader) → Option (ℕ × UnitHeader)

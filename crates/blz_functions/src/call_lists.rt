@@ -1,95 +1,227 @@
-//! The inlined calls of a function, before their ranges are indexed.
-ghost use Rattle.std.specs.Prelude.{◌≡◌, [], map, IfOk};
+//! The inlined calls among the entries below a function.
+ghost use Rattle.std.specs.Prelude.{◌≡◌, ◌++◌, [], ◌≤◌, length, map, OnOk, IfOk};
 ghost use Rattle.blz_model.specs.Part.{Gives};
 ghost use Rattle.blz_info.specs.Marks.{or_invalid};
-ghost use Rattle.blz_functions.specs.AskedCalls.{asked_calls, calls_asked};
-ghost use Rattle.blz_functions.specs.DepthRanges.{AreAllNamed};
-ghost use Rattle.blz_functions.specs.KeptLists.{AreKeptLists};
-ghost use Rattle.blz_functions.specs.Opened.{open_view, CanBeOpened};
-ghost use Rattle.blz_functions.specs.ReadCalls.{AreSettled, CountNoMore};
+ghost use Rattle.blz_functions.specs.CallTree.{no_calls, call_by, call_added, calls_from, unit_calls};
+ghost use Rattle.blz_functions.specs.CallWalk.{call_if, call_met};
+ghost use Rattle.blz_functions.specs.Describing.{specs_of};
+ghost use Rattle.blz_ranges.specs.Groups.{grouped};
 ghost use Rattle.blz_ranges.specs.Keyed.{IsAccepted, group_key};
+ghost use Rattle.blz_functions.specs.Leaves.{source_in};
+ghost use Rattle.blz_functions.specs.Opened.{open_view, CanBeOpened};
 ghost use Rattle.blz_ranges.specs.Owned.{items_of};
 
+use crate::description::Description;
 use crate::inlined_functions::{InlinedFunction, InlinedFunctions};
-use crate::kept_lists::KeptLists;
+use crate::levels::Levels;
 use crate::links::Links;
 use crate::open_unit::OpenUnit;
-use crate::read_calls::ReadCalls;
-use crate::settled_ranges::SettledRanges;
-use blz_bytes::Orders;
-use blz_entry::invalid;
+use blz_bytes::{Orders, Room};
+use blz_constants::dwarf;
+use blz_entry::{Entries, Entry, Passing, Span, invalid};
 use blz_error::Result;
+use blz_ranges::{Grouped, own};
 use std::alloc::{AllocError, Global};
 use std::marker::Model;
 
-/// Inlined calls, and their ranges that are searched: at each depth the ranges of a list stand for the first call of the
-/// depth that names it, which is the one that their addresses have, and what several depths of a unit name is kept once.
+/// What a call that is kept takes of a file's room.
+const CALL_WORDS: u64 = 6;
+
+/// The bytes that take a word of a file's room where entries are passed over below a function.
+const BYTES_A_WORD: usize = 8;
+
+/// Inlined calls, and their ranges in groups by depth, each with the number of its call.
 #[derive(Drop)]
 pub struct CallLists {
     calls: Vec<InlinedFunction>,
-    ranges: SettledRanges,
+    ranges: Vec<Grouped>,
+    owners: Vec<usize>,
+    /// What the ranges of one call are read into.
+    spans: Vec<Span>,
 }
 
 impl Model for CallLists {
     ghost use Rattle.std.specs.Prelude.{◌≡◌, length};
-    ghost use Rattle.blz_functions.specs.FunctionRanges.{SearchedCalls};
-    ghost use Rattle.blz_functions.specs.SettledRanges.{settled_view};
+    ghost use Rattle.blz_functions.specs.CallTree.{CallLists};
+    ghost use Rattle.blz_ranges.specs.Owned.{owned};
 
-    ghost Value = { SearchedCalls };
+    ghost Value = { CallLists };
 
-    ghost view = { λ l. record { calls = l.calls.items; ranges = settled_view l.ranges } };
+    ghost view = { λ l. record { calls = l.calls.items; ranges = owned l.ranges.items l.owners.items } };
 
-    ghost invariant = { λ l. length l.ranges.list.items ≡ length l.ranges.owners.items };
+    ghost invariant = { λ l. length l.ranges.items ≡ length l.owners.items };
+}
+
+fn group(
+    ranges: &mut Vec<Grouped>,
+    group: usize,
+    spans: &[Span],
+) -> std::result::Result<(), AllocError>
+    ensures { OnOk result (ranges.new.items ≡ ranges.old.items ++ map (grouped group) spans.now) }
+{
+    for span in spans {
+        ranges.push(Grouped { group, span: *span })?;
+    }
+    Ok(())
+}
+
+/// What walking from an entry to another one below the same function takes of a file's room: functions can stand within
+/// one another, and what they have in common is walked over for each.
+fn walk_words(before: usize, place: usize) -> u64 {
+    1 + (place.saturating_sub(before) / BYTES_A_WORD) as u64
+}
+
+fn call_by(description: &Description) -> InlinedFunction
+    ensures { result ≡ call_by description.now }
+{
+    InlinedFunction {
+        name: description.name,
+        call_file: description.site.file,
+        call_line: description.site.line,
+        call_column: description.site.column,
+    }
 }
 
 impl CallLists {
-    /// The calls that were read, each depth settled. Only want of memory is refused.
-    fn settle(
-        alloc: Global,
-        unit: &OpenUnit<'_, '_>,
-        kept: &mut KeptLists,
-        calls: ReadCalls,
-    ) -> Result<CallLists>
-        requires named { AreAllNamed (open_view unit.now) calls.ranges.pieces.items }
-        requires kept { AreKeptLists (open_view unit.now) kept.old }
-        ensures settled { AreSettled (open_view unit.now) calls result }
-        ensures kept { AreKeptLists (open_view unit.now) kept.new }
-    {
-        let ReadCalls {
-            calls,
-            ranges,
-            spans: _,
-        } = calls;
-        let ranges = SettledRanges::settle_all(alloc, unit, kept, ranges)?;
-        Ok(CallLists { calls, ranges })
-    }
-
     fn new(alloc: Global) -> CallLists
-        ensures calls { result.calls ≡ [] }
-        ensures ranges { result.ranges.list ≡ [] }
-        ensures shared { result.ranges.shared ≡ [] }
+        ensures { result ≡ no_calls }
     {
         CallLists {
             calls: Vec::new(alloc),
-            ranges: SettledRanges::new(alloc),
+            ranges: Vec::new(alloc),
+            owners: Vec::new(alloc),
+            spans: Vec::new(alloc),
         }
+    }
+
+    /// The lists with one more call.
+    fn with(
+        self,
+        room: &mut Room,
+        unit: &OpenUnit<'_, '_>,
+        depth: usize,
+        description: &Description,
+    ) -> Result<CallLists>
+        ensures { Gives (λ l. l) result (or_invalid (call_added (open_view unit.now) self depth description.now)) }
+    {
+        let CallLists {
+            mut calls,
+            mut ranges,
+            mut owners,
+            mut spans,
+        } = self;
+        spans.clear();
+        unit.append_ranges(room, &description.ranges, &mut spans)?;
+        room.take(CALL_WORDS)?;
+        group(&mut ranges, depth, spans.as_slice())?;
+        own(&mut owners, calls.len(), ranges.len())?;
+        calls.push(call_by(description))?;
+        Ok(CallLists {
+            calls,
+            ranges,
+            owners,
+            spans,
+        })
+    }
+
+    /// The lists with the call that an entry is, if it is one.
+    #[inline(always)]
+    fn with_described(
+        self,
+        room: &mut Room,
+        unit: &OpenUnit<'_, '_>,
+        depth: Option<usize>,
+        description: &Option<Description>,
+    ) -> Result<CallLists>
+        ensures { Gives (λ l. l) result (or_invalid (call_if (open_view unit.now) self depth description.now)) }
+    {
+        match (depth, description) {
+            (Some(depth), Some(description)) => self.with(room, unit, depth, description),
+            (Some(_), None) => Ok(self),
+            (None, _) => Ok(self),
+        }
+    }
+
+    /// The lists with what an entry adds, which was met last; its attributes are read.
+    #[inline(always)]
+    #[tactic(auto, unfolding(crate::specs::CallWalk::call_met))]
+    fn with_entry<F: Links>(
+        self,
+        room: &mut Room,
+        unit: &OpenUnit<'_, '_>,
+        links: &mut F,
+        entries: &mut Entries<'_, '_>,
+        entry: &Entry,
+        depth: Option<usize>,
+    ) -> Result<CallLists>
+        requires source { entries.old.source ≡ source_in (open_view unit.now) }
+        requires met { entries.old.pending ≡ specs_of (open_view unit.now) entry.now.code }
+        ensures value { Gives (λ l. (l, entries.new.place)) result (or_invalid (call_met (F.refer (F.linkage links.old)) (open_view unit.now) self depth entry.now entries.old)) }
+        ensures pending { IfOk result (λ _. entries.new.pending ≡ []) }
+        ensures source { entries.new.source ≡ entries.old.source }
+        ensures ahead { entries.old.place ≤ entries.new.place }
+        ensures same { F.linkage links.new ≡ F.linkage links.old }
+    {
+        match Description::of_entry(room, unit, links, entries, entry.code, depth.is_some()) {
+            Ok(description) => self.with_described(room, unit, depth, &description),
+            Err(fault) => Err(fault),
+        }
+    }
+
+    /// The calls among the entries that come next, up to the zero that closes their function.
+    fn read_below<F: Links>(
+        alloc: Global,
+        room: &mut Room,
+        unit: &OpenUnit<'_, '_>,
+        links: &mut F,
+        entries: &mut Entries<'_, '_>,
+        function: usize,
+    ) -> Result<CallLists>
+        requires pending { entries.old.pending ≡ [] }
+        requires source { entries.old.source ≡ source_in (open_view unit.now) }
+        ensures value { Gives (λ l. l) result (or_invalid (calls_from (F.refer (F.linkage links.old)) (open_view unit.now) entries.old.place)) }
+        ensures same { F.linkage links.new ≡ F.linkage links.old }
+    {
+        let mut lists = CallLists::new(alloc);
+        let mut levels = Levels::new(alloc)?;
+        let mut before = function;
+        while levels.is_open() {
+            entries.pass_over(Passing::Leaves, dwarf::DW_TAG_inlined_subroutine);
+            let entry = match entries.next_entry() {
+                Ok(Some(entry)) => entry,
+                Ok(None) => {
+                    room.take(walk_words(before, unit.header.end))?;
+                    return Err(invalid("a function or an entry below it is not closed"));
+                }
+                Err(fault) => {
+                    room.take(walk_words(before, unit.header.end))?;
+                    return Err(fault);
+                }
+            };
+            room.take(walk_words(before, entry.place))?;
+            before = entry.place;
+            let depth = levels.call_depth(entry.tag);
+            lists = match lists.with_entry(room, unit, links, entries, &entry, depth) {
+                Ok(more) => more,
+                Err(fault) => return Err(fault),
+            };
+            levels.pass(&entry)?;
+        }
+        Ok(lists)
     }
 
     /// The calls of the function whose entry stands at a place. InvalidDwarf exactly where no entry of the unit stands
     /// there, where it or an entry below it is not closed or has no value, or where the name or the ranges of a call have
-    /// none. Lists that calls of the unit name again and again are kept, whether or not the calls have a value.
+    /// none.
     pub fn read<F: Links>(
         alloc: Global,
+        room: &mut Room,
         unit: &OpenUnit<'_, '_>,
         links: &mut F,
-        kept: &mut KeptLists,
         place: usize,
     ) -> Result<CallLists>
-        requires opened { CanBeOpened unit.now }
-        requires kept { AreKeptLists (open_view unit.now) kept.old }
-        ensures value { Gives asked_calls result (or_invalid (calls_asked (F.refer (F.linkage links.old)) (open_view unit.now) place)) }
-        ensures counted { IfOk result (CountNoMore (F.refer (F.linkage links.old)) (open_view unit.now) place) }
-        ensures kept { AreKeptLists (open_view unit.now) kept.new }
+        requires { CanBeOpened unit.now }
+        ensures value { Gives (λ l. l) result (or_invalid (unit_calls (F.refer (F.linkage links.old)) (open_view unit.now) place)) }
         ensures same { F.linkage links.new ≡ F.linkage links.old }
     {
         let mut entries = unit.entries(place)?;
@@ -108,8 +240,7 @@ impl CallLists {
         if !entry.children {
             return Ok(CallLists::new(alloc));
         }
-        let calls = ReadCalls::read_below(alloc, unit, links, &mut entries, kept)?;
-        CallLists::settle(alloc, unit, kept, calls)
+        CallLists::read_below(alloc, room, unit, links, &mut entries, entry.place)
     }
 
     /// The calls with an index of their ranges. Only want of memory is refused.
@@ -120,9 +251,14 @@ impl CallLists {
     ) -> std::result::Result<InlinedFunctions, AllocError>
         ensures calls { IfOk result (λ x. x.calls ≡ self.calls) }
         ensures ranges { IfOk result (λ x. x.ranges ≡ self.ranges) }
-        ensures accepted { IfOk result (λ x. IsAccepted O.pair_places (map group_key (items_of self.ranges.list)) x.ordered) }
+        ensures accepted { IfOk result (λ x. IsAccepted O.pair_places (map group_key (items_of self.ranges)) x.ordered) }
     {
-        let CallLists { calls, ranges } = self;
-        InlinedFunctions::build(alloc, orders, calls, ranges)
+        let CallLists {
+            calls,
+            ranges,
+            owners,
+            spans: _,
+        } = self;
+        InlinedFunctions::build(alloc, orders, calls, ranges, owners)
     }
 }

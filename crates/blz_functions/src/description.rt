@@ -1,15 +1,16 @@
 //! What an entry is called and covers.
 ghost use Rattle.std.specs.Prelude.{◌≡◌, ◌≤◌, [], false, Option, None, Some, IfOk, MatchResult, if◌then◌else◌};
-ghost use Rattle.blz_model.specs.Part.{Gives, Exactly, Fails};
+ghost use Rattle.blz_model.specs.Part.{Gives, Fails};
 ghost use Rattle.blz_info.specs.Marks.{or_invalid};
-ghost use Rattle.blz_functions.specs.Describing.{tells_range, tells_site, low_bits, kept_file, with_call_site, no_ranges, undescribed, description_step, described, described_if, specs_of};
+ghost use Rattle.blz_functions.specs.Describing.{tells_range, tells_site, low_bits, kept_file, with_call_site, undescribed, description_step, described, described_if, specs_of};
 ghost use Rattle.blz_functions.specs.Leaves.{source_in};
-ghost use Rattle.blz_functions.specs.Naming.{referred, name_step};
+ghost use Rattle.blz_functions.specs.Naming.{name_step};
 ghost use Rattle.blz_functions.specs.Opened.{open_view};
 
 use crate::links::Links;
 use crate::open_unit::OpenUnit;
 use crate::referred::{is_linkage_name, is_name, is_reference, or_else};
+use blz_bytes::Room;
 use blz_constants::dwarf;
 use blz_entry::{AttrValue, Entries, RangeAttributes, StrPlace, invalid};
 use blz_error::Result;
@@ -108,6 +109,7 @@ fn undescribed() -> Description
 
 #[tactic(auto, unfolding(crate::specs::Naming::name_step))]
 fn name_with<F: Links>(
+    room: &mut Room,
     unit: &OpenUnit<'_, '_>,
     links: &mut F,
     known: Option<StrPlace>,
@@ -118,16 +120,16 @@ fn name_with<F: Links>(
     ensures same { F.linkage links.new ≡ F.linkage links.old }
 {
     if is_linkage_name(name) {
-        return Ok(or_else(unit.string(value), known));
+        return Ok(or_else(unit.string(room, value)?, known));
     }
     if is_name(name) {
         return Ok(match known {
             Some(_) => known,
-            None => unit.string(value),
+            None => unit.string(room, value)?,
         });
     }
     if is_reference(name) && known.is_none() {
-        return links.follow(value);
+        return links.follow(room, value);
     }
     Ok(known)
 }
@@ -137,6 +139,7 @@ impl Description {
     #[tactic(auto, unfolding(crate::specs::Describing::description_step))]
     fn add<F: Links>(
         &mut self,
+        room: &mut Room,
         unit: &OpenUnit<'_, '_>,
         links: &mut F,
         name: u64,
@@ -149,13 +152,14 @@ impl Description {
         if tells_range(name) {
             self.ranges = unit.with_attribute(self.ranges, name, value)?;
         } else {
-            self.name = name_with(unit, links, self.name, name, value)?;
+            self.name = name_with(room, unit, links, self.name, name, value)?;
         }
         Ok(())
     }
 
-    /// The description of an entry by its attributes that were not read.
+    /// The description of an entry by its attributes that were not read, which take a word of the room each.
     pub fn read<F: Links>(
+        room: &mut Room,
         unit: &OpenUnit<'_, '_>,
         links: &mut F,
         entries: &mut Entries<'_, '_>,
@@ -175,12 +179,13 @@ impl Description {
                 Ok(None) => return Ok(description),
                 Err(fault) => return Err(fault),
             };
+            room.take(1)?;
             // most attributes of calls are these, and none of them fails
             if tells_site(name) {
                 description.site = description.site.with(unit.header.version, name, value);
                 continue;
             }
-            match description.add(unit, links, name, value) {
+            match description.add(room, unit, links, name, value) {
                 Ok(()) => (),
                 Err(fault) => return Err(fault),
             }
@@ -192,6 +197,7 @@ impl Description {
     #[inline(always)]
     #[tactic(auto, unfolding(crate::specs::Describing::described_if, blz_info::specs::Walks::skipped_of))]
     pub fn of_entry<F: Links>(
+        room: &mut Room,
         unit: &OpenUnit<'_, '_>,
         links: &mut F,
         entries: &mut Entries<'_, '_>,
@@ -214,7 +220,7 @@ impl Description {
             };
         }
         match unit.abbreviations.get(code) {
-            Some(_) => match Description::read(unit, links, entries) {
+            Some(_) => match Description::read(room, unit, links, entries) {
                 Ok(description) => Ok(Some(description)),
                 Err(fault) => Err(fault),
             },

@@ -1,14 +1,12 @@
 //! The functions of a unit.
-ghost use Rattle.std.specs.Prelude.{◌≡◌, ℕ, ◌+◌, ◌*◌, ◌^◌, ◌-◌, ◌≤◌, true, List, length, map, Option, IfOk};
+ghost use Rattle.std.specs.Prelude.{◌≡◌, ◌+◌, ◌*◌, ◌^◌, ◌-◌, ◌≤◌, true, length, map, Option, IfOk};
 ghost use Rattle.blz_ranges.specs.Best.{best};
 ghost use Rattle.blz_ranges.specs.Groups.{AreApart};
 ghost use Rattle.blz_ranges.specs.Keyed.{IsAccepted, begin_key};
-ghost use Rattle.blz_ranges.specs.Owned.{items_of, owner_at};
-ghost use Rattle.blz_functions.specs.ReadFunctions.{unit_ranges};
+ghost use Rattle.blz_ranges.specs.Owned.{owned, items_of, owner_at};
+ghost use Rattle.blz_functions.specs.FunctionRanges.{FunctionRanges};
 ghost use Rattle.blz_ranges.specs.Ranges.{best_owner};
 
-use crate::unit_layer::UnitLayer;
-use crate::unit_ranges::UnitRanges;
 use blz_bytes::{Orders, Steps};
 use blz_entry::{Span, StrPlace};
 use blz_ranges::{OwnedRanges, fitted};
@@ -27,52 +25,37 @@ pub struct Function {
     pub bounds: Option<Span>,
 }
 
-/// The functions of a unit that have a range, with their ranges: those of a layer, if there is one.
+/// The functions of a unit that have a range, with their ranges.
 #[derive(Drop)]
 pub struct Functions {
     functions: Vec<Function>,
     ranges: OwnedRanges,
-    layer: Option<UnitLayer>,
 }
 
 impl Model for Functions {
-    ghost use Rattle.blz_functions.specs.FunctionRanges.{FunctionRanges};
-    ghost use Rattle.blz_functions.specs.ReadFunctions.{or_own};
-
     ghost Value = { FunctionRanges };
 
-    ghost view = { λ x. record {
-      functions = x.functions.items;
-      ranges = or_own x.layer x.ranges.ranges;
-      own = x.ranges.ranges;
-      ordered = x.ranges.ordered;
-    } };
+    ghost view = { λ x. record { functions = x.functions.items; ranges = x.ranges.ranges; ordered = x.ranges.ordered } };
 }
 
 impl Functions {
-    /// The functions, and their ranges, each with the number of its function. An order is asked for those of this unit alone.
+    /// The functions, and their ranges, each with the number of its function.
     pub(crate) fn build<O: Orders>(
         alloc: Global,
         orders: &mut O,
         functions: Vec<Function>,
-        ranges: UnitRanges,
+        spans: Vec<Span>,
+        owners: Vec<usize>,
     ) -> Result<Functions, AllocError>
-        requires { length ranges.spans.items ≡ length ranges.owners.items }
+        requires { length spans.items ≡ length owners.items }
         ensures functions { IfOk result (λ x. x.functions ≡ functions.items) }
-        ensures ranges { IfOk result (λ x. x.ranges ≡ unit_ranges ranges) }
-        ensures accepted { IfOk result
-            (λ x. IsAccepted O.pair_places (map begin_key (items_of x.own)) x.ordered) }
+        ensures ranges { IfOk result (λ x. x.ranges ≡ owned spans.items owners.items) }
+        ensures accepted { IfOk result (λ x. IsAccepted O.pair_places (map begin_key spans.items) x.ordered) }
     {
-        let UnitRanges {
-            spans,
-            owners,
-            layer,
-        } = ranges;
         let ranges = OwnedRanges::build(alloc, orders, spans, owners)?;
         Ok(Functions {
             functions: fitted(functions),
             ranges,
-            layer,
         })
     }
 
@@ -83,7 +66,7 @@ impl Functions {
         self.functions.as_slice()
     }
 
-    /// Whether the order was accepted that was asked for.
+    /// Whether the order of the ranges was accepted.
     pub fn is_ordered(&self) -> bool
         ensures { result ≡ self.now.ordered }
     {
@@ -94,10 +77,7 @@ impl Functions {
     pub fn function_of(&self, place: usize) -> Option<usize>
         ensures { result ≡ owner_at self.now.ranges place }
     {
-        match &self.layer {
-            Some(layer) => layer.owner(place),
-            None => self.ranges.owner(place),
-        }
+        self.ranges.owner(place)
     }
 
     /// The place of the best range that covers an address: the greatest begin, then the earlier place.
@@ -106,19 +86,13 @@ impl Functions {
         ensures cost { self.now.ordered ≡ true → AreApart (items_of self.now.ranges) → 2 ^ (steps.new - steps.old) ≤ 4 * (2 * length self.now.ranges + 1) }
         ensures later { steps.old ≤ steps.new }
     {
-        match &self.layer {
-            Some(layer) => layer.best_at(addr, steps),
-            None => self.ranges.best_at(addr, steps),
-        }
+        self.ranges.best_at(addr, steps)
     }
 
     /// The number of the function whose range is the best that covers an address.
     pub fn find_function(&self, addr: u64) -> Option<usize>
         ensures { result ≡ best_owner self.now.ranges addr }
     {
-        match &self.layer {
-            Some(layer) => layer.find(addr),
-            None => self.ranges.find(addr),
-        }
+        self.ranges.find(addr)
     }
 }

@@ -1,19 +1,15 @@
 //! The inlined calls of a function.
-ghost use Rattle.std.specs.Prelude.{◌≡◌, ℕ, ◌+◌, ◌*◌, ◌^◌, ◌-◌, ◌<◌, ◌≤◌, true, length, map, Option, IfOk};
-ghost use Rattle.blz_functions.specs.AskedCalls.{IsPathInTrees, asked_by, asked_chain};
-ghost use Rattle.blz_functions.specs.Chain.{owner_found};
-ghost use Rattle.blz_functions.specs.SettledRanges.{found_at, settled_view, TakesFewAt};
+ghost use Rattle.std.specs.Prelude.{◌≡◌, ◌+◌, ◌*◌, ◌^◌, ◌-◌, ◌<◌, ◌≤◌, true, List, length, map, Option, IfOk};
+ghost use Rattle.blz_functions.specs.Chain.{at_depth, chain, owner_found, ranges_of, TreeCall, IsTree, IsNested, IsPath};
+ghost use Rattle.blz_ranges.specs.Groups.{AreApartInGroups};
 ghost use Rattle.blz_ranges.specs.Keyed.{IsAccepted, group_key};
-ghost use Rattle.blz_ranges.specs.Owned.{owned};
+ghost use Rattle.blz_ranges.specs.Owned.{owned, items_of};
 ghost use Rattle.blz_functions.specs.FunctionRanges.{CallRanges};
 
-use crate::settled_ranges::SettledRanges;
-use crate::shared_depth::SharedDepth;
 use blz_bytes::{Orders, Steps};
 use blz_entry::StrPlace;
-use blz_ranges::{GroupIndex, fitted, group_keys, number_at};
+use blz_ranges::{GroupIndex, Grouped, fitted, group_keys, number_at};
 use std::alloc::{AllocError, Global};
-use std::collections::BTreeMap;
 use std::marker::{Brand, Model};
 use std::sync::ledger::{Blank, Ledger};
 
@@ -30,49 +26,42 @@ pub struct InlinedFunction {
     pub call_column: u32,
 }
 
-/// The inlined calls of a function, with their ranges in groups, one for each depth, and the depths whose
-/// ranges are kept once a unit.
+/// The inlined calls of a function, with their ranges in groups by depth.
 #[derive(Drop)]
 pub struct InlinedFunctions {
     calls: Vec<InlinedFunction>,
     index: GroupIndex,
     owners: Vec<usize>,
-    shared: BTreeMap<usize, SharedDepth>,
 }
 
 impl Model for InlinedFunctions {
     ghost Value = { CallRanges };
 
-    ghost view = { λ x. record { calls = x.calls.items; ranges = record { list = owned x.index.list x.owners.items; shared = x.shared.entries }; ordered = x.index.ordered } };
+    ghost view = { λ x. record { calls = x.calls.items; ranges = owned x.index.list x.owners.items; ordered = x.index.ordered } };
 
     ghost invariant = { λ x. length x.index.list ≡ length x.owners.items };
 }
 
 impl InlinedFunctions {
-    /// The calls, and their ranges, each with the number of its call.
+    /// The calls, and their ranges by depth, each with the number of its call.
     pub(crate) fn build<O: Orders>(
         alloc: Global,
         orders: &mut O,
         calls: Vec<InlinedFunction>,
-        ranges: SettledRanges,
+        ranges: Vec<Grouped>,
+        owners: Vec<usize>,
     ) -> Result<InlinedFunctions, AllocError>
-        requires { length ranges.list.items ≡ length ranges.owners.items }
+        requires { length ranges.items ≡ length owners.items }
         ensures calls { IfOk result (λ x. x.calls ≡ calls.items) }
-        ensures ranges { IfOk result (λ x. x.ranges ≡ settled_view ranges) }
-        ensures accepted { IfOk result (λ x. IsAccepted O.pair_places (map group_key ranges.list.items) x.ordered) }
+        ensures ranges { IfOk result (λ x. x.ranges ≡ owned ranges.items owners.items) }
+        ensures accepted { IfOk result (λ x. IsAccepted O.pair_places (map group_key ranges.items) x.ordered) }
     {
-        let SettledRanges {
-            list,
-            owners,
-            shared,
-        } = ranges;
-        let keys = group_keys(alloc, list.as_slice())?;
-        let index = GroupIndex::build(alloc, orders, fitted(list), keys.as_slice())?;
+        let keys = group_keys(alloc, ranges.as_slice())?;
+        let index = GroupIndex::build(alloc, orders, fitted(ranges), keys.as_slice())?;
         Ok(InlinedFunctions {
             calls: fitted(calls),
             index,
             owners: fitted(owners),
-            shared,
         })
     }
 
@@ -97,21 +86,16 @@ impl InlinedFunctions {
         depth: usize,
         steps: &mut Steps<L>,
     ) -> Option<usize>
-        ensures best { result ≡ found_at self.now.ranges addr depth }
-        ensures cost { self.now.ordered ≡ true → TakesFewAt self.now.ranges depth (steps.new - steps.old) }
+        ensures best { result ≡ at_depth self.now.ranges addr depth }
+        ensures cost { self.now.ordered ≡ true → AreApartInGroups (items_of self.now.ranges) → 2 ^ (steps.new - steps.old) ≤ 4 * (2 * length self.now.ranges + 1) }
         ensures later { steps.old ≤ steps.new }
     {
-        match self.shared.get(&depth) {
-            Some(shared) => shared.call_of(addr, steps),
-            None => {
-                let place = self.index.best_in(depth, addr, steps);
-                self.owner(place)
-            },
-        }
+        let place = self.index.best_in(depth, addr, steps);
+        self.owner(place)
     }
 
     fn owner(&self, place: Option<usize>) -> Option<usize>
-        ensures { result ≡ owner_found self.now.ranges.list place }
+        ensures { result ≡ owner_found self.now.ranges place }
     {
         match place {
             Some(place) => number_at(self.owners.as_slice(), place),
@@ -134,7 +118,7 @@ impl InlinedFunctions {
         requires name { blank.name ≡ L.name }
         requires parts { blank.parts ≡ L.parts }
         requires some { 0 < blank.parts }
-        ensures { IfOk result (λ v. v.items ≡ asked_chain (asked_by self.now.calls self.now.ranges) addr) }
+        ensures { IfOk result (λ v. v.items ≡ chain self.now.ranges (length self.now.calls) addr) }
     {
         let mut steps: Steps<L> = Steps::new(blank);
         let mut chain = Vec::new(alloc);
@@ -151,8 +135,8 @@ impl InlinedFunctions {
     /// The calls that cover an address, the outermost first: those of depth 0, 1, 2 and so on, up to the first depth
     /// without one. Only want of memory is refused.
     pub fn find_inlined_functions(&self, alloc: Global, addr: u64) -> Result<Vec<usize>, AllocError>
-        ensures chain { IfOk result (λ v. v.items ≡ asked_chain (asked_by self.now.calls self.now.ranges) addr) }
-        ensures path { IfOk result (λ v. IsPathInTrees (asked_by self.now.calls self.now.ranges) addr v.items) }
+        ensures chain { IfOk result (λ v. v.items ≡ chain self.now.ranges (length self.now.calls) addr) }
+        ensures path { IfOk result (λ v. (tree : List TreeCall) → self.now.ranges ≡ ranges_of 0 tree → length self.now.calls ≡ length tree → IsTree tree → IsNested tree → IsPath tree addr v.items) }
     {
         let chain = self.chain::<Brand>(alloc, addr, Blank::new(1))?;
         Ok(chain)

@@ -4,7 +4,7 @@ ghost use Rattle.blz_functions.specs.CallTree.{is_call_tag};
 ghost use Rattle.blz_functions.specs.CallWalk.{depth_of, below_tag, innermost, closed_level, opened_level, levels_behind, call_depth};
 ghost use Rattle.blz_functions.specs.declared.levels.Above.TheVariants.{Calls};
 
-use crate::read_functions::is_function_tag;
+use crate::function_lists::is_function_tag;
 use blz_constants::dwarf;
 use blz_entry::Entry;
 use std::alloc::{AllocError, Global};

@@ -1,11 +1,10 @@
 //! Where the references of a unit lead.
-ghost use Rattle.std.specs.Prelude.{◌≡◌, false, Some, None};
+ghost use Rattle.std.specs.Prelude.{◌≡◌};
 ghost use Rattle.blz_model.specs.Part.{Gives};
 ghost use Rattle.blz_info.specs.Marks.{or_invalid};
-ghost use Rattle.blz_info.specs.declared.value.AttrValue.{AttrValue};
 ghost use Rattle.blz_functions.specs.Describing.{Refer};
-ghost use Rattle.blz_functions.specs.References.{refers};
 
+use blz_bytes::Room;
 use blz_entry::{AttrValue, StrPlace};
 use blz_error::Result;
 
@@ -20,10 +19,7 @@ pub trait Links {
     ghost refer: { Among → Refer };
 
     /// The name that a value of the unit leads to; InvalidDwarf exactly where it leads nowhere.
-    fn follow(&mut self, value: AttrValue) -> Result<Option<StrPlace>>
+    fn follow(&mut self, room: &mut Room, value: AttrValue) -> Result<Option<StrPlace>>
         ensures name { Gives (λ n. n) result (or_invalid (refer (linkage self.old) value)) }
         ensures same { linkage self.new ≡ linkage self.old };
-
-    /// A value that refers to no entry leads to no name.
-    ghost leads_nowhere: { (among : Among) (v : AttrValue) → refers v ≡ false → refer among v ≡ Some None };
 }

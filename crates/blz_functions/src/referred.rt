@@ -1,15 +1,17 @@
 //! An entry that another one refers to.
-ghost use Rattle.std.specs.Prelude.{◌≡◌, Option, None, Some, if◌then◌else◌};
-ghost use Rattle.blz_model.specs.Part.{Exactly};
+ghost use Rattle.std.specs.Prelude.{◌≡◌, IfOk, Option, None, Some, if◌then◌else◌};
+ghost use Rattle.blz_model.specs.Part.{Gives};
 ghost use Rattle.blz_info.specs.Marks.{or_invalid};
 ghost use Rattle.blz_functions.specs.Leaves.{source_in};
 ghost use Rattle.blz_functions.specs.Naming.{is_linkage_name, is_name, is_reference, or_else, linkage_of, name_behind, link_behind, visit_end, visit_from, visited};
 ghost use Rattle.blz_functions.specs.Opened.{open_view, CanBeOpened};
 
 use crate::open_unit::OpenUnit;
+use blz_bytes::Room;
 use blz_constants::dwarf;
 use blz_entry::{AttrValue, Entries, StrPlace, invalid};
 use blz_error::Result;
+use std::alloc::AllocError;
 
 /// What an entry tells of a name.
 #[derive(Clone, Copy)]
@@ -63,29 +65,34 @@ fn visit_end(name: Option<StrPlace>, link: Option<AttrValue>) -> Visited
     }
 }
 
-fn linkage_of(unit: &OpenUnit<'_, '_>, name: u64, value: AttrValue) -> Option<StrPlace>
-    ensures { result ≡ linkage_of (open_view unit.now) name value }
+fn linkage_of(
+    room: &mut Room,
+    unit: &OpenUnit<'_, '_>,
+    name: u64,
+    value: AttrValue,
+) -> std::result::Result<Option<StrPlace>, AllocError>
+    ensures { IfOk result (λ l. l ≡ linkage_of (open_view unit.now) name value) }
 {
     if is_linkage_name(name) {
-        unit.string(value)
-    } else {
-        None
+        return unit.string(room, value);
     }
+    Ok(None)
 }
 
 fn name_behind(
+    room: &mut Room,
     unit: &OpenUnit<'_, '_>,
     name: u64,
     value: AttrValue,
     old: Option<StrPlace>,
-) -> Option<StrPlace>
-    ensures { result ≡ name_behind (open_view unit.now) name value old }
+) -> std::result::Result<Option<StrPlace>, AllocError>
+    ensures { IfOk result (λ n. n ≡ name_behind (open_view unit.now) name value old) }
 {
     if is_name(name) {
-        or_else(unit.string(value), old)
-    } else {
-        old
+        let name = unit.string(room, value)?;
+        return Ok(or_else(name, old));
     }
+    Ok(old)
 }
 
 fn link_behind(name: u64, value: AttrValue, old: Option<AttrValue>) -> Option<AttrValue>
@@ -94,9 +101,13 @@ fn link_behind(name: u64, value: AttrValue, old: Option<AttrValue>) -> Option<At
     if is_reference(name) { Some(value) } else { old }
 }
 
-fn visit_attributes(unit: &OpenUnit<'_, '_>, entries: &mut Entries<'_, '_>) -> Result<Visited>
+fn visit_attributes(
+    room: &mut Room,
+    unit: &OpenUnit<'_, '_>,
+    entries: &mut Entries<'_, '_>,
+) -> Result<Visited>
     requires { entries.old.source ≡ source_in (open_view unit.now) }
-    ensures { Exactly (λ v. v) result (or_invalid (visit_from (open_view unit.now) entries.old.pending None None entries.old.place)) }
+    ensures { Gives (λ v. v) result (or_invalid (visit_from (open_view unit.now) entries.old.pending None None entries.old.place)) }
 {
     let mut name = None;
     let mut link = None;
@@ -106,10 +117,11 @@ fn visit_attributes(unit: &OpenUnit<'_, '_>, entries: &mut Entries<'_, '_>) -> R
             Ok(None) => return Ok(visit_end(name, link)),
             Err(fault) => return Err(fault),
         };
-        match linkage_of(unit, attribute, value) {
+        room.take(1)?;
+        match linkage_of(room, unit, attribute, value)? {
             Some(linkage) => return Ok(Visited::Named(linkage)),
             None => {
-                name = name_behind(unit, attribute, value, name);
+                name = name_behind(room, unit, attribute, value, name)?;
                 link = link_behind(attribute, value, link);
             }
         }
@@ -118,12 +130,14 @@ fn visit_attributes(unit: &OpenUnit<'_, '_>, entries: &mut Entries<'_, '_>) -> R
 
 /// What the entry at a place of a unit tells of a name: its first linkage name, else its last name, else where its last
 /// reference leads. InvalidDwarf exactly where no entry of the unit stands there, or one of its attributes up to its
-/// linkage name has no value.
+/// linkage name has no value. The entry, each of its attributes and what was searched for the ends of its names take of
+/// the room.
 #[tactic(auto, unfolding(crate::specs::Naming::visited, blz_info::specs::Walks::opened))]
-pub fn visit(unit: &OpenUnit<'_, '_>, place: usize) -> Result<Visited>
+pub fn visit(room: &mut Room, unit: &OpenUnit<'_, '_>, place: usize) -> Result<Visited>
     requires { CanBeOpened unit.now }
-    ensures { Exactly (λ v. v) result (or_invalid (visited (open_view unit.now) place)) }
+    ensures { Gives (λ v. v) result (or_invalid (visited (open_view unit.now) place)) }
 {
+    room.take(1)?;
     if place < unit.header.entries || place > unit.header.end {
         return Err(invalid("a reference leads past the entries of a unit"));
     }
@@ -131,5 +145,5 @@ pub fn visit(unit: &OpenUnit<'_, '_>, place: usize) -> Result<Visited>
     else {
         return Err(invalid("a reference leads to no entry"));
     };
-    visit_attributes(unit, &mut entries)
+    visit_attributes(room, unit, &mut entries)
 }

@@ -1,12 +1,15 @@
 -- Caches of which nothing is kept fit any file.
 use Rattle.std.proofs.Common.{◌≡◌, ℕ, zero, suc, List, [], ◌∷◌, ◌++◌, length, Option, Some, None, refl, ◌∙◌}
 use Rattle.std.specs.List.{slice_get}
+use Rattle.std.specs.Prelude.{IfSome}
 use Rattle.blz_model.specs.Kept.{Kept}
 use Rattle.blz_model.specs.Part.{Part}
 use Rattle.blz_model.specs.declared.cache.Cache.{Cache}
 use Rattle.blz_model.specs.declared.cache.Cache.TheVariants.{Empty}
 use Rattle.blz_info.specs.Marks.{or_invalid}
 use Rattle.blz_info.specs.declared.units.UnitHeader.{UnitHeader}
+use Rattle.blz_units.specs.SharedPackage.{AreRows, IsPackageShared}
+use Rattle.blz_units.specs.declared.shared_package.SharedPackage.{SharedPackage}
 use Rattle.blz_units.specs.declared.built_unit.BuiltUnit.{BuiltUnit}
 use Rattle.blz_units.specs.declared.built_units.Side.{Side}
 use Rattle.blz_units.specs.declared.built_units.Side.TheVariants.{File, Sup}
@@ -14,7 +17,6 @@ use Rattle.blz_units.specs.declared.built_units.SideUnits.{SideUnits}
 use Rattle.blz_units.specs.declared.caches.UnitCaches.{UnitCaches}
 use Rattle.blz_units.specs.declared.caches.Caches.{Caches}
 use Rattle.blz_units.specs.BuiltUnits.{Files, built_view, BuiltFits}
-use Rattle.blz_units.proofs.SharedPackage.{nothing_shared}
 use Rattle.blz_index.specs.Cold.{NothingKept, HasNothing, IsCold}
 use Rattle.blz_units.specs.KeptParts.{or_empty, unit_root, unit_of, lists_view, lines_view, calls_view, kept_root, kept_functions, kept_lines, kept_calls, side_sections, CachesFit, AllBuilt, SideFits, AllFit}
 use Rattle.blz_units.specs.UnitAnswers.{unit_functions, unit_lines, function_calls}
@@ -31,6 +33,13 @@ nothing = record { root = refl; functions = refl; lines = refl; calls = λ n. re
 
 any_kept : {X A : Type 0} (fits : X → Type 0) (v : X → A) (c : Cache X) (p : Part A) → c ≡ Empty → Kept fits v c p
 any_kept fits v c p e = rw e tt
+
+each_part : {X : Type 0} (P : X → Type 0) (o : Option X) → ((x : X) → P x) → IfSome o P
+each_part P None h = tt
+each_part P (Some x) h = h x
+
+nothing_shared : (f : Files) (p : SharedPackage) → p.rows ≡ None → IsPackageShared f p
+nothing_shared f p e = each_part (λ x. AreRows x p.rows) f.«package» (λ x. rw e tt)
 
 all_cold : (f : Files) (side : Side) (headers : List UnitHeader) (caches : List (Cache BuiltUnit)) → length caches ≡ length headers → NothingKept caches → AllBuilt f side headers caches
 all_cold f side headers caches same empty = record {
@@ -50,10 +59,7 @@ pub cold_fits : (f : Files) (t : UnitTable) (kept : SideUnits) (count sups : ℕ
 cold_fits f t kept count sups c fits k s cold = record {
   built = record {
     kept = rw cold.kept_is fits;
-    sups = record { all = all_cold f Sup t.sups c.built.sups.units.items (cold.sup_count ∙ s) cold.sups_empty; shared = cold.sups_share (side_sections f Sup); packed = nothing_shared f c.built.sups.packed cold.sups_packed cold.sups_rows };
-    long = cold.long_seen f t;
-    lists = cold.lists_right f;
+    sups = record { all = all_cold f Sup t.sups c.built.sups.units.items (cold.sup_count ∙ s) cold.sups_empty; shared = cold.sups_share (side_sections f Sup); packed = nothing_shared f c.built.sups.packed cold.sups_rows };
   };
   units = record { same = cold.unit_count ∙ k; each = λ n. unit_cold f t n (slice_get c.units.items n) (cold.units_empty n) };
-  programs = cold.programs_right f.main;
 }

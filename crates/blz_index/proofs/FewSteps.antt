@@ -4,8 +4,8 @@ use Rattle.blz_error.specs.Fault.{Fault}
 use Rattle.blz_model.specs.Part.{Good}
 use Rattle.blz_units.specs.declared.caches.UnitCaches.{UnitCaches}
 use Rattle.blz_units.specs.KeptAnswers.{Repeats, first_kept}
-use Rattle.blz_announced.specs.Seen.{LeavesOut}
-use Rattle.blz_units.proofs.LeftOut.{none_more}
+use Rattle.blz_units.specs.Seen.{LeavesOut}
+use Rattle.blz_reader.proofs.LeftOut.{none_more}
 use Rattle.blz_ranges.specs.Owned.{items_of}
 use Rattle.blz_ranges.specs.Ranges.{OwnedRanges}
 use Rattle.blz_ranges.specs.Turns.{covering}

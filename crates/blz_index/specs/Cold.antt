@@ -8,13 +8,8 @@ use Rattle.blz_units.specs.declared.built_unit.BuiltUnit.{BuiltUnit}
 use Rattle.blz_units.specs.declared.built_units.SideUnits.{SideUnits}
 use Rattle.blz_units.specs.declared.caches.UnitCaches.{UnitCaches}
 use Rattle.blz_units.specs.declared.caches.Caches.{Caches}
-use Rattle.blz_units.specs.BuiltUnits.{Files}
-use Rattle.blz_units.specs.KeptParts.{or_empty, AreSeen, kept_root, kept_functions, kept_lines, kept_calls}
-use Rattle.blz_units.specs.SharedTables.{AreTables}
-use Rattle.blz_units.specs.SharedLists.{AreSharedLists}
-use Rattle.blz_units.specs.SharedPrograms.{ArePrograms}
+use Rattle.blz_units.specs.KeptParts.{or_empty, kept_root, kept_functions, kept_lines, kept_calls}
 use Rattle.blz_units.specs.Sharing.{AreShared}
-use Rattle.blz_units.specs.UnitTables.{UnitTable}
 
 abbrev pub NothingKept : List (Cache BuiltUnit) → Type 0
 NothingKept caches = (k : ℕ) → or_empty (slice_get caches k) ≡ Empty
@@ -35,9 +30,5 @@ pub record IsCold (kept : SideUnits) (count sups : ℕ) (c : Caches) : Type 0 wh
   pub unit_count : length c.units.items ≡ count
   pub sups_empty : NothingKept c.built.sups.units.items
   pub sups_share : (s : FileSections) → AreShared s c.built.sups.shared
-  pub sups_packed : (bytes : List ℕ) → AreTables bytes c.built.sups.packed.tables
   pub sups_rows : c.built.sups.packed.rows ≡ None
-  pub long_seen : (f : Files) (t : UnitTable) → AreSeen f t c.built.long
-  pub lists_right : (f : Files) → AreSharedLists f c.built.lists
-  pub programs_right : (s : FileSections) → ArePrograms s c.programs
   pub units_empty : AreEmpty c.units.items

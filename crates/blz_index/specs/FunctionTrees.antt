@@ -1,9 +1,9 @@
--- The tree that inlined calls of a function answer as.
+-- The tree from which the lists of inlined calls of a function are made.
 use Rattle.std.specs.Prelude.{List}
-use Rattle.blz_functions.specs.AskedCalls.{AnswersAsTree, AskedCalls}
+use Rattle.blz_functions.specs.CallTree.{CallLists, IsTreeOf}
 use Rattle.blz_functions.specs.Chain.{TreeCall}
 
--- some calls with parents, depths and ranges, as which calls answer
-pub record HasTree (asked : AskedCalls) : Type 0 where
+-- some calls with parents and depths, from which lists are made
+pub record HasTree (lists : CallLists) : Type 0 where
   pub tree : List TreeCall
-  pub is : AnswersAsTree asked tree
+  pub is : IsTreeOf lists tree

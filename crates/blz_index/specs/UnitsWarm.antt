@@ -14,11 +14,9 @@ use Rattle.blz_ranges.specs.Groups.{AreApart}
 use Rattle.blz_ranges.specs.Keyed.{IsAccepted, begin_key}
 use Rattle.blz_reader.specs.Growing.{Told, UnitsGrowTo}
 use Rattle.blz_units.specs.KeptParts.{AllFit, AllFull, functions_at, lines_at, calls_at}
-use Rattle.blz_ranges.specs.declared.span.Span.{Span}
-use Rattle.blz_ranges.specs.Owned.{Owned, items_of}
+use Rattle.blz_ranges.specs.Owned.{items_of}
 use Rattle.blz_functions.specs.FunctionRanges.{FunctionRanges, CallRanges}
 use Rattle.blz_ranges.specs.Ranges.{OwnedRanges}
-use Rattle.blz_announced.specs.Units.{announced_all}
 use Rattle.blz_units.specs.TableViews.{table_view}
 use Rattle.blz_units.specs.UnitTables.{UnitTable, units_of}
 use Rattle.blz_units.specs.KeptAnswers.{is_value, has_order, function_in, ranges_in}
@@ -31,17 +29,13 @@ use Rattle.blz_reader.specs.UnitNames.{list_in}
 abbrev pub units_table : Units → UnitTable
 units_table u = table_view u.table
 
--- the announced ranges that are kept, of which an order is asked for
-abbrev pub announced_kept : Units → List (Owned Span)
-announced_kept u = u.table.announced.kept.ranges
-
--- whether their order was accepted
+-- whether the order of the announced ranges was accepted
 abbrev pub announced_ordered : Units → Bool
-announced_ordered u = u.table.announced.kept.ordered
+announced_ordered u = u.table.announced.ordered
 
--- their order was accepted, or it is the standard library's
+-- it was accepted, or it is the standard library's
 abbrev pub AnnouncedOrdered : Told → Units → Type 0
-AnnouncedOrdered told u = IsAccepted told (map begin_key (items_of (announced_kept u))) (announced_ordered u)
+AnnouncedOrdered told u = IsAccepted told (map begin_key (items_of (units_table u).announced)) (announced_ordered u)
 
 -- what is said of files and their units, of those of DWARF data and some units
 abbrev pub as_read : {A : Type 0} → Dwarf → Units → (Files → UnitTable → A) → A
@@ -137,4 +131,4 @@ FewLooks announced units (Ok None) looks = ⊤
 FewLooks announced units (Err e) looks = ⊤
 
 abbrev pub LooksFew : Units → Result (Option (ℕ × ℕ)) Fault → ℕ → Type 0
-LooksFew u r looks = FewLooks (announced_all u.table.announced) u.caches.units.items r looks
+LooksFew u r looks = FewLooks u.table.announced u.caches.units.items r looks

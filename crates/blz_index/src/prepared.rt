@@ -9,13 +9,12 @@ ghost use Rattle.blz_units.specs.KeptParts.{functions_at};
 ghost use Rattle.blz_ranges.specs.Owned.{items_of};
 ghost use Rattle.blz_ranges.specs.Turns.{covering};
 ghost use Rattle.blz_ranges.specs.Owned.{owners_of};
-ghost use Rattle.blz_announced.specs.Seen.{LeavesOut};
+ghost use Rattle.blz_units.specs.Seen.{LeavesOut};
 ghost use Rattle.blz_units.specs.UnitAnswers.{unit_language, function_at};
 ghost use Rattle.blz_units.specs.UnitSites.{location_at};
 ghost use Rattle.blz_index.specs.UnitsWarm.{units_table, units_prepared, functions_kept, UnitsFit, FewLooks, LooksFew};
 
 use crate::units::Units;
-use blz_announced::UnitsAt;
 use blz_bytes::Steps;
 use blz_entry::Texts;
 use blz_error::Result;
@@ -23,6 +22,7 @@ use blz_line::Location;
 use blz_model::SrcLang;
 use blz_units::caches::UnitCaches;
 use blz_units::look;
+use blz_units::units_at::UnitsAt;
 use std::sync::ledger::Ledger;
 
 /// Of the units that are still to be asked the first that has a function for an address.

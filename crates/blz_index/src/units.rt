@@ -16,7 +16,7 @@ mod lend;
 mod listing;
 
 use crate::cold::cold_caches;
-use blz_bytes::Orders;
+use blz_bytes::{Orders, Room};
 use blz_error::Result;
 use blz_functions::Function;
 use blz_line::Location;
@@ -31,7 +31,8 @@ use std::alloc::{AllocError, Global};
 use std::marker::Brand;
 use std::sync::ledger::Blank;
 
-/// The units of a file, each known by its number. What was read of them is kept, as places and numbers.
+/// The units of a file, each known by its number. What was read of them is kept, as places and numbers. What may be read
+/// and kept is bounded by the sizes of the file's sections: past that, a call answers that there is no memory.
 #[derive(Drop)]
 pub struct Units {
     pub(crate) table: UnitTable,
@@ -49,8 +50,9 @@ impl Units {
         ensures accepted { IfOk result (AnnouncedOrdered O.pair_places) }
         ensures cold { IfOk result AreCold }
     {
-        let (table, built) = UnitTable::read(alloc, orders, dwarf)?;
-        let caches = cold_caches(alloc, built, table.kept.len(), table.sups.len())?;
+        let mut room = Room::of(dwarf.size());
+        let (table, built) = UnitTable::read(alloc, &mut room, orders, dwarf)?;
+        let caches = cold_caches(alloc, room, built, table.kept.len(), table.sups.len())?;
         Ok(Units {
             table,
             caches,

@@ -1,6 +1,5 @@
 -- One turn of the loops over an abbreviation table.
-use Rattle.std.proofs.Common.{◌≡◌, ℕ, zero, suc, ◌≤◌, true, false, List, [], ◌∷◌, ◌++◌, length, Some, None, refl, eqb, inl, inr}
-use Rattle.std.proofs.lemmas.Bool.{cases_Bool}
+use Rattle.std.proofs.Common.{◌≡◌, ℕ, zero, suc, ◌≤◌, true, false, List, [], ◌∷◌, ◌++◌, length, Some, None, refl, eqb}
 use Rattle.std.proofs.lemmas.Option.{slice_get_past}
 use Rattle.blz_model.specs.LebNumbers.{uleb, leb_in}
 use Rattle.blz_info.specs.Abbrevs.{Abbrev}
@@ -31,23 +30,21 @@ pub table_last : (m n : ℕ) (so_far : List Abbrev) (bytes : List ℕ) (at code 
 unfolding table_in
 table_last m n so_far bytes at code next em h e = rw (em, h, e) refl
 
-pub table_none : (m : ℕ) (so_far : List Abbrev) (bytes : List ℕ) (at : ℕ) → uleb bytes at ≡ None → table_in m so_far bytes at ≡ None
+pub table_none : (m n : ℕ) (so_far : List Abbrev) (bytes : List ℕ) (at : ℕ) → m ≡ suc n → uleb bytes at ≡ None → table_in m so_far bytes at ≡ None
 unfolding table_in
-table_none zero so_far bytes at h = refl
-table_none (suc m) so_far bytes at h = rw h refl
+table_none m n so_far bytes at em h = rw (em, h) refl
 
-pub table_again : (m : ℕ) (so_far : List Abbrev) (bytes : List ℕ) (at code next : ℕ) → uleb bytes at ≡ Some (code, next) → eqb code 0 ≡ false → has_code code so_far ≡ true → table_in m so_far bytes at ≡ None
+pub table_again : (m n : ℕ) (so_far : List Abbrev) (bytes : List ℕ) (at code next : ℕ) → m ≡ suc n → uleb bytes at ≡ Some (code, next) → eqb code 0 ≡ false → has_code code so_far ≡ true → table_in m so_far bytes at ≡ None
 unfolding table_in
-table_again zero so_far bytes at code next h e f = refl
-table_again (suc m) so_far bytes at code next h e f = rw (h, e, f) refl
+table_again m n so_far bytes at code next em h e f = rw (em, h, e, f) refl
 
-pub table_stops : (m : ℕ) (so_far : List Abbrev) (bytes : List ℕ) (at code next : ℕ) → uleb bytes at ≡ Some (code, next) → eqb code 0 ≡ false → abbreviation_at code bytes next ≡ None → table_in m so_far bytes at ≡ None
+pub table_stops : (m n : ℕ) (so_far : List Abbrev) (bytes : List ℕ) (at code next : ℕ) → m ≡ suc n → uleb bytes at ≡ Some (code, next) → eqb code 0 ≡ false → has_code code so_far ≡ false → abbreviation_at code bytes next ≡ None → table_in m so_far bytes at ≡ None
 unfolding table_in
-table_stops zero so_far bytes at code next h e g = refl
-table_stops (suc m) so_far bytes at code next h e g = elim (cases_Bool (has_code code so_far)) [
-  | inl again ↦ rw (h, e, again) refl
-  | inr new ↦ rw (h, e, new, g) refl
-]
+table_stops m n so_far bytes at code next em h e f g = rw (em, h, e, f, g) refl
+
+pub table_end : (m : ℕ) (so_far : List Abbrev) (bytes : List ℕ) (at : ℕ) → m ≡ 0 → table_in m so_far bytes at ≡ None
+unfolding table_in
+table_end m so_far bytes at em = rw em refl
 
 pub past_the_end : (m : ℕ) (so_far : List Abbrev) (bytes : List ℕ) (at : ℕ) → length bytes ≤ at → table_in m so_far bytes at ≡ None
 unfolding table_in uleb leb_in

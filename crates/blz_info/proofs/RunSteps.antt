@@ -11,7 +11,7 @@ use Rattle.blz_info.specs.Contents.{Contents}
 use Rattle.blz_info.specs.Forms.{value_by}
 use Rattle.blz_info.specs.Attributes.{form_for, direct_attribute, attribute, passed}
 use Rattle.blz_info.specs.Sizes.{over}
-use Rattle.blz_info.specs.Wanted.{Wanted, tells, wanted_in}
+use Rattle.blz_info.specs.Wanted.{Wanted, is_wanted, wanted_in}
 use Rattle.blz_info.specs.AttributeRuns.{form_at, behind_by, value_by_form, passed_by, any_wanted, AreSkipped, AreRuns}
 use Rattle.blz_info.specs.declared.abbreviations.AttrSpec.{AttrSpec}
 use Rattle.blz_info.specs.declared.encoding.Encoding.{Encoding}
@@ -50,17 +50,13 @@ behind_same a e base s at = behind_opened a (form_at a e) e base s at ∙ ap nex
 
 -- ---- lists of attributes
 
--- those from an index on begin with the one there
-pub from_there_on : {A : Type 0} (specs : List A) (c : ℕ) (x : A) → slice_get specs c ≡ Some x → drop c specs ≡ x ∷ drop (c + 1) specs
-from_there_on specs c x h =
+pub parted : (specs : List AttrSpec) (c : ℕ) (x : AttrSpec) → slice_get specs c ≡ Some x → specs ≡ take c specs ++ x ∷ drop (c + 1) specs
+parted specs c x h =
     let lt = slice_get_within specs c x h in
     let is = get_or_from_slice_get specs c x x h in
     let k : c + 1 ≡ suc c = omega arith in
-    drop-cons specs c x lt ∙ rw (is, k) refl
-
-pub parted : (specs : List AttrSpec) (c : ℕ) (x : AttrSpec) → slice_get specs c ≡ Some x → specs ≡ take c specs ++ x ∷ drop (c + 1) specs
-parted specs c x h =
-    sym (take-append-drop c specs) ∙ ap (λ (ys : List AttrSpec). take c specs ++ ys) (from_there_on specs c x h)
+    let tail : drop c specs ≡ x ∷ drop (c + 1) specs = drop-cons specs c x lt ∙ rw (is, k) refl in
+    sym (take-append-drop c specs) ∙ ap (λ (ys : List AttrSpec). take c specs ++ ys) tail
 
 passed_first : (o : Read AttrValue) (xs ys : List AttrSpec) (e : Encoding) (base : StrBase) (s : Contents) → ((n : ℕ) → passed (xs ++ ys) e base s n ≡ (passed xs e base s n >>= λ m. passed ys e base s m)) → (o >>= λ v. passed (xs ++ ys) e base s v.1) ≡ ((o >>= λ v. passed xs e base s v.1) >>= λ n. passed ys e base s n)
 passed_first None xs ys e base s h = refl
@@ -103,15 +99,15 @@ runs_passed reading e (r ∷ rest) tail specs base s at h =
 
 -- ---- one turn of the loop that passes over runs
 
-pub run_on : (r : Run) (rest : List Run) (tail : ℕ) (e : Encoding) (s : Contents) (at start next : ℕ) → over r.skip s.bytes at ≡ Some start → behind_by r.form r.spec e s start ≡ Some next → passed_by (r ∷ rest) tail e s at ≡ passed_by rest tail e s next
+run_on : (r : Run) (rest : List Run) (tail : ℕ) (e : Encoding) (s : Contents) (at start next : ℕ) → over r.skip s.bytes at ≡ Some start → behind_by r.form r.spec e s start ≡ Some next → passed_by (r ∷ rest) tail e s at ≡ passed_by rest tail e s next
 unfolding passed_by
 run_on r rest tail e s at start next h k = rw (h, k) refl
 
-pub run_short : (r : Run) (rest : List Run) (tail : ℕ) (e : Encoding) (s : Contents) (at : ℕ) → over r.skip s.bytes at ≡ None → passed_by (r ∷ rest) tail e s at ≡ None
+run_short : (r : Run) (rest : List Run) (tail : ℕ) (e : Encoding) (s : Contents) (at : ℕ) → over r.skip s.bytes at ≡ None → passed_by (r ∷ rest) tail e s at ≡ None
 unfolding passed_by
 run_short r rest tail e s at h = rw h refl
 
-pub run_stops : (r : Run) (rest : List Run) (tail : ℕ) (e : Encoding) (s : Contents) (at start : ℕ) → over r.skip s.bytes at ≡ Some start → behind_by r.form r.spec e s start ≡ None → passed_by (r ∷ rest) tail e s at ≡ None
+run_stops : (r : Run) (rest : List Run) (tail : ℕ) (e : Encoding) (s : Contents) (at start : ℕ) → over r.skip s.bytes at ≡ Some start → behind_by r.form r.spec e s start ≡ None → passed_by (r ∷ rest) tail e s at ≡ None
 unfolding passed_by
 run_stops r rest tail e s at start h k = rw (h, k) refl
 
@@ -137,15 +133,15 @@ first_unwanted : (o : Read AttrValue) (xs ys : List AttrSpec) (e : Encoding) (ba
 first_unwanted None xs ys e base s h = refl
 first_unwanted (Some v) xs ys e base s h = h v.1
 
-pub none_of : (a b : Bool) → (a || b) ≡ false → (a ≡ false) × (b ≡ false)
+none_of : (a b : Bool) → (a || b) ≡ false → (a ≡ false) × (b ≡ false)
 none_of true b h = absurd cc
 none_of false b h = (refl, h)
 
-unwanted : (xs ys : List AttrSpec) (e : Encoding) (base : StrBase) (s : Contents) (at : ℕ) → any_wanted true xs ys ≡ false → wanted_in (xs ++ ys) e base s at ≡ (passed xs e base s at >>= λ n. wanted_in ys e base s n)
+unwanted : (xs ys : List AttrSpec) (e : Encoding) (base : StrBase) (s : Contents) (at : ℕ) → any_wanted true xs ≡ false → wanted_in (xs ++ ys) e base s at ≡ (passed xs e base s at >>= λ n. wanted_in ys e base s n)
 unfolding wanted_in passed
 unwanted [] ys e base s at h = refl
 unwanted (a ∷ xs) ys e base s at h =
-    let parts = none_of (tells a (xs ++ ys)) (any_wanted true xs ys) h in
+    let parts = none_of (is_wanted a.name) (any_wanted true xs) h in
     rw parts.0 (first_unwanted (attribute a e base s at) xs ys e base s (λ n. unwanted xs ys e base s n parts.1))
 
 -- what is wanted from the attribute on that a run leads to
@@ -156,9 +152,9 @@ by_value : (o : Read AttrValue) (rest : ℕ → Option Wanted) → (o >>= λ v. 
 by_value None rest = refl
 by_value (Some v) rest = refl
 
-first_run : (a : AttrSpec) (rest : List AttrSpec) (e : Encoding) (base : StrBase) (s : Contents) (at : ℕ) → wanted_in (a ∷ rest) e base s at ≡ at_run (tells a rest) (form_at a e) a rest e base s at
+first_run : (a : AttrSpec) (rest : List AttrSpec) (e : Encoding) (base : StrBase) (s : Contents) (at : ℕ) → wanted_in (a ∷ rest) e base s at ≡ at_run (is_wanted a.name) (form_at a e) a rest e base s at
 unfolding wanted_in
-first_run a rest e base s at = elim (cases_Bool (tells a rest)) [
+first_run a rest e base s at = elim (cases_Bool (is_wanted a.name)) [
   | inl found ↦ rw found (ap (λ (o : Read AttrValue). o >>= λ v. Some (Some (a.name, v.0), (rest, v.1))) (sym (value_is a e base s at)))
   | inr other ↦ rw other (by_value (attribute a e base s at) (λ n. wanted_in rest e base s n) ∙ ap (λ (o : Option ℕ). o >>= λ n. wanted_in rest e base s n) (sym (behind_same a e base s at)))
 ]
@@ -174,28 +170,28 @@ run_wanted e r rest tail specs base s at h =
     let others = drop (r.count + 1) specs in
     let from_there : (start : ℕ) → wanted_in (r.spec ∷ others) e base s start ≡ at_run r.wanted r.form r.spec others e base s start = λ start.
     first_run r.spec others e base s start
-    ∙ ap (λ (form : Option Form). at_run (tells r.spec others) form r.spec others e base s start) (sym looked.form)
+    ∙ ap (λ (form : Option Form). at_run (is_wanted r.spec.name) form r.spec others e base s start) (sym looked.form)
     ∙ ap (λ (wanted : Bool). at_run wanted r.form r.spec others e base s start) (sym looked.wanted) in
     ap (λ (xs : List AttrSpec). wanted_in xs e base s at) (parted specs r.count r.spec looked.there)
-    ∙ unwanted (take r.count specs) (r.spec ∷ others) e base s at (ap (any_wanted true (take r.count specs)) (sym (from_there_on specs r.count r.spec looked.there)) ∙ h.0.unwanted)
+    ∙ unwanted (take r.count specs) (r.spec ∷ others) e base s at h.0.unwanted
     ∙ ap (λ (o : Option ℕ). o >>= λ n. wanted_in (r.spec ∷ others) e base s n) (passed_together (take r.count specs) e base s at r.skip h.0.bytes)
     ∙ wanted_then (over r.skip s.bytes at) (λ (n : ℕ). wanted_in (r.spec ∷ others) e base s n) (λ (start : ℕ). at_run r.wanted r.form r.spec others e base s start) from_there
 
 -- ---- one turn of the loop that looks for it
 
-pub skip_fails : (e : Encoding) (r : Run) (rest : List Run) (tail : ℕ) (specs : List AttrSpec) (base : StrBase) (s : Contents) (at : ℕ) → AreRuns true e (r ∷ rest) tail specs → over r.skip s.bytes at ≡ None → wanted_in specs e base s at ≡ None
+skip_fails : (e : Encoding) (r : Run) (rest : List Run) (tail : ℕ) (specs : List AttrSpec) (base : StrBase) (s : Contents) (at : ℕ) → AreRuns true e (r ∷ rest) tail specs → over r.skip s.bytes at ≡ None → wanted_in specs e base s at ≡ None
 skip_fails e r rest tail specs base s at h short = run_wanted e r rest tail specs base s at h ∙ rw short refl
 
-pub value_fails : (e : Encoding) (r : Run) (rest : List Run) (tail : ℕ) (specs : List AttrSpec) (base : StrBase) (s : Contents) (at start : ℕ) → AreRuns true e (r ∷ rest) tail specs → over r.skip s.bytes at ≡ Some start → r.wanted ≡ true → value_by_form r.form r.spec e base s start ≡ None → wanted_in specs e base s at ≡ None
+value_fails : (e : Encoding) (r : Run) (rest : List Run) (tail : ℕ) (specs : List AttrSpec) (base : StrBase) (s : Contents) (at start : ℕ) → AreRuns true e (r ∷ rest) tail specs → over r.skip s.bytes at ≡ Some start → r.wanted ≡ true → value_by_form r.form r.spec e base s start ≡ None → wanted_in specs e base s at ≡ None
 value_fails e r rest tail specs base s at start h skips wanted none = run_wanted e r rest tail specs base s at h ∙ rw (skips, wanted, none) refl
 
-pub value_found : (e : Encoding) (r : Run) (rest : List Run) (tail : ℕ) (specs : List AttrSpec) (base : StrBase) (s : Contents) (at start next : ℕ) (v : AttrValue) → AreRuns true e (r ∷ rest) tail specs → over r.skip s.bytes at ≡ Some start → r.wanted ≡ true → value_by_form r.form r.spec e base s start ≡ Some (v, next) → wanted_in specs e base s at ≡ Some (Some (r.spec.name, v), (drop (r.count + 1) specs, next))
+value_found : (e : Encoding) (r : Run) (rest : List Run) (tail : ℕ) (specs : List AttrSpec) (base : StrBase) (s : Contents) (at start next : ℕ) (v : AttrValue) → AreRuns true e (r ∷ rest) tail specs → over r.skip s.bytes at ≡ Some start → r.wanted ≡ true → value_by_form r.form r.spec e base s start ≡ Some (v, next) → wanted_in specs e base s at ≡ Some (Some (r.spec.name, v), (drop (r.count + 1) specs, next))
 value_found e r rest tail specs base s at start next v h skips wanted is = run_wanted e r rest tail specs base s at h ∙ rw (skips, wanted, is) refl
 
-pub pass_fails : (e : Encoding) (r : Run) (rest : List Run) (tail : ℕ) (specs : List AttrSpec) (base : StrBase) (s : Contents) (at start : ℕ) → AreRuns true e (r ∷ rest) tail specs → over r.skip s.bytes at ≡ Some start → r.wanted ≡ false → behind_by r.form r.spec e s start ≡ None → wanted_in specs e base s at ≡ None
+pass_fails : (e : Encoding) (r : Run) (rest : List Run) (tail : ℕ) (specs : List AttrSpec) (base : StrBase) (s : Contents) (at start : ℕ) → AreRuns true e (r ∷ rest) tail specs → over r.skip s.bytes at ≡ Some start → r.wanted ≡ false → behind_by r.form r.spec e s start ≡ None → wanted_in specs e base s at ≡ None
 pass_fails e r rest tail specs base s at start h skips wanted none = run_wanted e r rest tail specs base s at h ∙ rw (skips, wanted, none) refl
 
-pub pass_on : (e : Encoding) (r : Run) (rest : List Run) (tail : ℕ) (specs : List AttrSpec) (base : StrBase) (s : Contents) (at start next : ℕ) → AreRuns true e (r ∷ rest) tail specs → over r.skip s.bytes at ≡ Some start → r.wanted ≡ false → behind_by r.form r.spec e s start ≡ Some next → wanted_in specs e base s at ≡ wanted_in (drop (r.count + 1) specs) e base s next
+pass_on : (e : Encoding) (r : Run) (rest : List Run) (tail : ℕ) (specs : List AttrSpec) (base : StrBase) (s : Contents) (at start next : ℕ) → AreRuns true e (r ∷ rest) tail specs → over r.skip s.bytes at ≡ Some start → r.wanted ≡ false → behind_by r.form r.spec e s start ≡ Some next → wanted_in specs e base s at ≡ wanted_in (drop (r.count + 1) specs) e base s next
 pass_on e r rest tail specs base s at start next h skips wanted is = run_wanted e r rest tail specs base s at h ∙ rw (skips, wanted, is) refl
 
 -- the runs from an index on begin with the one there
@@ -272,7 +268,7 @@ last_wanted : (o : Option ℕ) (e : Encoding) (base : StrBase) (s : Contents) �
 unfolding wanted_in
 last_wanted o e base s = refl
 
-all_unwanted : (e : Encoding) (tail : ℕ) (specs : List AttrSpec) (base : StrBase) (s : Contents) (at : ℕ) → AreSkipped true e tail specs [] → wanted_in specs e base s at ≡ (over tail s.bytes at >>= nothing_wanted)
+all_unwanted : (e : Encoding) (tail : ℕ) (specs : List AttrSpec) (base : StrBase) (s : Contents) (at : ℕ) → AreSkipped true e tail specs → wanted_in specs e base s at ≡ (over tail s.bytes at >>= nothing_wanted)
 all_unwanted e tail specs base s at h =
     ap (λ (xs : List AttrSpec). wanted_in xs e base s at) (sym (append-nil specs)) ∙ unwanted specs [] e base s at h.unwanted
     ∙ last_wanted (passed specs e base s at) e base s

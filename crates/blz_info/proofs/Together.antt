@@ -16,11 +16,11 @@ use Rattle.blz_info.specs.declared.text.StrBase.{StrBase}
 use Rattle.blz_info.specs.declared.value.AttrValue.{AttrValue}
 use Rattle.blz_info.proofs.Sizes.{next_place, sized, behind_is}
 
-pub look : {A : Type 0} (o : Option A) → (o ≡ None) ⊎ ((x : A) × (o ≡ Some x))
+look : {A : Type 0} (o : Option A) → (o ≡ None) ⊎ ((x : A) × (o ≡ Some x))
 look None = inl refl
 look (Some x) = inr (x, refl)
 
-pub some_is : {A : Type 0} {x y : A} → Some x ≡ Some y → x ≡ y
+some_is : {A : Type 0} {x y : A} → Some x ≡ Some y → x ≡ y
 some_is h = cc
 
 then_none : (bytes : List ℕ) (o : Option ℕ) → (o >>= λ place. over 0 bytes place) ≡ o

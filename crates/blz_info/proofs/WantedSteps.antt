@@ -7,7 +7,7 @@ use Rattle.std.proofs.Math.Seq.{drop-length}
 use Rattle.blz_info.specs.Contents.{Contents}
 use Rattle.blz_info.specs.Attributes.{attribute}
 use Rattle.blz_info.specs.Walks.{Walk}
-use Rattle.blz_info.specs.Wanted.{tells, wanted_in, wanted_of, met_view}
+use Rattle.blz_info.specs.Wanted.{is_wanted, wanted_in, wanted_of, met_view}
 use Rattle.blz_info.specs.declared.wanted.Met.{Met}
 use Rattle.blz_info.specs.declared.abbreviations.AttrSpec.{AttrSpec}
 use Rattle.blz_info.specs.declared.encoding.Encoding.{Encoding}
@@ -19,21 +19,19 @@ pub wanted_none : (specs : List AttrSpec) (i : ℕ) (d : AttrSpec) (e : Encoding
 unfolding wanted_in
 wanted_none specs i d e base s at lt h = let first = drop-cons specs i d lt in rw (first, h) refl
 
-pub wanted_found : (specs : List AttrSpec) (i : ℕ) (d : AttrSpec) (e : Encoding) (base : StrBase) (s : Contents) (at next : ℕ) (v : AttrValue) → i < length specs → attribute (get_or specs i d) e base s at ≡ Some (v, next) → tells (get_or specs i d) (drop (i + 1) specs) ≡ true → wanted_in (drop i specs) e base s at ≡ Some (Some ((get_or specs i d).name, v), (drop (i + 1) specs, next))
+pub wanted_found : (specs : List AttrSpec) (i : ℕ) (d : AttrSpec) (e : Encoding) (base : StrBase) (s : Contents) (at next : ℕ) (v : AttrValue) → i < length specs → attribute (get_or specs i d) e base s at ≡ Some (v, next) → is_wanted (get_or specs i d).name ≡ true → wanted_in (drop i specs) e base s at ≡ Some (Some ((get_or specs i d).name, v), (drop (i + 1) specs, next))
 unfolding wanted_in
 wanted_found specs i d e base s at next v lt h k =
     let first = drop-cons specs i d lt in
     let one : i + 1 ≡ suc i = omega arith in
-    let told = rw one at k in
-    rw (one, first, h, told) refl
+    rw (one, first, h, k) refl
 
-pub wanted_more : (specs : List AttrSpec) (i : ℕ) (d : AttrSpec) (e : Encoding) (base : StrBase) (s : Contents) (at next : ℕ) (v : AttrValue) → i < length specs → attribute (get_or specs i d) e base s at ≡ Some (v, next) → tells (get_or specs i d) (drop (i + 1) specs) ≡ false → wanted_in (drop i specs) e base s at ≡ wanted_in (drop (i + 1) specs) e base s next
+pub wanted_more : (specs : List AttrSpec) (i : ℕ) (d : AttrSpec) (e : Encoding) (base : StrBase) (s : Contents) (at next : ℕ) (v : AttrValue) → i < length specs → attribute (get_or specs i d) e base s at ≡ Some (v, next) → is_wanted (get_or specs i d).name ≡ false → wanted_in (drop i specs) e base s at ≡ wanted_in (drop (i + 1) specs) e base s next
 unfolding wanted_in
 wanted_more specs i d e base s at next v lt h k =
     let first = drop-cons specs i d lt in
     let one : i + 1 ≡ suc i = omega arith in
-    let told = rw one at k in
-    rw (one, first, h, told) refl
+    rw (one, first, h, k) refl
 
 pub wanted_end : (specs : List AttrSpec) (i : ℕ) (e : Encoding) (base : StrBase) (s : Contents) (at : ℕ) → length specs ≤ i → none_left (drop (length specs) specs) at ≡ wanted_in (drop i specs) e base s at
 unfolding wanted_in

@@ -1,13 +1,12 @@
 -- Abbreviation tables (DWARF 5 section 7.5.3).
 use Rattle.std.specs.Prelude.{ℕ, zero, suc, Bool, true, false, ◌&&◌, pos, List, [], ◌∷◌, ◌++◌, length, Option, Some, None, ◌==◌, if◌then◌else◌}
-use Rattle.std.specs.Prelude.{◌≡◌, is_some, IfSome, drop}
-use Rattle.std.specs.List.{slice_get}
+use Rattle.std.specs.Prelude.{is_some}
 use Rattle.blz_constants.specs.declared.dwarf.TheConstants as dwarf
 use Rattle.blz_model.specs.Reads.{Read, ◌>>=◌}
 use Rattle.blz_bytes.specs.Pieces.{byte}
 use Rattle.blz_model.specs.LebNumbers.{uleb, sleb}
 use Rattle.blz_info.specs.declared.abbreviations.AttrSpec.{AttrSpec}
-use Rattle.blz_info.specs.Abbrevs.{Abbrev, Declared, of_code}
+use Rattle.blz_info.specs.Abbrevs.{Abbrev, of_code}
 
 -- a name and a form, and behind DW_FORM_implicit_const the value itself
 unfoldable pub spec_at : List ℕ → ℕ → Read AttrSpec
@@ -57,19 +56,3 @@ table_in (suc n) so_far bytes at = do
 -- The table at an offset. Each of its abbreviations takes bytes, so there are fewer of them than bytes.
 unfoldable pub abbreviations : List ℕ → ℕ → Option (List Abbrev)
 abbreviations bytes at = table_in (length bytes) [] bytes at
-
--- At each place of the declarations stands the table of those that begin there and behind it.
-abbrev pub IsReadFrom : List ℕ → Declared → Type 0
-IsReadFrom bytes d = (number : ℕ) → IfSome (slice_get d.places number) (λ at. abbreviations bytes at ≡ Some (drop number d.list))
-
--- At none of some places stands a table.
-abbrev pub AreBroken : List ℕ → List ℕ → Type 0
-AreBroken bytes places = (number : ℕ) → IfSome (slice_get places number) (λ at. abbreviations bytes at ≡ None)
-
--- The table at an offset is read on at a place behind some of its abbreviations, unless it has no value.
-abbrev pub GoesOn : List ℕ → List Abbrev → ℕ → ℕ → Type 0
-GoesOn bytes table place at = (left : ℕ) × (more : List Abbrev) × (abbreviations bytes at ≡ table_in left (table ++ more) bytes place)
-
--- So is each table that begins at one of some declarations.
-abbrev pub GoOn : List ℕ → Declared → ℕ → Type 0
-GoOn bytes d place = (number : ℕ) → IfSome (slice_get d.places number) (GoesOn bytes (drop number d.list) place)

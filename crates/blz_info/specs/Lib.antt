@@ -10,12 +10,8 @@ pub mod Headers
 pub mod Forest
 pub mod Walks
 pub mod Wanted
-pub mod Known
-pub mod KeptSpecs
-pub mod Cuts
 pub mod AttributeRuns
 pub mod Passing
 pub mod Codes
 pub mod Listing
 pub mod FileSections
-pub mod AttributeLists

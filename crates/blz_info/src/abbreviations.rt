@@ -1,23 +1,30 @@
-//! Abbreviations: what the entries of one code have in common.
-ghost use Rattle.std.specs.Prelude.{◌≡◌, ◌≤◌, ◌<◌, [], ◌==◌, length, IfSome, IfOk};
+//! Abbreviations: what the entries of a unit have in common.
+ghost use Rattle.std.specs.Prelude.{◌≡◌, ◌++◌, ◌∷◌, [], ◌==◌, length, IfSome, IfErr, IfOk, OnOk, None};
+ghost use Rattle.blz_error.specs.declared.kind.ErrorKind.TheVariants.{OutOfMemory};
+ghost use Rattle.std.specs.Option.{option_copied};
 ghost use Rattle.blz_model.specs.Part.{Gives};
 ghost use Rattle.blz_info.specs.Marks.{or_invalid};
+ghost use Rattle.blz_info.specs.Abbrevs.{of_code};
 ghost use Rattle.blz_info.specs.AttributeRuns.{Passes, Reads};
 ghost use Rattle.blz_info.specs.Wanted.{any_placing};
-ghost use Rattle.blz_info.specs.AttributeLists.{AreLists};
-ghost use Rattle.blz_info.specs.AbbreviationTables.{spec_at, is_last, specs_in, has_children, abbreviation_at};
+ghost use Rattle.blz_info.specs.AbbreviationTables.{spec_at, is_last, specs_in, has_children, abbreviation_at, has_code, abbreviations};
 
-use crate::attribute_lists::AttributeLists;
 use crate::encoding::Encoding;
 use crate::fault::invalid;
-use crate::kept_specs::KeptSpecs;
 use crate::ready::Ready;
 use crate::runs::Runs;
-use blz_bytes::{sleb_at, u8_at, uleb_at};
+use blz_bytes::{Room, sleb_at, u8_at, uleb_at};
 use blz_constants::dwarf;
 use blz_error::Result;
-use std::alloc::Global;
+use std::alloc::{AllocError, Global};
+use std::collections::BTreeMap;
 use std::marker::Model;
+
+/// What an abbreviation takes of a file's room, and each of its attributes: its own words, those of its runs, and one
+/// for reading it.
+const ABBREVIATION_WORDS: u64 = 16;
+
+const ATTRIBUTE_WORDS: u64 = 12;
 
 /// An attribute of an abbreviation: its name, its form, and the value of `DW_FORM_implicit_const`, else 0.
 #[derive(Clone, Copy)]
@@ -30,27 +37,26 @@ pub struct AttrSpec {
 /// What the entries of one code have in common (DWARF 5 section 7.5.3).
 #[derive(Drop)]
 pub struct Abbreviation {
-    pub(crate) code: u64,
+    code: u64,
     /// The tag of the entries.
     pub tag: u64,
     /// Whether they have children.
     pub children: bool,
-    specs: KeptSpecs,
+    specs: Vec<AttrSpec>,
     // how the attributes are passed over and read
     ready: Ready,
 }
 
 impl Model for Abbreviation {
     ghost use Rattle.blz_info.specs.Abbrevs.{Abbrev};
-    ghost use Rattle.blz_info.specs.KeptSpecs.{kept_specs};
 
     ghost Value = { Abbrev };
 
-    ghost view = { λ a. record { code = a.code; tag = a.tag; children = a.children; specs = kept_specs a.specs } };
+    ghost view = { λ a. record { code = a.code; tag = a.tag; children = a.children; specs = a.specs.items } };
 
     ghost use Rattle.blz_info.specs.AttributeRuns.{IsReady};
 
-    ghost invariant = { λ a. IsReady a.ready (kept_specs a.specs) };
+    ghost invariant = { λ a. IsReady a.ready a.specs.items };
 }
 
 impl Abbreviation {
@@ -58,7 +64,7 @@ impl Abbreviation {
     pub fn attributes(&self) -> &[AttrSpec]
         ensures { result.now ≡ self.now.specs }
     {
-        self.specs.as_slice()
+        &self.specs
     }
 
     /// Whether one of the attributes tells addresses or refers to an entry.
@@ -96,11 +102,135 @@ impl Abbreviation {
     }
 }
 
+/// The abbreviations of a unit, as a finite map from their codes.
+#[derive(Drop)]
+pub struct Abbreviations {
+    table: Vec<Abbreviation>,
+    // the first so many have the codes 1, 2, 3 and so on, as compilers write them
+    ordered: usize,
+    // where each other code stands
+    others: BTreeMap<u64, usize>,
+}
+
+impl Model for Abbreviations {
+    ghost use Rattle.std.specs.Prelude.{List};
+    ghost use Rattle.blz_info.specs.Abbrevs.{Abbrev, IsIndexed};
+
+    ghost Value = { List Abbrev };
+
+    ghost view = { λ a. a.table.items };
+
+    ghost invariant = { λ a. IsIndexed a.ordered a.others a.table.items };
+}
+
+impl Abbreviations {
+    fn empty(alloc: Global) -> Abbreviations
+        ensures { result ≡ [] }
+    {
+        Abbreviations {
+            table: Vec::new(alloc),
+            ordered: 0,
+            others: BTreeMap::new(alloc),
+        }
+    }
+
+    /// The abbreviation of a code; None exactly where there is none.
+    #[inline(always)]
+    pub fn get(&self, code: u64) -> Option<&Abbreviation>
+        ensures { option_copied result ≡ of_code code self.now }
+    {
+        if code > 0 && code <= self.ordered as u64 {
+            return self.table.get(code as usize - 1);
+        }
+        let place = self.others.get(&code)?;
+        self.table.get(*place)
+    }
+
+    /// How many abbreviations the table keeps.
+    pub fn len(&self) -> usize
+        ensures { result ≡ length self.now }
+    {
+        self.table.len()
+    }
+
+    fn has(&self, code: u64) -> bool
+        ensures { result ≡ has_code code self.now }
+    {
+        self.get(code).is_some()
+    }
+
+    fn add(&mut self, abbreviation: Abbreviation) -> Result<()>
+        requires { of_code abbreviation.code self.old ≡ None }
+        ensures ok { OnOk result (self.new ≡ self.old ++ abbreviation ∷ []) }
+        ensures err { IfErr result (λ e. e.kind ≡ OutOfMemory) }
+    {
+        let code = abbreviation.code;
+        let place = self.table.len();
+        self.table.push(abbreviation)?;
+        if self.ordered == place && code == place as u64 + 1 {
+            self.ordered = place + 1;
+            return Ok(());
+        }
+        if let Err(fault) = self.others.insert(code, place) {
+            self.table.pop();
+            return Err(AllocError::from(fault).into());
+        }
+        Ok(())
+    }
+}
+
+impl Abbreviations {
+    /// The abbreviations at an offset of `.debug_abbrev` (DWARF 5 section 7.5.3). InvalidDwarf exactly where they are
+    /// not whole, or a code or a children byte is not as it has to be.
+    pub fn parse(alloc: Global, abbrev: &[u8], at: u64) -> Result<Abbreviations>
+        ensures { Gives (λ t. t) result (or_invalid (abbreviations «abbrev».now at)) }
+    {
+        let encoding = Encoding {
+            version: 5,
+            wide: false,
+            address_size: 8,
+        };
+        Abbreviations::parse_for(alloc, &mut Room::endless(), abbrev, at, encoding)
+    }
+
+    /// The same, ready for units whose fields have the sizes of an encoding: their entries are walked over faster. Each
+    /// abbreviation takes of the room.
+    pub fn parse_for(
+        alloc: Global,
+        room: &mut Room,
+        abbrev: &[u8],
+        at: u64,
+        encoding: Encoding,
+    ) -> Result<Abbreviations>
+        ensures { Gives (λ t. t) result (or_invalid (abbreviations «abbrev».now at)) }
+    {
+        if at > abbrev.len() as u64 {
+            return Err(invalid("abbreviations lie outside their section"));
+        }
+        let mut table = Abbreviations::empty(alloc);
+        let mut place = at as usize;
+        for _ in 0..abbrev.len() {
+            let Some((code, next)) = uleb_at(abbrev, place) else {
+                return Err(invalid("an abbreviation has no code"));
+            };
+            if code == 0 {
+                return Ok(table);
+            }
+            if table.has(code) {
+                return Err(invalid("an abbreviation code stands twice"));
+            }
+            room.take(ABBREVIATION_WORDS)?;
+            let (abbreviation, next) = abbreviation_at(alloc, room, encoding, code, abbrev, next)?;
+            table.add(abbreviation)?;
+            place = next;
+        }
+        Err(invalid("abbreviations do not end"))
+    }
+}
+
 #[tactic(auto, unfolding(crate::specs::AbbreviationTables::spec_at))]
-#[inline(always)]
-pub(crate) fn spec_at(bytes: &[u8], at: usize) -> Option<(AttrSpec, usize)>
-    ensures value { result ≡ spec_at bytes.now at }
-    ensures ahead { IfSome result (λ r. at < r.1) }
+fn spec_at(bytes: &[u8], at: usize) -> Option<(AttrSpec, usize)>
+    ensures { result ≡ spec_at bytes.now at }
 {
     let (name, next) = uleb_at(bytes, at)?;
     let (form, next) = uleb_at(bytes, next)?;
@@ -132,9 +262,13 @@ fn is_last(spec: AttrSpec) -> bool
     spec.name == 0 && spec.form == 0
 }
 
-pub(crate) fn specs_at(alloc: Global, bytes: &[u8], at: usize) -> Result<(Vec<AttrSpec>, usize)>
-    ensures value { Gives (λ x. (x.0.items, x.1)) result (or_invalid (specs_in (length bytes.now) [] bytes.now at)) }
-    ensures ahead { IfOk result (λ x. at ≤ x.1) }
+fn specs_at(
+    alloc: Global,
+    room: &mut Room,
+    bytes: &[u8],
+    at: usize,
+) -> Result<(Vec<AttrSpec>, usize)>
+    ensures { Gives (λ x. (x.0.items, x.1)) result (or_invalid (specs_in (length bytes.now) [] bytes.now at)) }
 {
     let mut specs = Vec::new(alloc);
     let mut place = at;
@@ -146,6 +280,7 @@ pub(crate) fn specs_at(alloc: Global, bytes: &[u8], at: usize) -> Result<(Vec<At
         if is_last(spec) {
             return Ok((specs, place));
         }
+        room.take(ATTRIBUTE_WORDS)?;
         specs.push(spec)?;
     }
     Err(invalid("the attributes of an abbreviation do not end"))
@@ -161,22 +296,17 @@ fn has_children(flag: u8) -> Option<bool>
     }
 }
 
-/// The abbreviation behind its code, ready for the sizes of a unit, and the place after it. What is
-/// kept of long lists of attributes is taken from there, and more is kept.
 #[tactic(auto, unfolding(crate::specs::AbbreviationTables::abbreviation_at))]
-pub(crate) fn abbreviation_at(
+fn abbreviation_at(
     alloc: Global,
+    room: &mut Room,
     encoding: Encoding,
     code: u64,
     bytes: &[u8],
     at: usize,
-    lists: &mut AttributeLists,
 ) -> Result<(Abbreviation, usize)>
-    requires { AreLists bytes.now lists.old }
     ensures value { Gives (λ x. x) result (or_invalid (abbreviation_at code bytes.now at)) }
     ensures code { IfOk result (λ x. x.0.code ≡ code) }
-    ensures ahead { IfOk result (λ x. at < x.1) }
-    ensures lists { AreLists bytes.now lists.new }
 {
     let Some((tag, next)) = uleb_at(bytes, at) else {
         return Err(invalid("an abbreviation has no tag"));
@@ -187,13 +317,14 @@ pub(crate) fn abbreviation_at(
     let Some(children) = has_children(flag) else {
         return Err(invalid("the children byte of an abbreviation is neither 0 nor 1"));
     };
-    let read = lists.read(alloc, encoding, tag, bytes, next)?;
+    let (specs, next) = specs_at(alloc, room, bytes, next)?;
+    let ready = Ready::of(alloc, tag, &specs, encoding)?;
     let abbreviation = Abbreviation {
         code,
         tag,
         children,
-        specs: read.specs,
-        ready: read.ready,
+        specs,
+        ready,
     };
-    Ok((abbreviation, read.end))
+    Ok((abbreviation, next))
 }

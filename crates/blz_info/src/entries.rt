@@ -7,24 +7,20 @@ ghost use Rattle.blz_info.specs.Attributes.{passed};
 ghost use Rattle.blz_info.specs.Contents.{StaysIn};
 ghost use Rattle.blz_info.specs.Passing.{past, past_one};
 ghost use Rattle.blz_info.specs.Walks.{Steps, IsNext, walk_from, source_of, info_base, opened, next_of, value_of, skipped_of};
-ghost use Rattle.blz_info.specs.Wanted.{bare_language, wanted_of};
+ghost use Rattle.blz_info.specs.Wanted.{wanted_of};
 
-use crate::abbreviations::{Abbreviation, AttrSpec};
+use crate::abbreviations::{Abbreviation, Abbreviations, AttrSpec};
 use crate::attributes::{attribute, passed};
 use crate::behind::over;
-use crate::cuts::KeptRuns;
 use crate::encoding::Encoding;
 use crate::fault::invalid;
-use crate::lent::LentTable;
 use crate::passing::Passing;
 use crate::ready::next_wanted;
-use crate::runs::Runs;
+use crate::runs::{Runs, passed_by};
 use crate::section::{Section, Sections, cut};
-use crate::table::Abbreviations;
 use crate::text::{StrBase, StrPart};
 use crate::units::UnitHeader;
 use crate::value::AttrValue;
-use crate::wanted::bare_language;
 use blz_bytes::uleb_at;
 use blz_error::Result;
 use std::marker::Model;
@@ -50,7 +46,7 @@ pub struct Entries<'s, 'b> {
     section: Section<'s, 'b>,
     base: StrBase,
     encoding: Encoding,
-    abbreviations: LentTable<'s>,
+    abbreviations: &'s Abbreviations,
     end: usize,
     place: usize,
     pending: &'s [AttrSpec],
@@ -72,7 +68,7 @@ impl<'s, 'b> Model for Entries<'s, 'b> {
 
     ghost coded = { walk_code };
 
-    ghost view = { λ e. record { source = record { section = section_view e.section; base = e.base; encoding = e.encoding; table = e.abbreviations; end = e.end }; place = e.place; pending = e.pending.now; depth = e.depth } };
+    ghost view = { λ e. record { source = record { section = section_view e.section; base = e.base; encoding = e.encoding; table = e.abbreviations.now; end = e.end }; place = e.place; pending = e.pending.now; depth = e.depth } };
 
     ghost invariant = { λ e. record { cut : length e.section.bytes.now ≤ e.end; texts : e.base.start + length e.section.bytes.now < 2 ^ 64; low : e.depth ≤ e.place; passing : IfSome e.passing (λ r. Passes e.encoding r.now e.pending.now); reading : IfSome e.reading (λ r. Reads e.encoding e.taken r.now e.pending.now) } };
 }
@@ -122,7 +118,7 @@ impl<'s, 'b> Entries<'s, 'b> {
             section: cut(&sections.info, header.end),
             base: info_base(&sections),
             encoding: header.encoding(),
-            abbreviations: abbreviations.lent(),
+            abbreviations,
             end: header.end,
             place: at,
             pending: &[],
@@ -150,7 +146,6 @@ impl<'s, 'b> Entries<'s, 'b> {
         if code == 0 {
             return None;
         }
-        let abbreviations = abbreviations.lent();
         let abbreviation = abbreviations.get(code)?;
         let encoding = header.encoding();
         Some(Entries {
@@ -174,7 +169,13 @@ impl<'s, 'b> Entries<'s, 'b> {
         ensures within { IfSome result (λ n. (self.now.place ≤ n) × (self.now.place ≤ length self.now.source.section.bytes → n ≤ length self.now.source.section.bytes)) }
     {
         if let Some(runs) = self.passing {
-            return runs.passed(self.encoding, &self.section, self.place);
+            return passed_by(
+                &runs.runs,
+                runs.tail,
+                self.encoding,
+                &self.section,
+                self.place,
+            );
         }
         passed(
             self.pending,
@@ -276,25 +277,13 @@ impl<'s, 'b> Entries<'s, 'b> {
         Ok(value)
     }
 
-    /// The first `DW_AT_language` of the attributes that were not read, where it takes no bytes; `next_wanted` gives no
-    /// such one.
-    pub fn bare_language(&self) -> Option<AttrValue>
-        ensures { result ≡ bare_language self.now.pending }
-    {
-        match self.passing {
-            Some(runs) => runs.language,
-            None => bare_language(self.pending),
-        }
-    }
-
     /// The next attribute of the entry that tells what a function, an inlined call or a unit is, with its name, and None
     /// where none is left: its names (`DW_AT_name`, `DW_AT_linkage_name`, `DW_AT_MIPS_linkage_name`), where they stand
     /// (`DW_AT_abstract_origin`, `DW_AT_specification`), what it covers (`DW_AT_low_pc`, `DW_AT_high_pc`,
     /// `DW_AT_ranges`), where it is called (`DW_AT_call_file`, `DW_AT_call_line`, `DW_AT_call_column`), and of a unit its
     /// lines, its language, its directory and its bases (`DW_AT_stmt_list`, `DW_AT_language`, `DW_AT_comp_dir`,
-    /// `DW_AT_str_offsets_base`, `DW_AT_addr_base`, `DW_AT_rnglists_base`). Those before it are passed over, and so is one
-    /// without bytes that a later one of its name tells again, and each language without bytes, of which `bare_language`
-    /// tells the first. InvalidDwarf exactly where it or one of them has no value, and then nothing has changed.
+    /// `DW_AT_str_offsets_base`, `DW_AT_addr_base`, `DW_AT_rnglists_base`). Those before it are passed over. InvalidDwarf
+    /// exactly where it or one of them has no value, and then nothing has changed.
     #[inline(always)]
     #[tactic(auto, unfolding(crate::specs::Wanted::wanted_of))]
     pub fn next_wanted(&mut self) -> Result<Option<(u64, AttrValue)>>
@@ -352,13 +341,12 @@ impl<'s, 'b> Entries<'s, 'b> {
         ensures within { IfSome result (λ n. StaysIn self.now.source.section.bytes at n) }
     {
         let runs = abbreviation.passing(self.encoding)?;
+        let list = runs.runs.as_slice();
         // most entries have attributes of fixed sizes alone
-        if let KeptRuns::Own(list) = &runs.runs
-            && list.as_slice().is_empty()
-        {
+        if list.is_empty() {
             return over(runs.tail, self.section.bytes, at);
         }
-        runs.passed(self.encoding, &self.section, at)
+        passed_by(list, runs.tail, self.encoding, &self.section, at)
     }
 
     /// The place and the depth behind the entry at a place, where it is passed over and its size is known.

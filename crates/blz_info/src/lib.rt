@@ -2,38 +2,26 @@
 #![tactic(auto)]
 
 mod abbreviations;
-mod attribute_list;
-mod attribute_lists;
 mod attributes;
 mod behind;
-mod cuts;
-mod cutting;
-mod declarations;
 mod encoding;
 mod entries;
 mod extent;
 mod fault;
 mod field;
 mod form;
-mod kept_specs;
-mod known;
 pub mod laws;
-mod lent;
 mod listing;
 mod passing;
-mod placed_list;
 mod ready;
 mod runs;
 mod section;
-mod table;
 mod text;
 mod units;
 mod value;
 mod wanted;
 
-pub use abbreviations::{Abbreviation, AttrSpec};
-pub use attribute_lists::AttributeLists;
-pub use declarations::{BrokenTables, Declarations};
+pub use abbreviations::{Abbreviation, Abbreviations, AttrSpec};
 pub use encoding::Encoding;
 pub use entries::{Entries, Entry};
 pub use extent::{Extent, extent_at};
@@ -43,7 +31,6 @@ pub use form::{Field, Form, Makes, Width};
 pub use listing::{Listed, list_unit};
 pub use passing::Passing;
 pub use section::{Section, Sections, cut};
-pub use table::Abbreviations;
 pub use text::{StrBase, StrPart, StrPlace, Texts};
 pub use units::{UnitHeader, UnitHeaders, UnitKind, is_address_size};
 pub use value::{AttrValue, form_value};

@@ -6,10 +6,9 @@ ghost use Rattle.blz_info.specs.Listing.{listed_view, rest_of, trees_of};
 ghost use Rattle.blz_info.specs.Marks.{or_invalid};
 ghost use Rattle.blz_info.specs.Walks.{source_of};
 
-use crate::abbreviations::AttrSpec;
+use crate::abbreviations::{Abbreviations, AttrSpec};
 use crate::entries::{Entries, Entry};
 use crate::section::Sections;
-use crate::table::Abbreviations;
 use crate::units::UnitHeader;
 use crate::value::AttrValue;
 use blz_error::Result;

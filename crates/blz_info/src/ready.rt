@@ -6,7 +6,7 @@ ghost use Rattle.blz_info.specs.Wanted.{wanted_in, met_view};
 
 use crate::abbreviations::AttrSpec;
 use crate::encoding::Encoding;
-use crate::runs::Runs;
+use crate::runs::{Runs, wanted_by};
 use crate::section::Section;
 use crate::text::StrBase;
 use crate::wanted::{Met, any_placing, wanted_in};
@@ -14,7 +14,7 @@ use blz_constants::dwarf;
 use std::alloc::{AllocError, Global};
 
 // more attributes than an entry has that a compiler wrote
-pub(crate) const MANY: usize = 24;
+const MANY: usize = 24;
 
 /// The attributes of an abbreviation in runs for one encoding: where they are passed over, and where those that are
 /// wanted are read, as those of functions and inlined calls are, and those of other entries where they are many.
@@ -86,7 +86,38 @@ pub(crate) fn next_wanted(
     ensures within { IfSome result (λ m. StaysIn section.now.bytes.now at m.place) }
 {
     match reading {
-        Some(runs) => runs.wanted(taken, pending, encoding, base, section, at),
+        Some(runs) => wanted_after(runs, taken, pending, encoding, base, section, at),
         None => wanted_in(pending, encoding, base, section, at),
+    }
+}
+
+/// The same behind so many runs that were taken.
+#[inline(always)]
+fn wanted_after(
+    runs: &Runs,
+    taken: usize,
+    pending: &[AttrSpec],
+    encoding: Encoding,
+    base: StrBase,
+    section: &Section<'_, '_>,
+    at: usize,
+) -> Option<Met>
+    requires texts { base.start + length section.now.bytes.now < 2 ^ 64 }
+    requires reads { Reads encoding taken runs.now pending.now }
+    ensures value { option_map (met_view pending.now) result ≡ wanted_in pending.now encoding base (section_view section.now) at }
+    ensures counted { IfSome result (λ m. m.count ≤ length pending.now) }
+    ensures left { IfSome result (λ m. 0 < m.runs → Reads encoding m.runs runs.now (drop m.count pending.now)) }
+    ensures some { IfSome result (λ m. MatchOption m.found (m.count ≡ length pending.now) (λ _. 0 < m.count)) }
+    ensures within { IfSome result (λ m. StaysIn section.now.bytes.now at m.place) }
+{
+    let tail = runs.tail;
+    let left = &runs.runs[taken..];
+    let met = wanted_by(left, tail, pending, encoding, base, section, at)?;
+    match met.found {
+        None => Some(met),
+        Some(_) => Some(Met {
+            runs: taken + met.runs,
+            ..met
+        }),
     }
 }

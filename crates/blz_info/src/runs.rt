@@ -2,21 +2,18 @@
 ghost use Rattle.std.specs.Prelude.{◌≡◌, ◌≤◌, ◌<◌, ◌+◌, ◌^◌, ◌&&◌, length, drop, true, IfSome, IfOk, MatchOption, option_map};
 ghost use Rattle.blz_info.specs.Contents.{section_view, StaysIn};
 ghost use Rattle.blz_info.specs.Attributes.{attribute};
-ghost use Rattle.blz_info.specs.Cuts.{behind_cut};
-ghost use Rattle.blz_info.specs.Wanted.{bare_language, tells, wanted_in, met_view, IsMet, IsMetAmong};
-ghost use Rattle.blz_info.specs.AttributeRuns.{wants, skipped_size, form_at, behind_by, value_by_form, passed_by, run_of};
-ghost use Rattle.blz_info.specs.AttributeRuns.{passed_kept, AreKept, AreLeft, AreRuns, LeavesReading, LeavesRuns, Reads};
+ghost use Rattle.blz_info.specs.Wanted.{is_wanted, wanted_in, met_view};
+ghost use Rattle.blz_info.specs.AttributeRuns.{wants, skipped_size, form_at, behind_by, value_by_form, passed_by, AreRuns, run_of};
 
 use crate::abbreviations::AttrSpec;
 use crate::attributes::{attribute, form_for};
 use crate::behind::{behind, behind_form, over, size_of};
-use crate::cuts::{Cut, KeptRuns};
 use crate::encoding::Encoding;
 use crate::form::{Form, form_of};
 use crate::section::Section;
 use crate::text::StrBase;
 use crate::value::{AttrValue, value_by};
-use crate::wanted::{Met, bare_language, tells};
+use crate::wanted::{Met, is_wanted};
 use blz_constants::dwarf;
 use std::alloc::{AllocError, Global};
 
@@ -25,40 +22,35 @@ use std::alloc::{AllocError, Global};
 #[derive(Clone, Copy)]
 pub struct Run {
     /// The bytes of those before it.
-    pub(crate) skip: usize,
+    skip: usize,
     /// How many those are.
-    pub(crate) count: usize,
+    count: usize,
     /// The one behind them.
-    pub(crate) spec: AttrSpec,
+    spec: AttrSpec,
     /// How its form is read, where the table of forms tells.
     form: Option<Form>,
     /// Its value is wanted.
-    pub(crate) wanted: bool,
+    wanted: bool,
 }
 
 /// Attributes in runs for one encoding, and the bytes of those behind the last run.
 #[derive(Drop)]
 pub struct Runs {
-    pub(crate) runs: KeptRuns,
+    pub(crate) runs: Vec<Run>,
     pub(crate) tail: usize,
-    /// The first language of the attributes, where it takes no bytes: no run leads to it.
-    pub(crate) language: Option<AttrValue>,
 }
 
-/// Where attributes are read, the one at an index tells something.
-fn wants(reading: bool, spec: AttrSpec, specs: &[AttrSpec], index: usize) -> bool
-    requires { index < length specs.now }
-    ensures { result ≡ wants reading spec (drop (index + 1) specs.now) }
+fn wants(reading: bool, spec: AttrSpec) -> bool
+    ensures { result ≡ wants reading spec }
 {
-    reading && tells(spec, specs, index)
+    reading && is_wanted(spec.name)
 }
 
 /// The bytes of an attribute that is not looked at.
-#[inline(always)]
-pub(crate) fn skipped_size(wanted: bool, spec: AttrSpec, encoding: Encoding) -> Option<usize>
-    ensures { result ≡ skipped_size wanted spec encoding }
+fn skipped_size(reading: bool, spec: AttrSpec, encoding: Encoding) -> Option<usize>
+    ensures { result ≡ skipped_size reading spec encoding }
 {
-    if wanted {
+    if wants(reading, spec) {
         return None;
     }
     if spec.form == dwarf::DW_FORM_implicit_const {
@@ -79,36 +71,20 @@ fn form_at(spec: AttrSpec, encoding: Encoding) -> Option<Form>
     }
 }
 
-fn run_of(wanted: bool, encoding: Encoding, skip: usize, count: usize, spec: AttrSpec) -> Run
-    ensures { result ≡ run_of wanted encoding skip count spec }
+fn run_of(reading: bool, encoding: Encoding, skip: usize, count: usize, spec: AttrSpec) -> Run
+    ensures { result ≡ run_of reading encoding skip count spec }
 {
     Run {
         skip,
         count,
         spec,
         form: form_at(spec, encoding),
-        wanted,
+        wanted: wants(reading, spec),
     }
 }
 
 impl Run {
-    /// The same, with no more before its own attribute than a cut leaves.
-    pub(crate) fn behind_cut(&self, cut: Cut) -> Run
-        ensures { result ≡ behind_cut cut self.now }
-    {
-        Run {
-            skip: cut.skip,
-            count: cut.count,
-            ..*self
-        }
-    }
-
-    pub(crate) fn behind(
-        &self,
-        encoding: Encoding,
-        section: &Section<'_, '_>,
-        at: usize,
-    ) -> Option<usize>
+    fn behind(&self, encoding: Encoding, section: &Section<'_, '_>, at: usize) -> Option<usize>
         ensures value { result ≡ behind_by self.now.form self.now.spec encoding (section_view section.now) at }
         ensures within { IfSome result (λ n. StaysIn section.now.bytes.now at n) }
     {
@@ -119,7 +95,7 @@ impl Run {
     }
 
     #[inline(always)]
-    pub(crate) fn value(
+    fn value(
         &self,
         encoding: Encoding,
         base: StrBase,
@@ -141,98 +117,33 @@ impl Run {
     }
 }
 
-/// Attributes in runs, and the bytes of those behind the last one; `reading` says that the values of
-/// some are wanted.
-pub(crate) fn in_runs(
-    alloc: Global,
-    specs: &[AttrSpec],
-    encoding: Encoding,
-    reading: bool,
-) -> Result<(Vec<Run>, usize), AllocError>
-    ensures { IfOk result (λ r. AreRuns reading encoding r.0.items r.1 specs.now) }
-{
-    let mut runs = Vec::new(alloc);
-    let mut tail: usize = 0;
-    let mut count: usize = 0;
-    for (index, spec) in specs.iter().enumerate() {
-        let wanted = wants(reading, *spec, specs, index);
-        if let Some(size) = skipped_size(wanted, *spec, encoding)
-            && let Some(more) = tail.checked_add(size)
-        {
-            tail = more;
-            count += 1;
-            continue;
-        }
-        let run = run_of(wanted, encoding, tail, count, *spec);
-        runs.push(run)?;
-        tail = 0;
-        count = 0;
-    }
-    Ok((runs, tail))
-}
-
 impl Runs {
-    /// Attributes in runs of their own; `reading` says that the values of some are wanted.
+    /// Attributes in runs; `reading` says that the values of some are wanted.
     pub(crate) fn of(
         alloc: Global,
         specs: &[AttrSpec],
         encoding: Encoding,
         reading: bool,
     ) -> Result<Runs, AllocError>
-        ensures runs { IfOk result (AreKept reading encoding specs.now) }
-        ensures language { IfOk result (λ r. r.language ≡ bare_language specs.now) }
+        ensures { IfOk result (λ r. AreRuns reading encoding r.runs.items r.tail specs.now) }
     {
-        let (runs, tail) = in_runs(alloc, specs, encoding, reading)?;
-        Ok(Runs {
-            runs: KeptRuns::Own(runs),
-            tail,
-            language: bare_language(specs),
-        })
-    }
-
-    /// The place behind all of the attributes.
-    #[inline(always)]
-    pub(crate) fn passed(
-        &self,
-        encoding: Encoding,
-        section: &Section<'_, '_>,
-        at: usize,
-    ) -> Option<usize>
-        ensures value { result ≡ passed_kept self.now encoding (section_view section.now) at }
-        ensures within { IfSome result (λ n. StaysIn section.now.bytes.now at n) }
-    {
-        match &self.runs {
-            KeptRuns::Own(runs) => passed_by(runs, self.tail, encoding, section, at),
-            KeptRuns::Shared(cut) => cut.passed(self.tail, encoding, section, at),
-        }
-    }
-
-    /// The next wanted attribute of those that are left behind so many runs that were taken.
-    #[inline(always)]
-    pub(crate) fn wanted(
-        &self,
-        taken: usize,
-        pending: &[AttrSpec],
-        encoding: Encoding,
-        base: StrBase,
-        section: &Section<'_, '_>,
-        at: usize,
-    ) -> Option<Met>
-        requires texts { base.start + length section.now.bytes.now < 2 ^ 64 }
-        requires reads { Reads encoding taken self.now pending.now }
-        ensures value { IsMet pending.now encoding base (section_view section.now) at result }
-        ensures counted { IfSome result (λ m. m.count ≤ length pending.now) }
-        ensures left { LeavesReading encoding self.now pending.now result }
-        ensures some { IsMetAmong pending.now result }
-        ensures within { IfSome result (λ m. StaysIn section.now.bytes.now at m.place) }
-    {
-        let tail = self.tail;
-        match &self.runs {
-            KeptRuns::Own(runs) => {
-                wanted_after(runs, taken, tail, pending, encoding, base, section, at)
+        let mut runs = Vec::new(alloc);
+        let mut tail: usize = 0;
+        let mut count: usize = 0;
+        for spec in specs {
+            if let Some(size) = skipped_size(reading, *spec, encoding)
+                && let Some(more) = tail.checked_add(size)
+            {
+                tail = more;
+                count += 1;
+                continue;
             }
-            KeptRuns::Shared(cut) => cut.wanted(taken, tail, pending, encoding, base, section, at),
+            let run = run_of(reading, encoding, tail, count, *spec);
+            runs.push(run)?;
+            tail = 0;
+            count = 0;
         }
+        Ok(Runs { runs, tail })
     }
 }
 
@@ -301,38 +212,4 @@ pub(crate) fn wanted_by(
         runs: 0,
         place,
     })
-}
-
-/// The same behind so many runs that were taken.
-#[inline(always)]
-pub(crate) fn wanted_after(
-    runs: &[Run],
-    taken: usize,
-    tail: usize,
-    pending: &[AttrSpec],
-    encoding: Encoding,
-    base: StrBase,
-    section: &Section<'_, '_>,
-    at: usize,
-) -> Option<Met>
-    requires texts { base.start + length section.now.bytes.now < 2 ^ 64 }
-    requires taken { taken ≤ length runs.now }
-    requires runs { AreRuns true encoding (drop taken runs.now) tail pending.now }
-    ensures value { IsMet pending.now encoding base (section_view section.now) at result }
-    ensures counted { IfSome result (λ m. m.count ≤ length pending.now) }
-    ensures within_runs { IfSome result (λ m. m.runs ≤ length runs.now) }
-    ensures found { IfSome result (λ m. IfSome m.found (λ _. AreLeft encoding runs.now tail pending.now m)) }
-    ensures left { LeavesRuns encoding runs.now tail pending.now result }
-    ensures some { IsMetAmong pending.now result }
-    ensures within { IfSome result (λ m. StaysIn section.now.bytes.now at m.place) }
-{
-    let left = &runs[taken..];
-    let met = wanted_by(left, tail, pending, encoding, base, section, at)?;
-    match met.found {
-        None => Some(met),
-        Some(_) => Some(Met {
-            runs: taken + met.runs,
-            ..met
-        }),
-    }
 }

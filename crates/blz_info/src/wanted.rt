@@ -1,8 +1,8 @@
 //! Attributes whose values tell what a function or a call is, its names, the addresses that it covers, and where it is
 //! called, or what holds for a whole unit.
-ghost use Rattle.std.specs.Prelude.{◌≡◌, ◌≤◌, ◌<◌, ◌+◌, ◌^◌, length, drop, Some, IfSome, MatchOption, option_map};
+ghost use Rattle.std.specs.Prelude.{◌≡◌, ◌≤◌, ◌<◌, ◌+◌, ◌^◌, length, IfSome, MatchOption, option_map};
 ghost use Rattle.blz_info.specs.Contents.{section_view, StaysIn};
-ghost use Rattle.blz_info.specs.Wanted.{is_wanted, is_placing, any_placing, bare_value, same_kind, is_alike, any_alike, bare_language, told_elsewhere, tells, wanted_in, met_view, further};
+ghost use Rattle.blz_info.specs.Wanted.{is_wanted, is_placing, any_placing, wanted_in, met_view};
 
 use crate::abbreviations::AttrSpec;
 use crate::attributes::attribute;
@@ -23,25 +23,6 @@ pub struct Met {
     pub(crate) runs: usize,
     /// The place behind them.
     pub(crate) place: usize,
-}
-
-impl Met {
-    /// The same, met behind so many attributes and runs more.
-    pub(crate) fn behind(self, count: usize, runs: usize) -> Met
-        requires attributes { self.count + count < 2 ^ 64 }
-        requires runs { self.runs + runs < 2 ^ 64 }
-        ensures { result ≡ further self count runs }
-    {
-        let runs = match self.found {
-            Some(_) => self.runs + runs,
-            None => 0,
-        };
-        Met {
-            count: self.count + count,
-            runs,
-            ..self
-        }
-    }
 }
 
 /// The attribute is wanted where what an entry is called and covers is read, or what a unit says of itself.
@@ -73,7 +54,7 @@ pub(crate) fn is_wanted(name: u64) -> bool
 
 /// The attribute tells addresses that its entry covers, or another entry that it stands for.
 #[tactic(auto, unfolding(crate::specs::Wanted::is_placing))]
-pub(crate) fn is_placing(name: u64) -> bool
+fn is_placing(name: u64) -> bool
     ensures { result ≡ is_placing name }
 {
     match name {
@@ -97,83 +78,6 @@ pub(crate) fn any_placing(specs: &[AttrSpec]) -> bool
     false
 }
 
-/// The value of an attribute that takes no bytes.
-fn bare_value(spec: AttrSpec) -> Option<AttrValue>
-    ensures { result ≡ bare_value spec }
-{
-    match spec.form {
-        dwarf::DW_FORM_implicit_const => Some(AttrValue::Signed(spec.constant)),
-        dwarf::DW_FORM_flag_present => Some(AttrValue::Other),
-        _ => None,
-    }
-}
-
-/// Both are no number, or 0, or a number above 0.
-fn same_kind(first: Option<u64>, second: Option<u64>) -> bool
-    ensures { result ≡ same_kind first second }
-{
-    match (first, second) {
-        (None, None) => true,
-        (Some(first), Some(second)) => if first == 0 { second == 0 } else { second > 0 },
-        _ => false,
-    }
-}
-
-fn is_alike(name: u64, value: AttrValue, spec: AttrSpec) -> bool
-    ensures { result ≡ is_alike name value spec }
-{
-    if spec.name != name {
-        return false;
-    }
-    match bare_value(spec) {
-        Some(other) => same_kind(value.udata(), other.udata()),
-        None => false,
-    }
-}
-
-fn any_alike(name: u64, value: AttrValue, specs: &[AttrSpec]) -> bool
-    ensures { result ≡ any_alike name value specs.now }
-{
-    for spec in specs {
-        if is_alike(name, value, *spec) {
-            return true;
-        }
-    }
-    false
-}
-
-/// The value of the first `DW_AT_language`, where that one takes no bytes.
-pub(crate) fn bare_language(specs: &[AttrSpec]) -> Option<AttrValue>
-    ensures { result ≡ bare_language specs.now }
-{
-    for spec in specs {
-        if spec.name == dwarf::DW_AT_language {
-            return bare_value(*spec);
-        }
-    }
-    None
-}
-
-/// The attribute takes no bytes, and is told elsewhere: by a later one that takes none either, of its name and a value
-/// of its kind, which decides; or as `bare_language`, since of languages the first decides.
-fn told_elsewhere(spec: AttrSpec, behind: &[AttrSpec]) -> bool
-    ensures { result ≡ told_elsewhere spec.name (bare_value spec) behind.now }
-{
-    match bare_value(spec) {
-        Some(value) => { spec.name == dwarf::DW_AT_language || any_alike(spec.name, value, behind) }
-        None => false,
-    }
-}
-
-/// The attribute at an index is wanted, and is not told elsewhere.
-#[tactic(auto, unfolding(crate::specs::Wanted::tells))]
-pub(crate) fn tells(spec: AttrSpec, specs: &[AttrSpec], index: usize) -> bool
-    requires { index < length specs.now }
-    ensures { result ≡ tells spec (drop (index + 1) specs.now) }
-{
-    is_wanted(spec.name) && !told_elsewhere(spec, &specs[index + 1..])
-}
-
 /// The next wanted one of some attributes.
 pub(crate) fn wanted_in(
     specs: &[AttrSpec],
@@ -191,7 +95,7 @@ pub(crate) fn wanted_in(
     let mut place = at;
     for (index, spec) in specs.iter().enumerate() {
         let (value, next) = attribute(*spec, encoding, base, section, place)?;
-        if tells(*spec, specs, index) {
+        if is_wanted(spec.name) {
             return Some(Met {
                 found: Some((spec.name, value)),
                 count: index + 1,

@@ -48,7 +48,7 @@ unfolding all_files
 all_behind n [] ys = sym (with_nothing (all_files n ys))
 all_behind n (x ∷ xs) ys = one_behind (all_files n (xs ++ ys)) (all_files n xs) (all_files n ys) (file_of n x) (all_behind n xs ys)
 
-pub some_of : {A : Type 0} (o : Option A) (x : A) → or_mark o InvalidDwarf ≡ Good x → o ≡ Some x
+some_of : {A : Type 0} (o : Option A) (x : A) → or_mark o InvalidDwarf ≡ Good x → o ≡ Some x
 some_of None x h = absurd cc
 some_of (Some y) x h = cc
 

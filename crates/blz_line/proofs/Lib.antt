@@ -6,10 +6,3 @@ pub mod MovedUp
 pub mod RunRows
 pub mod RisingRows
 pub mod UnitFiles
-pub mod AlikeRuns
-pub mod StringTables
-pub mod SettledRuns
-pub mod MissingFiles
-pub mod NeededStrings
-pub mod Indices
-pub mod RunOrder

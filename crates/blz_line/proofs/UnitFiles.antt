@@ -16,8 +16,7 @@ use Rattle.blz_line.specs.FileNames.{Naming, naming_of, all_files, at_front, dir
 use Rattle.blz_line.specs.Headers.{header_at}
 use Rattle.blz_line.specs.Program.{State}
 use Rattle.blz_line.specs.ProgramFiles.{files_by, first_file, first_of, in_unit, nameless, names_of}
-use Rattle.blz_line.specs.ProgramRuns.{run_at, run_of}
-use Rattle.blz_line.specs.ProgramTables.{ProgramTable, program_at, table_in, unit_table}
+use Rattle.blz_line.specs.ProgramTables.{ProgramTable, program_at, program_table, unit_table}
 use Rattle.blz_line.specs.UnitLines.{LineTable, maybe_table, program_of, some_table, table_at, table_of}
 use Rattle.blz_line.specs.declared.files.FilePlaces.{FilePlaces}
 use Rattle.blz_line.specs.declared.files.FirstFile.TheVariants.{Listed, Nowhere, OfUnit}
@@ -98,23 +97,22 @@ module _ (s : Sections) (h : UnitHeader) (r : UnitRoot) where
 
   behind_program : (header : LineHeader) (o : Option State)
       → (o >>= λ state. files_of (naming_of s h r header.version header.paths.directories) state.files >>= λ fs. Some (record { sequences = state.sequences; files = fs }))
-      ≡ in_it ((o >>= λ state. Some (record { version = header.version; directories = header.paths.directories; sequences = state.sequences; entries = state.files })) >>= table_in s h r)
-  unfolding table_in
+      ≡ in_it (o >>= λ state. all_files (nameless (naming_of s h r header.version header.paths.directories)) state.files >>= λ fs. Some (record { sequences = state.sequences; first = first_of header.version (length state.files); files = fs }))
   behind_program header None = refl
   behind_program header (Some state) =
       let n = naming_of s h r header.version header.paths.directories in
       rw (files_by_unit n state.files) (behind_files state header.version (all_files (nameless n) state.files))
 
-  table_by_run : (header : LineHeader) → table_of s h r header ≡ in_it (run_of (section_view s.line) header >>= table_in s h r)
-  unfolding table_of run_of
-  table_by_run header = behind_program header (program_of (section_view s.line) header)
+  table_by_program : (header : LineHeader) → table_of s h r header ≡ in_it (program_table s h r header)
+  unfolding table_of program_table
+  table_by_program header = behind_program header (program_of (section_view s.line) header)
 
-  behind_header : (o : Option LineHeader) → (o >>= table_of s h r) ≡ in_it ((o >>= run_of (section_view s.line)) >>= table_in s h r)
+  behind_header : (o : Option LineHeader) → (o >>= table_of s h r) ≡ in_it (o >>= program_table s h r)
   behind_header None = refl
-  behind_header (Some header) = table_by_run header
+  behind_header (Some header) = table_by_program header
 
   table_at_program : (at : ℕ) → table_at s h r at ≡ in_it (program_at s h r at)
-  unfolding table_at program_at run_at
+  unfolding table_at program_at
   table_at_program at = behind_header (header_at (section_view s.line) at h.address_size)
 
   abbrev in_lines : Option ProgramTable → Option (Option LineTable)

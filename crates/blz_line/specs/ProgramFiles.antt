@@ -1,9 +1,9 @@
 -- The files of a line program, by which each unit that reads it so has its own: only the directory of the unit differs, and
 -- file 0 before version 5 (DWARF 5 section 6.2.4).
 use Rattle.std.specs.Prelude.{ℕ, List, map, Option, Some, None, ◌==◌, nat_le, if◌then◌else◌}
+use Rattle.std.specs.Arc.{arc_value}
 use Rattle.blz_entry.specs.declared.root.UnitRoot.{UnitRoot}
 use Rattle.blz_line.specs.FileNames.{Naming, at_front, nowhere, unit_file}
-use Rattle.blz_line.specs.ListedFiles.{listed_view}
 use Rattle.blz_line.specs.declared.files.FilePlaces.{FilePlaces}
 use Rattle.blz_line.specs.declared.files.FirstFile.{FirstFile}
 use Rattle.blz_line.specs.declared.files.FirstFile.TheVariants.{Listed, Nowhere, OfUnit}
@@ -37,4 +37,4 @@ abbrev pub files_by : UnitNames → FirstFile → List FilePlaces → List FileP
 files_by names first files = at_front (first_file first names) (map (in_unit names) files)
 
 abbrev pub files_in : UnitNames → ProgramFiles → List FilePlaces
-files_in names p = files_by names p.first (listed_view p.listed)
+files_in names p = files_by names p.first (arc_value p.table)

@@ -1,9 +1,7 @@
--- The table of a line program by its sequences and its files.
-use Rattle.std.specs.Prelude.{List}
-use Rattle.blz_line.specs.ListedFiles.{listed_view}
+-- What the table of a line program stands for before its order.
+use Rattle.std.specs.Arc.{arc_value}
 use Rattle.blz_line.specs.ProgramTables.{ProgramTable}
-use Rattle.blz_line.specs.Sequences.{Sequence}
-use Rattle.blz_line.specs.declared.files.ProgramFiles.{ProgramFiles}
+use Rattle.blz_line.specs.declared.program_lines.Unordered.{Unordered}
 
-abbrev pub table_with : List Sequence → ProgramFiles → ProgramTable
-table_with sequences files = record { sequences = sequences; first = files.first; files = listed_view files.listed }
+abbrev pub table_view : Unordered → ProgramTable
+table_view t = record { sequences = t.sequences.items; first = t.files.first; files = arc_value t.files.table }

@@ -1,11 +1,9 @@
 //! The files that rows name.
 ghost use Rattle.std.specs.Prelude.{◌≡◌, option_map, slice_get, IfOk};
+ghost use Rattle.std.specs.Arc.{arc_value};
 ghost use Rattle.blz_line.specs.FileNames.{maybe_text, file_text, unit_file};
-ghost use Rattle.blz_line.specs.ListedFiles.{listed_view};
 ghost use Rattle.blz_line.specs.ProgramFiles.{files_in, first_file, in_unit, names_of};
 
-use crate::indexed_strings::UnitStrings;
-use crate::settled_files::SettledFiles;
 use crate::table::Table;
 use blz_bytes::DirPath;
 use blz_entry::{StrPlace, Texts, UnitRoot};
@@ -47,20 +45,12 @@ pub enum FirstFile {
     OfUnit,
 }
 
-/// The files of a line program as a unit without names has them.
-#[derive(Drop)]
-pub enum ListedFiles {
-    /// Each as it is.
-    Read(Arc<Table<FilePlaces>>),
-    /// Each by its entry: those are the same for the units that find names by their indices.
-    ByIndex(SettledFiles, UnitStrings),
-}
-
 /// The files of a line program, by which each unit that shares it has its own.
 #[derive(Drop)]
 pub struct ProgramFiles {
     pub first: FirstFile,
-    pub listed: ListedFiles,
+    /// The files as a unit without names has them.
+    pub table: Arc<Table<FilePlaces>>,
 }
 
 impl UnitNames {
@@ -112,56 +102,24 @@ impl FirstFile {
     }
 }
 
-impl ListedFiles {
-    /// The same files once more.
-    fn share(&self) -> Result<ListedFiles, AllocError>
-        ensures { IfOk result (λ f. listed_view f ≡ listed_view self.now) }
-    {
-        match self {
-            ListedFiles::Read(table) => Ok(ListedFiles::Read(Arc::try_clone(table)?)),
-            ListedFiles::ByIndex(files, strings) => {
-                let files = files.share()?;
-                let strings = strings.share()?;
-                Ok(ListedFiles::ByIndex(files, strings))
-            }
-        }
-    }
-
-    /// The file of a number, counted from 0.
-    fn get(&self, number: u64) -> Option<FilePlaces>
-        ensures { result ≡ slice_get (listed_view self.now) number }
-    {
-        match self {
-            ListedFiles::Read(table) => table.get(number),
-            ListedFiles::ByIndex(files, strings) => {
-                let entry = files.entries.get(number)?;
-                match files.namer(strings).file_of(entry) {
-                    Some(file) => Some(file),
-                    None => Some(NOWHERE),
-                }
-            }
-        }
-    }
-}
-
 impl ProgramFiles {
     /// The same files once more.
     pub fn share(&self) -> Result<ProgramFiles, AllocError>
         ensures first { IfOk result (λ f. f.first ≡ self.now.first) }
-        ensures listed { IfOk result (λ f. listed_view f.listed ≡ listed_view self.now.listed) }
+        ensures table { IfOk result (λ f. arc_value f.table ≡ arc_value self.now.table) }
     {
-        let listed = self.listed.share()?;
+        let table = Arc::try_clone(&self.table)?;
         Ok(ProgramFiles {
             first: self.first,
-            listed,
+            table,
         })
     }
 
     /// The file of a number in the table of a unit.
     fn listed(&self, names: &UnitNames, number: u64) -> Option<FilePlaces>
-        ensures { result ≡ option_map (in_unit names.now) (slice_get (listed_view self.now.listed) number) }
+        ensures { result ≡ option_map (in_unit names.now) (slice_get (arc_value self.now.table) number) }
     {
-        match self.listed.get(number) {
+        match self.table.get(number) {
             Some(file) => Some(names.place(file)),
             None => None,
         }

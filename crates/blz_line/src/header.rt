@@ -260,6 +260,16 @@ pub(crate) fn header_at(
     fields_at(alloc, encoding, program, extent.end, &header, next)
 }
 
+/// The bytes of the line table at an offset of `.debug_line`, its program and its length among them; 0 where there is
+/// none. So much is read where the program is run.
+pub fn program_bytes(sections: &Sections<'_, '_>, at: u64) -> u64 {
+    let at = at as usize;
+    match extent_at(&sections.line, at) {
+        Some((extent, _)) => (extent.end - at) as u64,
+        None => 0,
+    }
+}
+
 impl LineHeader {
     /// The header at an offset of `.debug_line`; before version 5 addresses have the given size. InvalidDwarf exactly
     /// where that is no header.

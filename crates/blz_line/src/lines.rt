@@ -93,6 +93,11 @@ impl Lines {
         self.program.sequences()
     }
 
+    /// How many rows all sequences have.
+    pub fn rows_count(&self) -> u64 {
+        self.program.rows_count()
+    }
+
     /// The directory and the name of the file of a number, counted from 0; None exactly where the table has no such file.
     /// The texts are those of the sections that were parsed.
     pub fn file<'b>(&self, texts: &Texts<'b>, index: u64) -> Option<(DirPath<'b>, &'b [u8])>

@@ -1,16 +1,15 @@
 //! How the entries of a table of files become files.
 ghost use Rattle.std.specs.Prelude.{◌≡◌, length, IfOk};
+ghost use Rattle.std.specs.Arc.{arc_value};
 ghost use Rattle.blz_error.specs.declared.kind.ErrorKind.TheVariants.{InvalidDwarf};
 ghost use Rattle.blz_model.specs.Part.{Gives, or_mark};
 ghost use Rattle.blz_line.specs.Tables.{copies};
 ghost use Rattle.blz_line.specs.FileNames.{directory_path, file_of, all_files};
-ghost use Rattle.blz_line.specs.ListedFiles.{listed_view};
-ghost use Rattle.blz_line.specs.NamingView.{naming_view, strings_view};
+ghost use Rattle.blz_line.specs.NamingView.{naming_view};
 ghost use Rattle.blz_line.specs.ProgramFiles.{first_of};
 
 use crate::broken::broken;
-use crate::files::{FilePlaces, FirstFile, ListedFiles, ProgramFiles};
-use crate::indexed_strings::UnitStrings;
+use crate::files::{FilePlaces, FirstFile, ProgramFiles};
 use crate::paths::FileEntry;
 use crate::table::Table;
 use blz_entry::{AttrValue, Sections, StrPlace, UnitHeader, UnitRoot, attr_string};
@@ -18,37 +17,18 @@ use blz_error::Result;
 use std::alloc::Global;
 use std::sync::Arc;
 
-/// Where strings are found.
-#[derive(Clone, Copy)]
-pub enum Strings<'a, 's, 'b> {
-    /// In sections, as a unit finds them.
-    Read(&'a Sections<'s, 'b>, &'a UnitHeader, &'a UnitRoot),
-    /// Among those that were read before.
-    Kept(&'a UnitStrings),
-}
-
 /// What the names of a table's files go by.
 #[derive(Clone, Copy)]
 pub struct Namer<'a, 's, 'b> {
-    pub strings: Strings<'a, 's, 'b>,
+    pub sections: &'a Sections<'s, 'b>,
+    pub unit: &'a UnitHeader,
+    pub root: &'a UnitRoot,
     pub version: u16,
     pub directories: &'a Table<FileEntry>,
 }
 
-impl Strings<'_, '_, '_> {
-    /// The string of a value; None exactly where it is none or cannot be read.
-    fn get(&self, value: AttrValue) -> Option<StrPlace>
-        ensures { result ≡ strings_view self.now value }
-    {
-        match *self {
-            Strings::Read(sections, unit, root) => attr_string(sections, unit, root, value),
-            Strings::Kept(strings) => strings.string_at(value),
-        }
-    }
-}
-
 impl Namer<'_, '_, '_> {
-    pub fn directory_path(&self, number: u64) -> Option<AttrValue>
+    fn directory_path(&self, number: u64) -> Option<AttrValue>
         ensures { result ≡ directory_path (naming_view self.now) number }
     {
         if number == 0 {
@@ -68,11 +48,11 @@ impl Namer<'_, '_, '_> {
     fn string_at(&self, value: AttrValue) -> Option<StrPlace>
         ensures { result ≡ (naming_view self.now).string_at value }
     {
-        self.strings.get(value)
+        attr_string(self.sections, self.unit, self.root, value)
     }
 
     #[tactic(auto, unfolding(crate::specs::FileNames::file_of, crate::specs::FileNames::file_in))]
-    pub fn file_of(&self, entry: FileEntry) -> Option<FilePlaces>
+    fn file_of(&self, entry: FileEntry) -> Option<FilePlaces>
         ensures { result ≡ file_of (naming_view self.now) entry }
     {
         let name = self.string_at(entry.path)?;
@@ -123,7 +103,7 @@ impl Namer<'_, '_, '_> {
     }
 
     /// What file 0 is.
-    pub fn first_of(&self, entries: &Table<FileEntry>) -> FirstFile
+    fn first_of(&self, entries: &Table<FileEntry>) -> FirstFile
         ensures { result ≡ first_of self.now.version (length entries.now) }
     {
         if self.version <= 4 {
@@ -137,12 +117,12 @@ impl Namer<'_, '_, '_> {
 
     /// The files of the program; InvalidDwarf where a path or a directory cannot be read.
     pub fn files_of(&self, alloc: Global, entries: &Table<FileEntry>) -> Result<ProgramFiles>
-        ensures table { Gives (λ f. listed_view f.listed) result (or_mark (all_files (naming_view self.now) entries.now) InvalidDwarf) }
+        ensures table { Gives (λ f. arc_value f.table) result (or_mark (all_files (naming_view self.now) entries.now) InvalidDwarf) }
         ensures first { IfOk result (λ f. f.first ≡ first_of self.now.version (length entries.now)) }
     {
         let files = self.all_files(alloc, entries)?;
-        let listed = ListedFiles::Read(Arc::new(alloc, files)?);
+        let table = Arc::new(alloc, files)?;
         let first = self.first_of(entries);
-        Ok(ProgramFiles { first, listed })
+        Ok(ProgramFiles { first, table })
     }
 }

@@ -2,8 +2,6 @@
 ghost use Rattle.std.specs.Prelude.{◌≡◌, ◌≤◌, ◌<◌, length, IfSome};
 ghost use Rattle.blz_error.specs.declared.kind.ErrorKind.TheVariants.{InvalidDwarf};
 ghost use Rattle.blz_model.specs.Part.{Gives, or_mark};
-ghost use Rattle.blz_line.specs.ProgramRuns.{has_index, is_index};
-ghost use Rattle.blz_line.specs.Tables.{copies};
 ghost use Rattle.blz_line.specs.PathTables.{text_place, file_numbers, file_at, entry_behind, listed_at, listed_paths};
 
 use crate::broken::broken;
@@ -20,43 +18,6 @@ pub struct FileEntry {
     pub path: AttrValue,
     /// The number of the directory that the path stands in.
     pub directory: u64,
-}
-
-impl FileEntry {
-    /// Whether its path is found by its index in the string offsets of a unit.
-    fn is_by_index(&self) -> bool
-        ensures { result ≡ is_index self.now.path }
-    {
-        match self.path {
-            AttrValue::StrIndex(_) => true,
-            _ => false,
-        }
-    }
-}
-
-/// Whether some equal entries are there, and have such a path.
-fn repeats_index(repeated: Option<(u64, FileEntry)>) -> bool
-    ensures { result ≡ has_index (copies repeated) }
-{
-    match repeated {
-        Some((count, entry)) => count > 0 && entry.is_by_index(),
-        None => false,
-    }
-}
-
-/// Whether one of some entries has such a path.
-fn lists_index(listed: &[FileEntry]) -> bool
-    ensures { result ≡ has_index listed.now }
-{
-    listed.iter().any(|entry| entry.is_by_index())
-}
-
-/// Whether an entry of a table has such a path.
-pub fn has_index(entries: &Table<FileEntry>) -> bool
-    ensures { result ≡ has_index entries.now }
-{
-    let (repeated, listed) = entries.parts();
-    repeats_index(repeated) || lists_index(listed)
 }
 
 /// Both tables of a header, in the order of their numbers.

@@ -42,13 +42,6 @@ impl<T: Copy> Table<T> {
         }
     }
 
-    /// Equal entries, by their number, in front of listed ones.
-    pub fn of_parts(repeated: Option<(u64, T)>, listed: Vec<T>) -> Table<T>
-        ensures { result ≡ copies repeated ++ listed.items }
-    {
-        Table { repeated, listed }
-    }
-
     /// Adds an entry at the end; after want of memory the list is as before.
     pub fn push(&mut self, entry: T) -> Result<(), AllocError>
         ensures added { IfOk result (λ _. self.new ≡ self.old ++ entry ∷ []) }

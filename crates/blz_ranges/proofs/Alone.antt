@@ -1,16 +1,28 @@
 -- Ranges of one group are weighed as ranges without groups.
-use Rattle.std.proofs.Common.{◌≡◌, ℕ, zero, suc, ◌+◌, ◌*◌, ◌<◌, ◌≤◌, Bool, true, List, [], ◌∷◌, map, length, Option, Some, None, refl, sym, ap, subst, arith, ◌∙◌, ◌⊎◌}
+use Rattle.std.proofs.Common.{◌≡◌, ℕ, zero, suc, ◌+◌, ◌*◌, ◌≤◌, Bool, true, List, [], ◌∷◌, map, length, Option, Some, None, refl, sym, ap, arith, ◌∙◌}
+use Rattle.std.specs.Prelude.{option_map}
 use Rattle.std.specs.List.{slice_get}
 use Rattle.std.proofs.lemmas.Bool.{and_parts, and_from, eq-eqb}
 use Rattle.std.proofs.lemmas.List.{length-map}
+use Rattle.std.proofs.lemmas.Option.{slice_get-map}
 use Rattle.blz_ranges.specs.declared.span.Span.{Span}
 use Rattle.blz_ranges.specs.declared.placed.Placed.{Placed}
 use Rattle.blz_ranges.specs.declared.grouped.Grouped.{Grouped}
-use Rattle.blz_ranges.specs.Best.{best, next_after, passes, IsBest}
-use Rattle.blz_ranges.specs.Groups.{grouped, group_is, spans_of, after_in, in_group, best_in, AreApart, AreApartInGroups}
+use Rattle.blz_ranges.specs.Best.{best, next, placed, passes, IsBest}
+use Rattle.blz_ranges.specs.Groups.{grouped, group_is, spans_of, in_group, best_in, next_in, AreApart, AreApartInGroups}
 use Rattle.blz_ranges.specs.Ranges.{AllInGroup}
 use Rattle.blz_ranges.proofs.BestOf.{best_is, best_is_best}
-use Rattle.blz_ranges.proofs.Carried.{source, span_there}
+
+-- a range of the list has a grouped one at its place
+record Source (list : List Grouped) (q : ℕ) (t : Span) : Type 0 where
+  pub item : Grouped
+  pub is : slice_get list q ≡ Some item
+  pub span_is : item.span ≡ t
+
+source : (list : List Grouped) (q : ℕ) (t : Span) → slice_get (spans_of list) q ≡ Some t → Source list q t
+source [] q t h = absurd cc
+source (x ∷ xs) zero t h = record { item = x; is = refl; span_is = cc }
+source (x ∷ xs) (suc q) t h = let r = source xs q t h in record { item = r.item; is = r.is; span_is = r.span_is }
 
 is_there : (g : ℕ) (list : List Grouped) (q : ℕ) (t : Span) → AllInGroup g list → slice_get (spans_of list) q ≡ Some t → group_is g (slice_get list q) ≡ true
 is_there g list q t all is =
@@ -29,24 +41,18 @@ alone g list test (Some p) all h = record {
 pub best_alone : (g : ℕ) (list : List Grouped) (a : ℕ) → AllInGroup g list → best_in list g a ≡ best (spans_of list) a
 best_alone g list a all = best_is (passes a None) (spans_of list) _ (alone g list (passes a None) _ all (best_is_best (in_group list g (passes a None)) (spans_of list)))
 
-pub after_alone : (g : ℕ) (list : List Grouped) (a : ℕ) (b : Placed) → AllInGroup g list → after_in list g a b ≡ next_after (spans_of list) a b
-after_alone g list a b all = best_is (passes a (Some b)) (spans_of list) _ (alone g list (passes a (Some b)) _ all (best_is_best (in_group list g (passes a (Some b))) (spans_of list)))
+pub next_alone : (g : ℕ) (list : List Grouped) (a bound : ℕ) → AllInGroup g list → next_in list g a bound ≡ next (spans_of list) a bound
+next_alone g list a bound all =
+    let after : Option Placed = Some (placed (spans_of list) bound) in
+    best_is (passes a after) (spans_of list) _ (alone g list (passes a after) _ all (best_is_best (in_group list g (passes a after)) (spans_of list)))
+
+span_there : (list : List Grouped) (p : ℕ) (x : Grouped) → slice_get list p ≡ Some x → slice_get (spans_of list) p ≡ Some x.span
+span_there list p x is = slice_get-map (λ (e : Grouped). e.span) list p ∙ ap (option_map (λ (e : Grouped). e.span)) is
 
 pub apart_alone : (g : ℕ) (list : List Grouped) → AllInGroup g list → AreApart (spans_of list) → AreApartInGroups list
 apart_alone g list all apart = record {
   nonempty = λ p x is. apart.nonempty p x.span (span_there list p x is);
   apart = λ p q x y ne is isy s. apart.apart p q x.span y.span ne (span_there list p x is) (span_there list q y isy);
-}
-
-pub apart_in_one : (g : ℕ) (list : List Grouped) → AllInGroup g list → AreApartInGroups list → AreApart (spans_of list)
-apart_in_one g list all apart = record {
-  nonempty = λ p s is. let x = source list p s is in subst (λ (t : Span). t.begin < t.end) x.span_is (apart.nonempty p x.item x.is);
-  apart = λ p q s t ne is ist.
-      let x = source list p s is in
-      let y = source list q t ist in
-      let h = apart.apart p q x.item y.item ne x.is y.is (all p x.item x.is ∙ sym (all q y.item y.is)) in
-      let k = subst (λ (u : Span). (u.end ≤ y.item.span.begin) ⊎ (y.item.span.end ≤ u.begin)) x.span_is h in
-      subst (λ (u : Span). (s.end ≤ u.begin) ⊎ (u.end ≤ s.begin)) y.span_is k;
 }
 
 pub all_in_one : (spans : List Span) (p : ℕ) (x : Grouped) → slice_get (map (grouped 0) spans) p ≡ Some x → x.group ≡ 0

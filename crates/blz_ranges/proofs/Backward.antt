@@ -108,7 +108,7 @@ found_none es g a after high start low = λ i e is t.
       | inr ge ↦ start.past i e ge is t
     ]
 
-pub no_later : (es : List Ordered) (i j : ℕ) (e f : Ordered) → IsOrdered es → i ≤ j → slice_get es i ≡ Some e → slice_get es j ≡ Some f → e.group ≤ f.group
+no_later : (es : List Ordered) (i j : ℕ) (e f : Ordered) → IsOrdered es → i ≤ j → slice_get es i ≡ Some e → slice_get es j ≡ Some f → e.group ≤ f.group
 no_later es i j e f ordered le is isf =
     elim (cases_lt i j) [
       | inl lt ↦ (ordered.rises i j e f lt is isf).later

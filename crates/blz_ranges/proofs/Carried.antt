@@ -9,41 +9,22 @@ use Rattle.blz_ranges.specs.declared.placed.Placed.{Placed}
 use Rattle.blz_ranges.specs.declared.grouped.Grouped.{Grouped}
 use Rattle.blz_ranges.specs.declared.ordered.Ordered.{Ordered}
 use Rattle.blz_ranges.specs.Best.{no_span, placed, best_by, place_of, passes, IsBest}
-use Rattle.blz_ranges.specs.Groups.{group_is, spans_of, after_in, in_group, best_in, next_in, AreApartInGroups}
+use Rattle.blz_ranges.specs.Groups.{group_is, spans_of, in_group, best_in, next_in, AreApartInGroups}
 use Rattle.blz_ranges.specs.Sorted.{range_of, IsIndexOf, IsChain}
 use Rattle.blz_ranges.specs.Search.{tests, IsFound, place_found}
 use Rattle.blz_ranges.proofs.BestOf.{best_is}
 
--- a range of the list has a grouped one at its place
-pub record Source (list : List Grouped) (q : ℕ) (t : Span) : Type 0 where
+record Source (list : List Grouped) (q : ℕ) (t : Span) : Type 0 where
   pub item : Grouped
   pub is : slice_get list q ≡ Some item
   pub span_is : item.span ≡ t
 
-pub source : (list : List Grouped) (q : ℕ) (t : Span) → slice_get (spans_of list) q ≡ Some t → Source list q t
+source : (list : List Grouped) (q : ℕ) (t : Span) → slice_get (spans_of list) q ≡ Some t → Source list q t
 source [] q t h = absurd cc
 source (x ∷ xs) zero t h = record { item = x; is = refl; span_is = cc }
 source (x ∷ xs) (suc q) t h = let r = source xs q t h in record { item = r.item; is = r.is; span_is = r.span_is }
 
-pub span_there : (list : List Grouped) (p : ℕ) (x : Grouped) → slice_get list p ≡ Some x → slice_get (spans_of list) p ≡ Some x.span
-span_there list p x is = slice_get-map (λ (e : Grouped). e.span) list p ∙ ap (option_map (λ (e : Grouped). e.span)) is
-
--- a range has its entry in the order
-pub record Entered (es : List Ordered) (p : ℕ) (x : Grouped) : Type 0 where
-  pub at : ℕ
-  pub entry : Ordered
-  pub is : slice_get es at ≡ Some entry
-  pub place_is : entry.place ≡ p
-  pub range_is : range_of entry ≡ x
-
-pub entered : (list : List Grouped) (es : List Ordered) (p : ℕ) (x : Grouped) → IsIndexOf list es → slice_get list p ≡ Some x → Entered es p x
-entered list es p x index is =
-    let h = index.every p x is in
-    let k : slice_get list p ≡ Some (range_of h.entry) = subst (λ (n : ℕ). slice_get list n ≡ Some (range_of h.entry)) h.place_is (index.entry h.at h.entry h.is) in
-    let w : range_of h.entry ≡ x = cc in
-    record { at = h.at; entry = h.entry; is = h.is; place_is = h.place_is; range_is = w }
-
--- one that passes has an entry that does
+-- a range that passes has its entry in the order
 record Held (list : List Grouped) (es : List Ordered) (g a : ℕ) (after : Option Placed) (q : ℕ) (t : Span) : Type 0 where
   pub at : ℕ
   pub entry : Ordered
@@ -60,10 +41,12 @@ passes_at a after p q s t e f h =
 held : (list : List Grouped) (es : List Ordered) (g a : ℕ) (after : Option Placed) (q : ℕ) (t : Span) → IsIndexOf list es → slice_get (spans_of list) q ≡ Some t → in_group list g (passes a after) q t ≡ true → Held list es g a after q t
 held list es g a after q t index is p =
     let s = source list q t is in
-    let h = entered list es q s.item index s.is in
-    let span : h.entry.span ≡ t = ap (λ (x : Grouped). x.span) h.range_is ∙ s.span_is in
+    let h = index.every q s.item s.is in
+    let k : slice_get list q ≡ Some (range_of h.entry) = subst (λ (n : ℕ). slice_get list n ≡ Some (range_of h.entry)) h.place_is (index.entry h.at h.entry h.is) in
+    let w : s.item ≡ range_of h.entry = cc in
+    let span : h.entry.span ≡ t = sym (ap (λ (x : Grouped). x.span) w) ∙ s.span_is in
     let c = and_parts _ _ p in
-    let group : eqb h.entry.group g ≡ true = ap (λ (x : Grouped). eqb x.group g) h.range_is ∙ (sym (ap (group_is g) s.is) ∙ c.0) in
+    let group : eqb h.entry.group g ≡ true = sym (ap (group_is g) k) ∙ c.0 in
     record { at = h.at; entry = h.entry; is = h.is; place_is = h.place_is; span_is = span; passes = and_from _ _ group (passes_at a after h.entry.place q h.entry.span t h.place_is span c.1) }
 
 carried : (list : List Grouped) (es : List Ordered) (g a : ℕ) (after : Option Placed) (best : Option Ordered) → IsIndexOf list es → IsFound es g a after best → IsBest (in_group list g (passes a after)) (spans_of list) (place_found best)
@@ -73,7 +56,7 @@ carried list es g a after (Some b) index h =
     let c = and_parts _ _ h.passes in
     record {
       span = b.span;
-      at = span_there list b.place (range_of b) x;
+      at = slice_get-map (λ (e : Grouped). e.span) list b.place ∙ ap (option_map (λ (e : Grouped). e.span)) x;
       passes = and_from _ _ (ap (group_is g) x ∙ c.0) c.1;
       first = λ q t is p.
           let k = held list es g a after q t index is p in
@@ -95,13 +78,16 @@ bound_at bound s = record { place = bound; span = s }
 pub placed_is : (list : List Grouped) (bound : ℕ) (x : Grouped) → slice_get list bound ≡ Some x → placed (spans_of list) bound ≡ record { place = bound; span = x.span }
 unfolding bound_at
 placed_is list bound x is =
-    ap (bound_at bound) (get_or_from_slice_get (spans_of list) bound x.span no_span (span_there list bound x is))
+    let s : slice_get (spans_of list) bound ≡ Some x.span = slice_get-map (λ (e : Grouped). e.span) list bound ∙ ap (option_map (λ (e : Grouped). e.span)) is in
+    ap (bound_at bound) (get_or_from_slice_get (spans_of list) bound x.span no_span s)
 
-pub after_found : (list : List Grouped) (es : List Ordered) (g a : ℕ) (b : Placed) (best : Option Ordered) → IsIndexOf list es → IsFound es g a (Some b) best → place_found best ≡ after_in list g a b
-after_found list es g a b best index h = found_by list es g a (Some b) best index h
+pub next_scanned : (list : List Grouped) (g a bound : ℕ) (x : Grouped) (r : Option ℕ) → slice_get list bound ≡ Some x
+    → r ≡ place_of (best_by (in_group list g (passes a (Some (record { place = bound; span = x.span })))) 0 (spans_of list)) → r ≡ next_in list g a bound
+next_scanned list g a bound x r is h = h ∙ ap (λ (b : Placed). place_of (best_by (in_group list g (passes a (Some b))) 0 (spans_of list))) (sym (placed_is list bound x is))
 
-pub after_it : (list : List Grouped) (g a bound : ℕ) (x : Grouped) → slice_get list bound ≡ Some x → after_in list g a (record { place = bound; span = x.span }) ≡ next_in list g a bound
-after_it list g a bound x is = ap (after_in list g a) (sym (placed_is list bound x is))
+pub next_found : (list : List Grouped) (es : List Ordered) (g a bound : ℕ) (x : Grouped) (best : Option Ordered) → IsIndexOf list es → slice_get list bound ≡ Some x
+    → IsFound es g a (Some (record { place = bound; span = x.span })) best → place_found best ≡ next_in list g a bound
+next_found list es g a bound x best index is h = next_scanned list g a bound x (place_found best) is (found_by list es g a (Some (record { place = bound; span = x.span })) best index h)
 
 -- ranges apart stand one after another in their order
 pub chained : (list : List Grouped) (es : List Ordered) → IsIndexOf list es → AreApartInGroups list → IsChain es

@@ -6,9 +6,7 @@ pub mod Carried
 pub mod Scanning
 pub mod Made
 pub mod Alone
-pub mod InOrder
 pub mod OwnedItems
 pub mod OneCovers
 pub mod ListEnds
 pub mod Turning
-pub mod Chains

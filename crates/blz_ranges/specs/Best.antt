@@ -46,13 +46,9 @@ passes addr (Some b) at s = covers s addr && comes_after b at s
 abbrev pub best : List Span → ℕ → Option ℕ
 best spans addr = place_of (best_by (λ at s. covers s addr) 0 spans)
 
--- the next one that covers it, after one that need not be of the list
-abbrev pub next_after : List Span → ℕ → Placed → Option ℕ
-next_after spans addr b = place_of (best_by (λ at s. covers s addr && comes_after b at s) 0 spans)
-
--- the next one, after the one at a place
+-- the next one that covers it, after the one at a place
 abbrev pub next : List Span → ℕ → ℕ → Option ℕ
-next spans addr bound = next_after spans addr (placed spans bound)
+next spans addr bound = place_of (best_by (λ at s. covers s addr && comes_after (placed spans bound) at s) 0 spans)
 
 -- What tells the best one from all that pass.
 pub record NotAfter (p : ℕ) (s : Span) (q : ℕ) (t : Span) : Type 0 where

@@ -3,7 +3,6 @@ use Rattle.std.specs.Prelude.{◌≡◌, ℕ, ◌<◌, ◌≤◌, Bool, false, �
 use Rattle.std.specs.List.{slice_get}
 use Rattle.blz_ranges.specs.declared.span.Span.{Span}
 use Rattle.blz_ranges.specs.declared.grouped.Grouped.{Grouped}
-use Rattle.blz_ranges.specs.declared.placed.Placed.{Placed}
 use Rattle.blz_ranges.specs.Best.{best_by, place_of, passes, placed, no_span}
 
 abbrev pub group_is : ℕ → Option Grouped → Bool
@@ -21,13 +20,9 @@ in_group list g test at s = group_is g (slice_get list at) && test at s
 abbrev pub best_in : List Grouped → ℕ → ℕ → Option ℕ
 best_in list g addr = place_of (best_by (in_group list g (passes addr None)) 0 (spans_of list))
 
--- the next one, after one that need not be of the list
-abbrev pub after_in : List Grouped → ℕ → ℕ → Placed → Option ℕ
-after_in list g addr b = place_of (best_by (in_group list g (passes addr (Some b))) 0 (spans_of list))
-
 -- the next one, after the one at a place
 abbrev pub next_in : List Grouped → ℕ → ℕ → ℕ → Option ℕ
-next_in list g addr bound = after_in list g addr (placed (spans_of list) bound)
+next_in list g addr bound = place_of (best_by (in_group list g (passes addr (Some (placed (spans_of list) bound)))) 0 (spans_of list))
 
 abbrev pub grouped : ℕ → Span → Grouped
 grouped g s = record { group = g; span = s }

@@ -6,6 +6,5 @@ pub mod Search
 pub mod Keyed
 pub mod Owned
 pub mod Ranges
-pub mod Rising
 pub mod Turned
 pub mod Skipping

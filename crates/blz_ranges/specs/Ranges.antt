@@ -1,10 +1,9 @@
--- What the indexes stand for: their ranges, whether their order was accepted, and the ranges in that order.
+-- What the indexes stand for: their ranges, and whether their order was accepted.
 use Rattle.std.specs.Prelude.{◌≡◌, ℕ, Bool, true, List, Option, Some, None}
 use Rattle.std.specs.List.{slice_get}
 use Rattle.blz_ranges.specs.declared.span.Span.{Span}
 use Rattle.blz_ranges.specs.declared.grouped.Grouped.{Grouped}
 use Rattle.blz_ranges.specs.declared.ordered.Ordered.{Ordered}
-use Rattle.blz_ranges.specs.declared.placed.Placed.{Placed}
 use Rattle.blz_ranges.specs.Owned.{Owned, items_of, owner_at}
 use Rattle.blz_ranges.specs.declared.skips.Skip.{Skip}
 use Rattle.blz_ranges.specs.Best.{best}
@@ -14,12 +13,10 @@ use Rattle.blz_ranges.specs.Sorted.{IsIndexOf}
 pub record GroupedRanges : Type 0 where
   pub list : List Grouped
   pub ordered : Bool
-  pub order : List Ordered
 
 pub record Ranges : Type 0 where
   pub spans : List Span
   pub ordered : Bool
-  pub order : List Placed
 
 pub record OwnedRanges : Type 0 where
   pub ranges : List (Owned Span)

@@ -1,8 +1,12 @@
 -- Steps back over entries that end too low.
-use Rattle.std.specs.Prelude.{◌≡◌, ℕ, ◌≤◌, List, length, Some, ◌⊎◌}
+use Rattle.std.specs.Prelude.{◌≡◌, ℕ, zero, suc, ◌≤◌, List, length, Option, Some, None, ◌⊎◌}
 use Rattle.std.specs.List.{slice_get}
 use Rattle.blz_ranges.specs.declared.ordered.Ordered.{Ordered}
 use Rattle.blz_ranges.specs.declared.skips.Skip.{Skip}
+
+abbrev pub skip_before : List Skip → ℕ → Option Skip
+skip_before skips zero = None
+skip_before skips (suc at) = slice_get skips at
 
 -- a step from an index, over entries that end at a top or below
 pub record IsSkip (entries : List Ordered) (at : ℕ) (s : Skip) : Type 0 where

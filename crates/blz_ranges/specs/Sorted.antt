@@ -1,5 +1,5 @@
 -- The entries of an index: ranges in the order of group and begin, each with the greatest end of its group so far.
-use Rattle.std.specs.Prelude.{◌≡◌, ℕ, zero, suc, ◌<◌, ◌≤◌, Bool, ◌&&◌, ◌||◌, ◌==◌, List, [], ◌∷◌, length, max, Option, Some, None, nat_lt, nat_le, if◌then◌else◌}
+use Rattle.std.specs.Prelude.{◌≡◌, ℕ, ◌<◌, ◌≤◌, ◌==◌, List, [], ◌∷◌, length, max, Some, if◌then◌else◌}
 use Rattle.std.specs.List.{slice_get}
 use Rattle.blz_ranges.specs.declared.grouped.Grouped.{Grouped}
 use Rattle.blz_ranges.specs.declared.ordered.Ordered.{Ordered}
@@ -61,18 +61,3 @@ pub record IsIndexOf (list : List Grouped) (entries : List Ordered) : Type 0 whe
 pub record IsChain (entries : List Ordered) : Type 0 where
   pub nonempty : (i : ℕ) (e : Ordered) → slice_get entries i ≡ Some e → e.span.begin < e.span.end
   pub apart : (i j : ℕ) (e f : Ordered) → i < j → slice_get entries i ≡ Some e → slice_get entries j ≡ Some f → e.group ≡ f.group → e.span.end ≤ f.span.begin
-
--- what stands before an index
-abbrev pub item_before : {A : Type 0} → List A → ℕ → Option A
-item_before items zero = None
-item_before items (suc at) = slice_get items at
-
--- whether an entry is not empty, and begins where those of its group up to the one before it have ended
-abbrev pub follows : Option Ordered → Ordered → Bool
-follows None e = nat_lt e.span.begin e.span.end
-follows (Some d) e = nat_lt e.span.begin e.span.end && (nat_lt d.group e.group || nat_le d.reach e.span.begin)
-
--- the same as facts
-pub record Follows (last : Option Ordered) (e : Ordered) : Type 0 where
-  pub nonempty : e.span.begin < e.span.end
-  pub behind : (d : Ordered) → last ≡ Some d → d.group ≡ e.group → d.reach ≤ e.span.begin

@@ -3,13 +3,12 @@ ghost use Rattle.std.specs.Prelude.{◌≡◌, ℕ, ◌+◌, ◌*◌, ◌^◌, �
 ghost use Rattle.std.specs.List.{slice_get};
 ghost use Rattle.blz_bytes.specs.declared.orders.Key.{Key};
 ghost use Rattle.blz_ranges.specs.Best.{best_by, better, passes};
-ghost use Rattle.blz_ranges.specs.Groups.{after_in, best_in, next_in, in_group, spans_of, group_is, AreApartInGroups};
+ghost use Rattle.blz_ranges.specs.Groups.{best_in, next_in, in_group, spans_of, group_is, AreApartInGroups};
 ghost use Rattle.blz_ranges.specs.Keyed.{AreKeysOf, IsAccepted};
 ghost use Rattle.blz_ranges.specs.Ranges.{GroupedRanges, IsIndexIf};
-ghost use Rattle.blz_ranges.specs.Sorted.{IsIndexOf};
 
 use crate::grouped::{Grouped, first_places, search_order};
-use crate::ordered::{Ordered, Target, is_chain, last_before, place_found, split};
+use crate::ordered::{Ordered, Target, last_before, place_found, split};
 use crate::placed::{Placed, passes, place_of};
 use crate::skips::{Skip, skips_of};
 use crate::span::Span;
@@ -30,7 +29,7 @@ pub struct GroupIndex {
 impl Model for GroupIndex {
     ghost Value = { GroupedRanges };
 
-    ghost view = { λ x. record { list = x.list; ordered = x.ordered; order = x.order } };
+    ghost view = { λ x. record { list = x.list; ordered = x.ordered } };
 
     ghost invariant = { λ x. IsIndexIf x.list x.order x.skips x.ordered };
 }
@@ -113,30 +112,12 @@ impl GroupIndex {
         self.ordered
     }
 
-    /// Whether the order shows that the ranges are not empty and no two of a group share an address. False where no
-    /// order was accepted.
-    pub fn is_apart<L: Ledger>(&self, steps: &mut Steps<L>) -> bool
-        ensures apart { result ≡ true → AreApartInGroups self.now.list }
-        ensures index { result ≡ true → IsIndexOf self.now.list self.now.order }
-        ensures later { steps.old ≤ steps.new }
-    {
-        self.ordered && is_chain(&self.order, steps)
-    }
-
     /// The range at a place, for one step.
     pub fn range<L: Ledger>(&self, place: usize, steps: &mut Steps<L>) -> Option<Grouped>
         ensures range { result ≡ slice_get self.now.list place }
         ensures cost { steps.new ≡ steps.old + 1 }
     {
         self.list.look(place, steps)
-    }
-
-    /// The range at a place of the order, for one step.
-    pub(crate) fn entry<L: Ledger>(&self, at: usize, steps: &mut Steps<L>) -> Option<Ordered>
-        ensures entry { result ≡ slice_get self.now.order at }
-        ensures cost { steps.new ≡ steps.old + 1 }
-    {
-        self.order.look(at, steps)
     }
 
     /// Of the ranges of a group that cover an address the one with the greatest begin, then the earlier place.
@@ -150,26 +131,6 @@ impl GroupIndex {
             place_found(&last_before(&self.order, &self.skips, group, addr, high, steps))
         } else {
             place_of(&scan(&self.list, group, addr, &None, steps))
-        }
-    }
-
-    /// The next range of a group that covers an address, after one that need not be of the list.
-    pub fn after_in<L: Ledger>(
-        &self,
-        group: usize,
-        addr: u64,
-        after: Placed,
-        steps: &mut Steps<L>,
-    ) -> Option<usize>
-        ensures next { result ≡ after_in self.now.list group addr after }
-        ensures later { steps.old ≤ steps.new }
-    {
-        if self.ordered {
-            let target = Target::after(group, addr, after.place, after.span.begin);
-            let high = split(&self.order, &target, steps);
-            place_found(&last_before(&self.order, &self.skips, group, addr, high, steps))
-        } else {
-            place_of(&scan(&self.list, group, addr, &Some(after), steps))
         }
     }
 
@@ -188,10 +149,14 @@ impl GroupIndex {
         let Some(range) = self.list.look(bound, steps) else {
             return None;
         };
-        let after = Placed {
-            place: bound,
-            span: range.span,
-        };
-        self.after_in(group, addr, after, steps)
+        let span = range.span;
+        let after = Some(Placed { place: bound, span });
+        if self.ordered {
+            let target = Target::after(group, addr, bound, span.begin);
+            let high = split(&self.order, &target, steps);
+            place_found(&last_before(&self.order, &self.skips, group, addr, high, steps))
+        } else {
+            place_of(&scan(&self.list, group, addr, &after, steps))
+        }
     }
 }

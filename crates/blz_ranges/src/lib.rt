@@ -17,6 +17,5 @@ pub use group_index::GroupIndex;
 pub use grouped::{Grouped, group_keys};
 pub use owned_ranges::{OwnedRanges, fitted, number_at};
 pub use owners::own;
-pub use placed::Placed;
 pub use range_index::RangeIndex;
 pub use span::Span;

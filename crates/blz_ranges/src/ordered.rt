@@ -1,7 +1,7 @@
 //! The search among ranges in their order.
-ghost use Rattle.std.specs.Prelude.{◌≡◌, ℕ, ◌+◌, ◌*◌, ◌^◌, ◌-◌, ◌≤◌, ◌<◌, true, length, Option, Some};
+ghost use Rattle.std.specs.Prelude.{◌≡◌, ℕ, ◌+◌, ◌*◌, ◌^◌, ◌-◌, ◌≤◌, ◌<◌, length, Option, Some};
 ghost use Rattle.std.specs.List.{slice_get};
-ghost use Rattle.blz_ranges.specs.Sorted.{IsOrdered, IsChain, follows};
+ghost use Rattle.blz_ranges.specs.Sorted.{IsOrdered, IsChain};
 ghost use Rattle.blz_ranges.specs.Search.{is_below, is_behind, target_at, target_after, IsSplit, IsStart, IsFound, place_found};
 ghost use Rattle.blz_ranges.specs.Skipping.{AreSkips, IsStepBack};
 ghost use Rattle.blz_ranges.specs.declared.placed.Placed.{Placed};
@@ -76,17 +76,6 @@ impl Ordered {
             || (self.group == target.group
                 && (self.span.begin < target.begin
                     || (self.span.begin == target.begin && target.is_behind(self.place))))
-    }
-
-    /// Whether this range is not empty, and begins where those of its group up to the last one have ended.
-    fn follows(&self, last: &Option<Ordered>) -> bool
-        ensures { result ≡ follows last.now self.now }
-    {
-        match last {
-            None => self.span.begin < self.span.end,
-            Some(before) => self.span.begin < self.span.end
-                && (before.group < self.group || before.reach <= self.span.begin),
-        }
     }
 }
 
@@ -170,26 +159,4 @@ pub fn last_before<L: Ledger>(
         at = step_back(skips, at - 1, addr, steps);
     }
     None
-}
-
-/// Whether the ranges are not empty, and those of each group stand one after another.
-pub fn is_chain<L: Ledger>(order: &Counted<Ordered>, steps: &mut Steps<L>) -> bool
-    requires { IsOrdered order.now }
-    ensures chain { result ≡ true → IsChain order.now }
-    ensures cost { steps.new ≤ steps.old + length order.now }
-    ensures later { steps.old ≤ steps.new }
-{
-    let mut last: Option<Ordered> = None;
-    let mut at = 0;
-    while at < order.len() {
-        let Some(entry) = order.look(at, steps) else {
-            return false;
-        };
-        if !entry.follows(&last) {
-            return false;
-        }
-        last = Some(entry);
-        at += 1;
-    }
-    true
 }

@@ -1,15 +1,13 @@
 //! An index of ranges.
 ghost use Rattle.std.specs.Prelude.{◌≡◌, ℕ, ◌+◌, ◌*◌, ◌^◌, ◌-◌, ◌<◌, ◌≤◌, true, List, length, map, Option, None, Some, IfOk};
 ghost use Rattle.std.specs.List.{slice_get};
-ghost use Rattle.blz_ranges.specs.Best.{best, next, next_after};
+ghost use Rattle.blz_ranges.specs.Best.{best, next};
 ghost use Rattle.blz_ranges.specs.Groups.{AreApart, spans_of};
 ghost use Rattle.blz_ranges.specs.Keyed.{IsAccepted, begin_key};
 ghost use Rattle.blz_ranges.specs.Ranges.{Ranges, AllInGroup};
-ghost use Rattle.blz_ranges.specs.Rising.{AreRising, all_placed};
 
 use crate::group_index::GroupIndex;
 use crate::grouped::{begin_keys, one_group};
-use crate::placed::Placed;
 use crate::span::Span;
 use blz_bytes::{Orders, Steps};
 use std::alloc::{AllocError, Global};
@@ -25,11 +23,7 @@ pub struct RangeIndex {
 impl Model for RangeIndex {
     ghost Value = { Ranges };
 
-    ghost view = { λ x. record {
-      spans = spans_of x.index.list;
-      ordered = x.index.ordered;
-      order = all_placed x.index.order;
-    } };
+    ghost view = { λ x. record { spans = spans_of x.index.list; ordered = x.index.ordered } };
 
     ghost invariant = { λ x. AllInGroup 0 x.index.list };
 }
@@ -68,20 +62,6 @@ impl RangeIndex {
         }
     }
 
-    /// The range at a place of the order, with its place in the list, for one step.
-    pub fn ordered<L: Ledger>(&self, at: usize, steps: &mut Steps<L>) -> Option<Placed>
-        ensures range { result ≡ slice_get self.now.order at }
-        ensures cost { steps.new ≡ steps.old + 1 }
-    {
-        match self.index.entry(at, steps) {
-            Some(entry) => Some(Placed {
-                place: entry.place,
-                span: entry.span,
-            }),
-            None => None,
-        }
-    }
-
     /// Of the ranges that cover an address the one with the greatest begin, then the earlier place.
     pub fn best_at<L: Ledger>(&self, addr: u64, steps: &mut Steps<L>) -> Option<usize>
         ensures best { result ≡ best self.now.spans addr }
@@ -105,19 +85,6 @@ impl RangeIndex {
         self.index.next_in(0, addr, bound, steps)
     }
 
-    /// The next range that covers an address, after one that need not be of the list.
-    pub fn next_after<L: Ledger>(
-        &self,
-        addr: u64,
-        after: Placed,
-        steps: &mut Steps<L>,
-    ) -> Option<usize>
-        ensures next { result ≡ next_after self.now.spans addr after }
-        ensures later { steps.old ≤ steps.new }
-    {
-        self.index.after_in(0, addr, after, steps)
-    }
-
     fn best_from<L: Ledger>(&self, addr: u64, blank: Blank) -> Option<usize>
         requires name { blank.name ≡ L.name }
         requires parts { blank.parts ≡ L.parts }
@@ -126,26 +93,6 @@ impl RangeIndex {
     {
         let mut steps: Steps<L> = Steps::new(blank);
         self.best_at(addr, &mut steps)
-    }
-
-    fn apart_from<L: Ledger>(&self, blank: Blank) -> bool
-        requires name { blank.name ≡ L.name }
-        requires parts { blank.parts ≡ L.parts }
-        requires some { 0 < blank.parts }
-        ensures apart { result ≡ true → AreApart self.now.spans }
-        ensures rising { result ≡ true → AreRising self.now.spans self.now.order }
-    {
-        let mut steps: Steps<L> = Steps::new(blank);
-        self.index.is_apart(&mut steps)
-    }
-
-    /// Whether the order shows that the ranges are not empty and no two share an address: then they rise in it. False
-    /// where no order was accepted. For a caller that counts no looks.
-    pub fn is_apart(&self) -> bool
-        ensures apart { result ≡ true → AreApart self.now.spans }
-        ensures rising { result ≡ true → AreRising self.now.spans self.now.order }
-    {
-        self.apart_from::<Brand>(Blank::new(1))
     }
 
     /// The place of the best range that covers an address, for a caller that counts no looks.

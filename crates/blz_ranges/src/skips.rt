@@ -1,8 +1,7 @@
 //! Steps back over entries that end too low.
 ghost use Rattle.std.specs.Prelude.{◌≡◌, ◌+◌, ◌<◌, ◌≤◌, ◌^◌, ℕ, length, Some, Option, IfOk, IfSome};
 ghost use Rattle.std.specs.List.{slice_get};
-ghost use Rattle.blz_ranges.specs.Skipping.{IsSkip, AreSkips, AreFirstSkips};
-ghost use Rattle.blz_ranges.specs.Sorted.{item_before};
+ghost use Rattle.blz_ranges.specs.Skipping.{skip_before, IsSkip, AreSkips, AreFirstSkips};
 
 use crate::ordered::Ordered;
 use std::alloc::{AllocError, Global};
@@ -16,7 +15,7 @@ pub struct Skip {
 }
 
 fn skip_before(skips: &[Skip], at: usize) -> Option<Skip>
-    ensures { result ≡ item_before skips.now at }
+    ensures { result ≡ skip_before skips.now at }
 {
     if at == 0 {
         return None;

@@ -18,7 +18,6 @@ use Rattle.blz_reader.specs.Growing.{Told, Made, AreOrdered, LinesOrdered, Calls
 use Rattle.blz_reader.specs.Readers.{reader_files, reader_table}
 use Rattle.blz_reader.specs.declared.reader.Reader.{Reader}
 use Rattle.blz_units.specs.KeptParts.{call_cache, calls_view, kept_root, kept_functions, kept_lines, kept_calls, is_empty, lacks_root, lacks_functions, lacks_lines, lacks_calls, BuiltFit, CachesFit, PartsFit}
-use Rattle.blz_units.specs.SharedPrograms.{ArePrograms}
 use Rattle.blz_reader.specs.Putting.{with_functions, with_lines, with_root, HasCalls, Puts, PutsCalls, PutsOrKeeps}
 use Rattle.blz_functions.specs.FunctionRanges.{FunctionRanges, CallRanges}
 use Rattle.blz_units.specs.UnitAnswers.{function_calls}
@@ -121,9 +120,9 @@ put_one : (r : Reader) (told : Told) (units new : List UnitCaches) (k : ℕ) (ol
 put_one r told units new k old unit is e here grows fits = rw e (record { fits = fits_put (reader_files r) (reader_table r) units k unit here fits; grows = grows_put told units k old unit is grows })
 
 -- So is what is kept, where the units that were built besides still fit.
-pub put_fills : (told : Told) (r : Reader) (old new : Caches) → CanBeFilled r old → BuiltFit (reader_files r) (reader_table r) new.built → ArePrograms (reader_files r).main new.programs → IsPut r told old.units.items new.units.items → Fills told r old new
-put_fills told r old new fillable built programs put = record {
-  fillable = record { readable = fillable.readable; fits = record { built = built; units = put.fits; programs = programs } };
+pub put_fills : (told : Told) (r : Reader) (old new : Caches) → CanBeFilled r old → BuiltFit (reader_files r) (reader_table r) new.built → IsPut r told old.units.items new.units.items → Fills told r old new
+put_fills told r old new fillable built put = record {
+  fillable = record { readable = fillable.readable; fits = record { built = built; units = put.fits } };
   grows = put.grows;
 }
 

@@ -1,7 +1,7 @@
 -- A name that is followed entry after entry is the one that a value refers to.
-use Rattle.std.proofs.Common.{◌≡◌, ℕ, zero, suc, ◌+◌, ◌<◌, Bool, true, false, Option, Some, None, refl, subst, arith}
+use Rattle.std.proofs.Common.{◌≡◌, ℕ, zero, suc, ◌+◌, ◌<◌, Bool, true, false, Option, Some, None, refl, arith}
 use Rattle.std.specs.Option.{option_map}
-use Rattle.std.specs.Prelude.{IfSome, is_some, if◌then◌else◌}
+use Rattle.std.specs.Prelude.{is_some, if◌then◌else◌}
 use Rattle.blz_model.specs.Reads.{◌>>=◌}
 use Rattle.blz_info.specs.declared.text.StrPlace.{StrPlace}
 use Rattle.blz_info.specs.declared.value.AttrValue.{AttrValue}
@@ -14,14 +14,12 @@ use Rattle.blz_reader.specs.declared.references.Reference.{Reference}
 use Rattle.blz_reader.specs.declared.references.Followed.TheVariants.{Name, On}
 use Rattle.blz_functions.specs.declared.referred.Visited.{Visited}
 use Rattle.blz_functions.specs.declared.referred.Visited.TheVariants.{Named, Leads, Nameless}
-use Rattle.blz_reader.specs.Following.{unit_in, placed_in, own_side, target_in, given_by, told_by, entry_given, followed, step_of, going, name_over}
-use Rattle.blz_units.specs.KeptParts.{entry_of, unit_of, headers_of}
+use Rattle.blz_reader.specs.Following.{unit_in, placed_in, own_side, target_in, seen_by, given_by, told_by, entry_given, followed, step_of, going, name_over}
+use Rattle.blz_units.specs.KeptParts.{unit_of, headers_of}
 use Rattle.blz_reader.specs.Linkage.{Linked, refer_in}
 use Rattle.blz_functions.specs.Leaves.{UnitParts}
 use Rattle.blz_functions.specs.Naming.{visited}
 use Rattle.blz_functions.specs.References.{entry_in, in_main, in_sup, target, go_on, visit_then, unit_at, referenced}
-use Rattle.blz_units.specs.LongEntries.{as_seen, seen_in}
-use Rattle.blz_units.specs.declared.long_entries.SeenEntry.{SeenEntry}
 use Rattle.blz_units.specs.UnitTables.{reach_of}
 
 abbrev Names : Type 0
@@ -30,7 +28,7 @@ Names = Option (Option StrPlace)
 abbrev in_unit : Standing → Bool → AttrValue → Reference
 in_unit at sup v = record { unit = at; sup = sup; value = v }
 
-given_same : (at : Standing) (u : UnitParts) (go : Reference → Names) (follow : UnitParts → AttrValue → Names) (o : Option Visited) → ((v : AttrValue) → go (in_unit at u.sections.sup v) ≡ follow u v) → (((o >>= λ v. Some (as_seen u v)) >>= given_by at) >>= going go) ≡ (o >>= go_on follow u)
+given_same : (at : Standing) (u : UnitParts) (go : Reference → Names) (follow : UnitParts → AttrValue → Names) (o : Option Visited) → ((v : AttrValue) → go (in_unit at u.sections.sup v) ≡ follow u v) → (((o >>= λ v. Some (seen_by u v)) >>= given_by at) >>= going go) ≡ (o >>= go_on follow u)
 given_same at u go follow None h = refl
 given_same at u go follow (Some (Named name)) h = refl
 given_same at u go follow (Some Nameless) h = refl
@@ -81,12 +79,6 @@ name_is (suc n) l at u (SupStr x) e = refl
 name_is (suc n) l at u (SecOffset x) e = refl
 name_is (suc n) l at u (RangeIndex x) e = refl
 name_is (suc n) l at u Other e = refl
-
--- What an entry tells by the number of its unit, it tells.
-pub told_is : (m l : Linked) (side : Side) (k distance : ℕ) (at : Standing) (r : Option SeenEntry) → m ≡ l → unit_of l.files side (headers_of side l.table) k ≡ unit_in l at → IfSome r (λ e. entry_of m.files m.table side k distance ≡ Some e) → IfSome r (λ e. told_by l at distance ≡ Some e)
-unfolding told_by
-told_is m l side k distance at r same is h =
-    subst (λ (o : Option UnitParts). IfSome r (λ e. (o >>= seen_in distance) ≡ Some e)) is (subst (λ (n : Linked). IfSome r (λ e. entry_of n.files n.table side k distance ≡ Some e)) same h)
 
 -- the name that a value of the unit itself refers to
 pub name_in : (l : Linked) (v : AttrValue) → name_over 16 l (in_unit Own l.unit.sections.sup v) ≡ refer_in l v

@@ -10,8 +10,8 @@ use Rattle.blz_info.specs.Marks.{or_invalid}
 use Rattle.blz_info.proofs.Marked.{good_some, marks_on}
 use Rattle.blz_units.specs.declared.caches.UnitCaches.{UnitCaches}
 use Rattle.blz_units.specs.BuiltUnits.{Files}
-use Rattle.blz_functions.specs.AskedCalls.{AskedCalls}
-use Rattle.blz_functions.specs.SearchedFunctions.{AskedFunctions}
+use Rattle.blz_functions.specs.CallTree.{CallLists}
+use Rattle.blz_functions.specs.FunctionList.{Lists}
 use Rattle.blz_units.specs.KeptAnswers.{Repeats, kept_part, calls_told, calls_listed, is_value, value_in}
 use Rattle.blz_units.specs.KeptParts.{calls_at, calls_view, lacks_calls, PartsFit}
 use Rattle.blz_functions.specs.FunctionRanges.{CallRanges}
@@ -35,18 +35,18 @@ not_none (Mark k) e h = absurd cc
 
 -- ---- what a fill refuses, the lending call refuses
 
-lists_lost : (o : Option AskedFunctions) → listed o ≡ None → o ≡ None
+lists_lost : (o : Option Lists) → listed o ≡ None → o ≡ None
 lists_lost None e = refl
 lists_lost (Some l) e = absurd cc
 
-pub lists_refused : (kind : ErrorKind) (o : Option AskedFunctions) → Fails kind (or_invalid (listed o)) → Fails kind (or_invalid o)
+pub lists_refused : (kind : ErrorKind) (o : Option Lists) → Fails kind (or_invalid (listed o)) → Fails kind (or_invalid o)
 lists_refused kind o fails = marks_on kind (listed o) o fails (lists_lost o)
 
-calls_lost : (o : Option AskedCalls) → calls_listed o ≡ None → o ≡ None
+calls_lost : (o : Option CallLists) → calls_listed o ≡ None → o ≡ None
 calls_lost None e = refl
 calls_lost (Some l) e = absurd cc
 
-pub calls_refused : (kind : ErrorKind) (o : Option AskedCalls) → Fails kind (or_invalid (calls_listed o)) → Fails kind (or_invalid o)
+pub calls_refused : (kind : ErrorKind) (o : Option CallLists) → Fails kind (or_invalid (calls_listed o)) → Fails kind (or_invalid o)
 calls_refused kind o fails = marks_on kind (calls_listed o) o fails (calls_lost o)
 
 -- ---- the calls of a function, by what is kept

@@ -1,3 +1,4 @@
+pub mod LeftOut
 pub mod ShownSteps
 pub mod NameSteps
 pub mod CacheSteps

@@ -13,7 +13,7 @@ use Rattle.blz_info.proofs.Marked.{good_some, marks_on}
 use Rattle.blz_info.specs.declared.text.Texts.{Texts}
 use Rattle.blz_units.specs.declared.caches.UnitCaches.{UnitCaches}
 use Rattle.blz_units.specs.BuiltUnits.{Files}
-use Rattle.blz_functions.specs.SearchedFunctions.{AskedFunctions}
+use Rattle.blz_functions.specs.FunctionList.{Lists}
 use Rattle.blz_reader.specs.Growing.{Told, Made, AreOrdered, UnitsGrowTo}
 use Rattle.blz_functions.specs.FunctionRanges.{FunctionRanges}
 use Rattle.blz_units.specs.KeptAnswers.{Repeats, kept_part, is_value}
@@ -27,13 +27,13 @@ use Rattle.blz_ranges.proofs.ListEnds.{last_or}
 use Rattle.blz_reader.proofs.NameSteps.{Numbers, behind, called_behind, called_more, called_none, called_end, listed_behind, listed_more, listed_none, listed_end, shown_behind, shown_more, shown_none, shown_end}
 use Rattle.blz_reader.proofs.ShownSteps.{shows_none, shows_then}
 
-called_as : (texts : Texts) (name : List ℕ) (o : Option AskedFunctions) → (or_invalid o >>= λ (l : AskedFunctions). Good (first_called texts name l)) ≡ or_invalid (called_in texts name o)
+called_as : (texts : Texts) (name : List ℕ) (o : Option Lists) → (or_invalid o >>= λ (l : Lists). Good (first_called texts name l)) ≡ or_invalid (called_in texts name o)
 called_as texts name None = refl
 called_as texts name (Some l) = refl
 
 pub called_is : (texts : Texts) (f : Files) (t : UnitTable) (units : List UnitCaches) (name : List ℕ) (k : ℕ) → PartsFit f t units → lacks_functions (slice_get units k) ≡ false → kept_called texts name units k ≡ or_invalid (called_in texts name (unit_functions f t k))
 called_is texts f t units name k fits e =
-    kept_on lists_view (functions_at units k) (or_invalid (unit_functions f t k)) (called_by texts name) (λ (l : AskedFunctions). Good (first_called texts name l)) (λ x. refl) ((fits.each k).functions) (no_functions f t units k fits e)
+    kept_on lists_view (functions_at units k) (or_invalid (unit_functions f t k)) (called_by texts name) (λ (l : Lists). Good (first_called texts name l)) (λ x. refl) ((fits.each k).functions) (no_functions f t units k fits e)
     ∙ called_as texts name (unit_functions f t k)
 
 -- ---- the functions of a unit, by what is kept
@@ -154,7 +154,7 @@ module _ (f : Files) (t : UnitTable) (count number : ℕ) (old now new : Option 
   listing_on : number < count → shown_behind f t front number (suc left) ≡ all_shown f t
   listing_on lt = sym (ap (shown_behind f t front number) (one_less count number lt)) ∙ so_far.listing
 
-  pub shown_on : (l : AskedFunctions) (stopped : Bool) → number < count → unit_functions f t number ≡ Some l → IsAllShown (in_unit number l.functions) now new stopped → IsShown f t count (number + 1) old new
+  pub shown_on : (l : Lists) (stopped : Bool) → number < count → unit_functions f t number ≡ Some l → IsAllShown (in_unit number l.functions) now new stopped → IsShown f t count (number + 1) old new
   shown_on l stopped lt is all = record {
     front = front ++ in_unit number l.functions;
     shown = shows_then old now new front (in_unit number l.functions) so_far.shown all.shown;
@@ -163,7 +163,7 @@ module _ (f : Files) (t : UnitTable) (count number : ℕ) (old now new : Option 
   }
 
   -- the visitor breaks within a unit
-  pub shown_break : (l : AskedFunctions) (stopped : Bool) → number < count → unit_functions f t number ≡ Some l → StopsWithin (in_unit number l.functions) now new stopped → StopsWithin (all_shown f t) old new stopped
+  pub shown_break : (l : Lists) (stopped : Bool) → number < count → unit_functions f t number ≡ Some l → StopsWithin (in_unit number l.functions) now new stopped → StopsWithin (all_shown f t) old new stopped
   shown_break l stopped lt is stop =
       let more = shown_from f t (number + 1) left in
       let inner : (stop.front ++ (stop.rest ++ more)) ≡ (in_unit number l.functions ++ more) = sym (append_assoc stop.front stop.rest more) ∙ ap (λ (x : Numbered). x ++ more) stop.split in

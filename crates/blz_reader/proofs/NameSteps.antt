@@ -4,7 +4,7 @@ use Rattle.std.proofs.lemmas.List.{append-nil}
 use Rattle.blz_model.specs.Reads.{◌>>=◌}
 use Rattle.blz_info.specs.declared.text.Texts.{Texts}
 use Rattle.blz_units.specs.BuiltUnits.{Files}
-use Rattle.blz_functions.specs.SearchedFunctions.{AskedFunctions}
+use Rattle.blz_functions.specs.FunctionList.{Lists}
 use Rattle.blz_reader.specs.ShownFunctions.{Numbered, shown_from}
 use Rattle.blz_units.specs.UnitAnswers.{first_called, with_called, called_from, in_unit, functions_from, unit_functions}
 use Rattle.blz_reader.specs.UnitNames.{called_in}
@@ -24,15 +24,15 @@ called_then k n front None = refl
 called_then k None front (Some rest) = ap (λ (l : Numbers). Some (l ++ rest)) (sym (append-nil front))
 called_then k (Some n) front (Some rest) = ap (λ (l : Numbers). Some l) (sym (append_assoc front ((k, n) ∷ []) rest))
 
-called_more_by : (texts : Texts) (name : List ℕ) (k : ℕ) (n : Option ℕ) (front : Numbers) (lists : Option AskedFunctions) (o : Option Numbers) → called_in texts name lists ≡ Some n
-    → behind front (lists >>= λ (l : AskedFunctions). o >>= λ (rest : Numbers). Some (with_called k (first_called texts name l) rest)) ≡ behind (front ++ with_called k n []) o
+called_more_by : (texts : Texts) (name : List ℕ) (k : ℕ) (n : Option ℕ) (front : Numbers) (lists : Option Lists) (o : Option Numbers) → called_in texts name lists ≡ Some n
+    → behind front (lists >>= λ (l : Lists). o >>= λ (rest : Numbers). Some (with_called k (first_called texts name l) rest)) ≡ behind (front ++ with_called k n []) o
 called_more_by texts name k n front None o h = absurd cc
 called_more_by texts name k n front (Some l) o h =
     let e : first_called texts name l ≡ n = cc in
     ap (λ (m : Option ℕ). behind front (o >>= λ (rest : Numbers). Some (with_called k m rest))) e ∙ called_then k n front o
 
-called_none_by : (texts : Texts) (name : List ℕ) (k : ℕ) (front : Numbers) (lists : Option AskedFunctions) (o : Option Numbers) → called_in texts name lists ≡ None
-    → behind front (lists >>= λ (l : AskedFunctions). o >>= λ (rest : Numbers). Some (with_called k (first_called texts name l) rest)) ≡ None
+called_none_by : (texts : Texts) (name : List ℕ) (k : ℕ) (front : Numbers) (lists : Option Lists) (o : Option Numbers) → called_in texts name lists ≡ None
+    → behind front (lists >>= λ (l : Lists). o >>= λ (rest : Numbers). Some (with_called k (first_called texts name l) rest)) ≡ None
 called_none_by texts name k front None o h = refl
 called_none_by texts name k front (Some l) o h = absurd cc
 
@@ -55,12 +55,12 @@ module _ (texts : Texts) (f : Files) (t : UnitTable) (name : List ℕ) (front : 
 
 -- ---- all functions
 
-listed_then : (k : ℕ) (l : AskedFunctions) (front : Numbered) (o : Option Numbered) → behind front (o >>= λ (rest : Numbered). Some (in_unit k l.functions ++ rest)) ≡ behind (front ++ in_unit k l.functions) o
+listed_then : (k : ℕ) (l : Lists) (front : Numbered) (o : Option Numbered) → behind front (o >>= λ (rest : Numbered). Some (in_unit k l.functions ++ rest)) ≡ behind (front ++ in_unit k l.functions) o
 listed_then k l front None = refl
 listed_then k l front (Some rest) = ap (λ (x : Numbered). Some x) (sym (append_assoc front (in_unit k l.functions) rest))
 
-listed_more_by : (k : ℕ) (l : AskedFunctions) (front : Numbered) (lists : Option AskedFunctions) (o : Option Numbered) → lists ≡ Some l
-    → behind front (lists >>= λ (m : AskedFunctions). o >>= λ (rest : Numbered). Some (in_unit k m.functions ++ rest)) ≡ behind (front ++ in_unit k l.functions) o
+listed_more_by : (k : ℕ) (l : Lists) (front : Numbered) (lists : Option Lists) (o : Option Numbered) → lists ≡ Some l
+    → behind front (lists >>= λ (m : Lists). o >>= λ (rest : Numbered). Some (in_unit k m.functions ++ rest)) ≡ behind (front ++ in_unit k l.functions) o
 listed_more_by k l front lists o h = rw h (listed_then k l front o)
 
 abbrev pub listed_behind : Files → UnitTable → Numbered → ℕ → ℕ → Option Numbered
@@ -70,7 +70,7 @@ abbrev pub shown_behind : Files → UnitTable → Numbered → ℕ → ℕ → N
 shown_behind f t front k n = front ++ shown_from f t k n
 
 module _ (f : Files) (t : UnitTable) (front : Numbered) (k : ℕ) where
-  pub listed_more : (n : ℕ) (l : AskedFunctions) → unit_functions f t k ≡ Some l → listed_behind f t front k (suc n) ≡ listed_behind f t (front ++ in_unit k l.functions) (k + 1) n
+  pub listed_more : (n : ℕ) (l : Lists) → unit_functions f t k ≡ Some l → listed_behind f t front k (suc n) ≡ listed_behind f t (front ++ in_unit k l.functions) (k + 1) n
   unfolding functions_from
   listed_more n l h = listed_more_by k l front (unit_functions f t k) (functions_from f t (k + 1) n) h
 
@@ -82,7 +82,7 @@ module _ (f : Files) (t : UnitTable) (front : Numbered) (k : ℕ) where
   unfolding functions_from
   listed_end = nothing_more front
 
-  pub shown_more : (n : ℕ) (l : AskedFunctions) → unit_functions f t k ≡ Some l → shown_behind f t front k (suc n) ≡ shown_behind f t (front ++ in_unit k l.functions) (k + 1) n
+  pub shown_more : (n : ℕ) (l : Lists) → unit_functions f t k ≡ Some l → shown_behind f t front k (suc n) ≡ shown_behind f t (front ++ in_unit k l.functions) (k + 1) n
   unfolding shown_from
   shown_more n l h = rw h (sym (append_assoc front (in_unit k l.functions) (shown_from f t (k + 1) n)))
 

@@ -1,5 +1,5 @@
 -- How a reference is followed, one entry after the other (DWARF 5 section 7.5.5, class reference).
-use Rattle.std.specs.Prelude.{ℕ, zero, suc, Bool, Option, Some, None, is_some, if◌then◌else◌}
+use Rattle.std.specs.Prelude.{ℕ, zero, suc, ◌+◌, Bool, Option, Some, None, is_some, if◌then◌else◌}
 use Rattle.std.specs.Coded.{Coded, coded_ℕ}
 use Rattle.std.specs.FinMap as map
 use Rattle.std.specs.Option.{option_map}
@@ -15,14 +15,16 @@ use Rattle.blz_reader.specs.declared.references.Standing.TheVariants.{Own, Numbe
 use Rattle.blz_reader.specs.declared.references.Reference.{Reference}
 use Rattle.blz_reader.specs.declared.references.Followed.{Followed}
 use Rattle.blz_reader.specs.declared.references.Followed.TheVariants.{Name, On}
+use Rattle.blz_reader.specs.declared.references.SeenEntry.{SeenEntry}
 use Rattle.blz_functions.specs.declared.referred.Visited.{Visited}
 use Rattle.blz_functions.specs.declared.referred.Visited.TheVariants.{Named, Leads, Nameless}
-use Rattle.blz_units.specs.declared.long_entries.SeenEntry.{SeenEntry}
+use Rattle.blz_units.specs.BuiltUnits.{Files}
 use Rattle.blz_units.specs.KeptParts.{unit_of, headers_of}
-use Rattle.blz_units.specs.LongEntries.{seen_in}
 use Rattle.blz_functions.specs.Leaves.{UnitParts}
+use Rattle.blz_functions.specs.Naming.{visited}
 use Rattle.blz_reader.specs.Linkage.{Linked}
 use Rattle.blz_functions.specs.References.{unit_at}
+use Rattle.blz_units.specs.UnitTables.{UnitTable}
 
 -- by which proofs tell maps of relocations apart
 abbrev pub relocations_code : Coded OffsetMap
@@ -65,7 +67,18 @@ given unit sup (Leads value) = On (record { unit = unit; sup = sup; value = valu
 abbrev pub given_by : Standing → SeenEntry → Option Followed
 given_by unit e = Some (given unit e.sup e.visited)
 
--- what an entry tells of a name
+abbrev pub seen_by : UnitParts → Visited → SeenEntry
+seen_by u v = record { sup = u.sections.sup; visited = v }
+
+-- what the entry at a distance from the start of a unit tells of a name
+abbrev pub seen_in : ℕ → UnitParts → Option SeenEntry
+seen_in distance u = visited u (u.header.start + distance) >>= λ v. Some (seen_by u v)
+
+-- the same of a unit of a file, by its number
+abbrev pub numbered_seen : Files → UnitTable → Side → ℕ → ℕ → Option SeenEntry
+numbered_seen f t side k distance = unit_of f side (headers_of side t) k >>= seen_in distance
+
+-- the same by where the unit stands
 unfoldable pub told_by : Linked → Standing → ℕ → Option SeenEntry
 told_by l unit distance = unit_in l unit >>= seen_in distance
 

@@ -20,14 +20,14 @@ Told = Option (List Key → List ℕ)
 
 -- Where the places are told, an order is accepted exactly where they pass the check.
 abbrev pub AreOrdered : Told → FunctionRanges → Type 0
-AreOrdered told x = IsAccepted told (map begin_key (items_of x.own)) x.ordered
+AreOrdered told x = IsAccepted told (map begin_key (items_of x.ranges)) x.ordered
 
 abbrev pub LinesOrdered : Told → Option OrderedLines → Type 0
 LinesOrdered told None = ⊤
 LinesOrdered told (Some l) = IsAccepted told (map begin_key (spans_of l.table.sequences)) l.ordered
 
 abbrev pub CallsOrdered : Told → CallRanges → Type 0
-CallsOrdered told x = IsAccepted told (map group_key (items_of x.ranges.list)) x.ordered
+CallsOrdered told x = IsAccepted told (map group_key (items_of x.ranges)) x.ordered
 
 -- ---- growing
 

@@ -7,7 +7,7 @@ use Rattle.blz_moves.specs.declared.flow.Flow.{Flow}
 use Rattle.blz_moves.specs.declared.flow.Flow.TheVariants.{Continue, Break}
 use Rattle.blz_functions.specs.declared.functions.Function.{Function}
 use Rattle.blz_units.specs.BuiltUnits.{Files}
-use Rattle.blz_functions.specs.SearchedFunctions.{AskedFunctions}
+use Rattle.blz_functions.specs.FunctionList.{Lists}
 use Rattle.blz_units.specs.UnitAnswers.{in_unit, unit_functions}
 use Rattle.blz_units.specs.UnitTables.{UnitTable}
 
@@ -44,7 +44,7 @@ ShowsUnit listing old new stopped Break = StopsWithin listing old new stopped
 
 -- ---- of all units
 
-abbrev pub shown_by : ℕ → Option AskedFunctions → Numbered → Numbered
+abbrev pub shown_by : ℕ → Option Lists → Numbered → Numbered
 shown_by k None rest = []
 shown_by k (Some l) rest = in_unit k l.functions ++ rest
 

@@ -10,7 +10,7 @@ use Rattle.blz_info.specs.declared.text.Texts.{Texts}
 use Rattle.blz_moves.specs.declared.flow.Flow.{Flow}
 use Rattle.blz_functions.specs.declared.functions.Function.{Function}
 use Rattle.blz_units.specs.declared.caches.UnitCaches.{UnitCaches}
-use Rattle.blz_functions.specs.SearchedFunctions.{AskedFunctions}
+use Rattle.blz_functions.specs.FunctionList.{Lists}
 use Rattle.blz_units.specs.KeptAnswers.{kept_part, is_value}
 use Rattle.blz_units.specs.KeptParts.{functions_at, lists_view}
 use Rattle.blz_functions.specs.FunctionRanges.{FunctionRanges}
@@ -20,7 +20,7 @@ use Rattle.blz_units.specs.UnitAnswers.{first_called, in_unit, unit_functions}
 use Rattle.blz_units.specs.UnitTables.{UnitTable}
 
 -- the first function of a name in a unit
-abbrev pub called_in : Texts → List ℕ → Option AskedFunctions → Option (Option ℕ)
+abbrev pub called_in : Texts → List ℕ → Option Lists → Option (Option ℕ)
 called_in texts name None = None
 called_in texts name (Some l) = Some (first_called texts name l)
 
@@ -40,7 +40,7 @@ abbrev pub AllThere : List UnitCaches → List (ℕ × ℕ) → Type 0
 AllThere units found = (i : ℕ) (at : ℕ × ℕ) → slice_get found i ≡ Some at → is_value (functions_at units at.0) ≡ true
 
 -- the functions of a unit
-abbrev pub listed : Option AskedFunctions → Option (Option (List Function))
+abbrev pub listed : Option Lists → Option (Option (List Function))
 listed None = None
 listed (Some l) = Some (Some l.functions)
 
@@ -51,17 +51,17 @@ list_in (Value x) = Some x.functions
 list_in (Mark k) = None
 
 -- the functions of a unit that were shown
-pub record ShowsLists (lists : Option AskedFunctions) (k : ℕ) (old new : Option Numbered) (stopped : Bool) (flow : Flow) : Type 0 where
-  pub list : AskedFunctions
+pub record ShowsLists (lists : Option Lists) (k : ℕ) (old new : Option Numbered) (stopped : Bool) (flow : Flow) : Type 0 where
+  pub list : Lists
   pub is : lists ≡ Some list
   pub shows : ShowsUnit (in_unit k list.functions) old new stopped flow
 
 -- A unit whose functions have no value shows none.
-pub record ShowsNone (lists : Option AskedFunctions) (old new : Option Numbered) (stopped : Bool) (fault : Fault) : Type 0 where
+pub record ShowsNone (lists : Option Lists) (old new : Option Numbered) (stopped : Bool) (fault : Fault) : Type 0 where
   pub goes_on : stopped ≡ false
   pub same : new ≡ old
   pub mark : Fails fault.kind (or_invalid lists)
 
-abbrev pub ShowsIn : Option AskedFunctions → ℕ → Option Numbered → Option Numbered → Bool → Result Flow Fault → Type 0
+abbrev pub ShowsIn : Option Lists → ℕ → Option Numbered → Option Numbered → Bool → Result Flow Fault → Type 0
 ShowsIn lists k old new stopped (Ok flow) = ShowsLists lists k old new stopped flow
 ShowsIn lists k old new stopped (Err e) = ShowsNone lists old new stopped e

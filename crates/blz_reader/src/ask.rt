@@ -10,13 +10,13 @@ ghost use Rattle.blz_units.specs.UnitAnswers.{unit_language, best_function, func
 ghost use Rattle.blz_units.specs.UnitSites.{line_in, location_at};
 
 use crate::reader::Reader;
-use blz_announced::UnitsAt;
 use blz_bytes::{Orders, Steps};
 use blz_error::Result;
 use blz_line::Location;
 use blz_model::SrcLang;
 use blz_units::caches::Caches;
 use blz_units::look;
+use blz_units::units_at::UnitsAt;
 use std::sync::ledger::{Blank, Ledger};
 
 impl<'r, 's, 'b> Reader<'r, 's, 'b> {

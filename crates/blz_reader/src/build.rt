@@ -12,6 +12,7 @@ ghost use Rattle.blz_units.specs.Sharing.{AreShared};
 
 use crate::marks::mark_of;
 use crate::reader::Reader;
+use blz_bytes::Room;
 use blz_entry::{UnitHeader, invalid};
 use blz_error::Result;
 use blz_model::Cache;
@@ -26,6 +27,7 @@ use std::alloc::AllocError;
 impl<'r, 's, 'b> Reader<'r, 's, 'b> {
     fn build(
         &self,
+        room: &mut Room,
         side: Side,
         shared: &mut SharedParts,
         packed: &mut SharedPackage,
@@ -41,9 +43,11 @@ impl<'r, 's, 'b> Reader<'r, 's, 'b> {
         ensures packed { IsPackageShared (reader_files self.now) packed.new }
     {
         match (side, &self.dwarf.sup) {
-            (Side::File, _) => BuiltUnit::reading(self.alloc, self.dwarf, shared, packed, header),
+            (Side::File, _) => {
+                BuiltUnit::reading(self.alloc, room, self.dwarf, shared, packed, header)
+            },
             (Side::Sup, Some(_)) => {
-                BuiltUnit::of_file(self.alloc, self.dwarf, shared, Origin::Sup, header)
+                BuiltUnit::of_file(self.alloc, room, self.dwarf, shared, Origin::Sup, header)
             },
             (Side::Sup, None) => Err(invalid("there is no supplementary file")),
         }
@@ -52,6 +56,7 @@ impl<'r, 's, 'b> Reader<'r, 's, 'b> {
     /// What is kept of a unit: it as it is built, or its mark.
     fn part(
         &self,
+        room: &mut Room,
         side: Side,
         shared: &mut SharedParts,
         packed: &mut SharedPackage,
@@ -66,7 +71,7 @@ impl<'r, 's, 'b> Reader<'r, 's, 'b> {
         ensures shared { AreShared (side_sections (reader_files self.now) side) shared.new }
         ensures packed { IsPackageShared (reader_files self.now) packed.new }
     {
-        match self.build(side, shared, packed, header) {
+        match self.build(room, side, shared, packed, header) {
             Ok(unit) => Ok(Cache::Value(unit)),
             Err(e) => Ok(Cache::Mark(mark_of(&e)?)),
         }
@@ -76,6 +81,7 @@ impl<'r, 's, 'b> Reader<'r, 's, 'b> {
     #[tactic(auto, using(blz_units::proofs::BuiltSteps::not_missing))]
     fn fill_one(
         &self,
+        room: &mut Room,
         side: Side,
         units: &UnitList,
         built: &mut SideUnits,
@@ -89,12 +95,13 @@ impl<'r, 's, 'b> Reader<'r, 's, 'b> {
         if !is_missing(built.units.as_slice(), number) {
             return Ok(());
         }
-        self.fill_missing(side, units, built, number)
+        self.fill_missing(room, side, units, built, number)
     }
 
     /// Builds a unit of which nothing is kept.
     fn fill_missing(
         &self,
+        room: &mut Room,
         side: Side,
         units: &UnitList,
         built: &mut SideUnits,
@@ -110,7 +117,7 @@ impl<'r, 's, 'b> Reader<'r, 's, 'b> {
             Some(header) => header,
             None => return Ok(()),
         };
-        let made = self.part(side, &mut built.shared, &mut built.packed, &header)?;
+        let made = self.part(room, side, &mut built.shared, &mut built.packed, &header)?;
         put(&mut built.units, number, made);
         Ok(())
     }
@@ -118,6 +125,7 @@ impl<'r, 's, 'b> Reader<'r, 's, 'b> {
     /// Builds a unit of a file where nothing is kept of it.
     pub fn fill_unit(
         &self,
+        room: &mut Room,
         side: Side,
         built: &mut BuiltUnits,
         number: usize,
@@ -128,8 +136,8 @@ impl<'r, 's, 'b> Reader<'r, 's, 'b> {
         ensures filled { IfOk result (λ _. IsFilled (slice_get (caches_of side built.new) number)) }
     {
         match side {
-            Side::File => self.fill_one(side, &self.table.kept, &mut built.kept, number),
-            Side::Sup => self.fill_one(side, &self.table.sups, &mut built.sups, number),
+            Side::File => self.fill_one(room, side, &self.table.kept, &mut built.kept, number),
+            Side::Sup => self.fill_one(room, side, &self.table.sups, &mut built.sups, number),
         }
     }
 }

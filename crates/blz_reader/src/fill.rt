@@ -3,19 +3,17 @@ ghost use Rattle.std.specs.Prelude.{◌≡◌, true, false, IfOk};
 ghost use Rattle.std.specs.List.{slice_get};
 ghost use Rattle.blz_model.specs.Part.{Gives};
 ghost use Rattle.blz_info.specs.Marks.{or_invalid};
-ghost use Rattle.blz_functions.specs.AskedCalls.{asked_calls};
 ghost use Rattle.blz_units.specs.BuiltUnits.{IsReadable};
 ghost use Rattle.blz_reader.specs.Filling.{AreCallsOf, AreFunctionsOf, AreLinesOf, CanBeFilled, Fills, HasCallsOf, HasPart, IsRootOf};
 ghost use Rattle.blz_reader.specs.Growing.{Told};
 ghost use Rattle.blz_units.specs.KeptParts.{lacks_root, lacks_functions, lacks_lines, lacks_calls};
-ghost use Rattle.blz_reader.specs.Readers.{BuiltFor, PartsFor, as_read, reader_files};
-ghost use Rattle.blz_units.specs.SharedPrograms.{ArePrograms};
+ghost use Rattle.blz_reader.specs.Readers.{BuiltFor, PartsFor, as_read};
 ghost use Rattle.blz_units.specs.UnitAnswers.{function_calls};
 
 use crate::marks::mark_of;
 use crate::puts::{put_calls, put_functions, put_lines, put_root};
 use crate::reader::Reader;
-use blz_bytes::Orders;
+use blz_bytes::{Orders, Room};
 use blz_entry::UnitRoot;
 use blz_functions::{CallLists, Functions, InlinedFunctions};
 use blz_line::Lines;
@@ -25,13 +23,13 @@ use blz_units::caches::{
     Caches, UnitCaches, lacks_calls, lacks_functions, lacks_lines, lacks_root,
 };
 use blz_units::look::{function_place, root_of};
-use blz_units::shared_programs::SharedPrograms;
 use std::alloc::AllocError;
 
 impl<'r, 's, 'b> Reader<'r, 's, 'b> {
     /// What is kept of the root of a unit itself.
     fn root_part(
         &self,
+        room: &mut Room,
         built: &mut BuiltUnits,
         number: usize,
     ) -> Result<Cache<UnitRoot>, AllocError>
@@ -40,7 +38,7 @@ impl<'r, 's, 'b> Reader<'r, 's, 'b> {
         ensures read { IfOk result (IsRootOf self.now number) }
         ensures fits { BuiltFor self.now built.new }
     {
-        match self.read_root(built, number) {
+        match self.read_root(room, built, number) {
             Ok(root) => Ok(Cache::Value(root)),
             Err(e) => Ok(Cache::Mark(mark_of(&e)?)),
         }
@@ -67,7 +65,7 @@ impl<'r, 's, 'b> Reader<'r, 's, 'b> {
         ensures filled { IfOk result (λ _. HasPart lacks_root caches.new number) }
         ensures fills { (told : Told) → Fills told self.now caches.old caches.new }
     {
-        let root = self.root_part(&mut caches.built, number)?;
+        let root = self.root_part(&mut caches.room, &mut caches.built, number)?;
         put_root(&mut caches.units, number, root);
         Ok(())
     }
@@ -75,6 +73,7 @@ impl<'r, 's, 'b> Reader<'r, 's, 'b> {
     /// What is kept of the functions of a unit.
     fn functions_part<O: Orders>(
         &self,
+        room: &mut Room,
         orders: &mut O,
         built: &mut BuiltUnits,
         number: usize,
@@ -84,7 +83,7 @@ impl<'r, 's, 'b> Reader<'r, 's, 'b> {
         ensures read { IfOk result (AreFunctionsOf O.pair_places self.now number) }
         ensures fits { BuiltFor self.now built.new }
     {
-        match self.read_functions(built, number) {
+        match self.read_functions(room, built, number) {
             Ok(lists) => {
                 let functions = lists.indexed(self.alloc, orders)?;
                 Ok(Cache::Value(functions))
@@ -124,7 +123,7 @@ impl<'r, 's, 'b> Reader<'r, 's, 'b> {
         ensures filled { IfOk result (λ _. HasPart lacks_functions caches.new number) }
         ensures fills { Fills O.pair_places self.now caches.old caches.new }
     {
-        let functions = self.functions_part(orders, &mut caches.built, number)?;
+        let functions = self.functions_part(&mut caches.room, orders, &mut caches.built, number)?;
         put_functions(&mut caches.units, number, functions);
         Ok(())
     }
@@ -132,22 +131,23 @@ impl<'r, 's, 'b> Reader<'r, 's, 'b> {
     /// What is kept of the lines of a unit, whose root is kept.
     fn lines_part<O: Orders>(
         &self,
+        room: &mut Room,
         orders: &mut O,
-        programs: &mut SharedPrograms,
+        built: &mut BuiltUnits,
         units: &[UnitCaches],
         number: usize,
     ) -> Result<Cache<Option<Lines>>, AllocError>
+        requires built { BuiltFor self.now built.old }
         requires fits { PartsFor self.now units.now }
         requires filled { lacks_root (slice_get units.now number) ≡ false }
-        requires programs { ArePrograms (reader_files self.now).main programs.old }
-        ensures lines { IfOk result (AreLinesOf O.pair_places self.now number) }
-        ensures programs { ArePrograms (reader_files self.now).main programs.new }
+        ensures read { IfOk result (AreLinesOf O.pair_places self.now number) }
+        ensures built { BuiltFor self.now built.new }
     {
         let root = match root_of(units, number) {
             Ok(root) => root,
             Err(e) => return Ok(Cache::Mark(e.kind())),
         };
-        match self.read_lines(orders, programs, number, &root) {
+        match self.read_lines(room, orders, built, number, &root) {
             Ok(lines) => Ok(Cache::Value(lines)),
             Err(e) => Ok(Cache::Mark(mark_of(&e)?)),
         }
@@ -187,8 +187,9 @@ impl<'r, 's, 'b> Reader<'r, 's, 'b> {
         ensures fills { Fills O.pair_places self.now caches.old caches.new }
     {
         let lines = self.lines_part(
+            &mut caches.room,
             orders,
-            &mut caches.programs,
+            &mut caches.built,
             caches.units.as_slice(),
             number,
         )?;
@@ -199,6 +200,7 @@ impl<'r, 's, 'b> Reader<'r, 's, 'b> {
     /// The calls of a function of a unit, whose functions are kept.
     fn calls_by_number(
         &self,
+        room: &mut Room,
         built: &mut BuiltUnits,
         units: &[UnitCaches],
         number: usize,
@@ -208,7 +210,7 @@ impl<'r, 's, 'b> Reader<'r, 's, 'b> {
         requires built { BuiltFor self.now built.old }
         requires fits { PartsFor self.now units.now }
         requires filled { lacks_functions (slice_get units.now number) ≡ false }
-        ensures value { Gives asked_calls result
+        ensures value { Gives (λ l. l) result
             (or_invalid (as_read self.now function_calls number function)) }
         ensures built { BuiltFor self.now built.new }
     {
@@ -216,12 +218,13 @@ impl<'r, 's, 'b> Reader<'r, 's, 'b> {
             Ok(place) => place,
             Err(e) => return Err(e),
         };
-        self.read_calls(built, number, place)
+        self.read_calls(room, built, number, place)
     }
 
     /// What is kept of the calls of a function of a unit, whose functions are kept.
     fn calls_part<O: Orders>(
         &self,
+        room: &mut Room,
         orders: &mut O,
         built: &mut BuiltUnits,
         units: &[UnitCaches],
@@ -235,7 +238,7 @@ impl<'r, 's, 'b> Reader<'r, 's, 'b> {
         ensures read { IfOk result (AreCallsOf O.pair_places self.now number function) }
         ensures built { BuiltFor self.now built.new }
     {
-        match self.calls_by_number(built, units, number, function) {
+        match self.calls_by_number(room, built, units, number, function) {
             Ok(lists) => {
                 let calls = lists.indexed(self.alloc, orders)?;
                 Ok(Cache::Value(calls))
@@ -260,13 +263,14 @@ impl<'r, 's, 'b> Reader<'r, 's, 'b> {
         ensures fills { Fills O.pair_places self.now caches.old caches.new }
     {
         let calls = self.calls_part(
+            &mut caches.room,
             orders,
             &mut caches.built,
             caches.units.as_slice(),
             number,
             function,
         )?;
-        put_calls(&mut caches.units, number, function, calls)
+        put_calls(&mut caches.room, &mut caches.units, number, function, calls)
     }
 
     /// Reads the calls of a function of a unit where they are not kept.

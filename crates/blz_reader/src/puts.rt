@@ -4,6 +4,7 @@ ghost use Rattle.std.specs.List.{slice_get};
 ghost use Rattle.blz_units.specs.KeptParts.{or_empty};
 ghost use Rattle.blz_reader.specs.Putting.{with_functions, with_lines, with_root, Puts, PutsOrKeeps, TakesCalls};
 
+use blz_bytes::Room;
 use blz_entry::UnitRoot;
 use blz_functions::{Functions, InlinedFunctions};
 use blz_line::Lines;
@@ -41,12 +42,20 @@ pub fn put_lines(units: &mut Vec<UnitCaches>, number: usize, lines: Cache<Option
     }
 }
 
+/// The words that the cache of a function's calls takes.
+const CALLS: u64 = 20;
+
 /// A list that is long enough for a number, with empty caches behind the others.
-fn lengthen(calls: &mut Vec<Cache<InlinedFunctions>>, number: usize) -> Result<(), AllocError>
+fn lengthen(
+    room: &mut Room,
+    calls: &mut Vec<Cache<InlinedFunctions>>,
+    number: usize,
+) -> Result<(), AllocError>
     ensures long { IfOk result (λ _. number < length calls.new.items) }
     ensures same { (n : ℕ) → or_empty (slice_get calls.new.items n) ≡ or_empty (slice_get calls.old.items n) }
 {
     while calls.len() <= number {
+        room.take(CALLS)?;
         calls.push(Cache::Empty)?;
     }
     Ok(())
@@ -54,19 +63,21 @@ fn lengthen(calls: &mut Vec<Cache<InlinedFunctions>>, number: usize) -> Result<(
 
 /// Puts the calls of a function of a unit that is there.
 fn put_in(
+    room: &mut Room,
     unit: &mut UnitCaches,
     function: usize,
     calls: Cache<InlinedFunctions>,
 ) -> Result<(), AllocError>
     ensures { TakesCalls result unit.old unit.new function calls }
 {
-    lengthen(&mut unit.calls, function)?;
+    lengthen(room, &mut unit.calls, function)?;
     unit.calls[function] = calls;
     Ok(())
 }
 
 /// Puts the calls of a function of a unit. For want of memory no calls are changed.
 pub fn put_calls(
+    room: &mut Room,
     units: &mut Vec<UnitCaches>,
     number: usize,
     function: usize,
@@ -77,5 +88,5 @@ pub fn put_calls(
     if number >= units.len() {
         return Ok(());
     }
-    put_in(&mut units[number], function, calls)
+    put_in(room, &mut units[number], function, calls)
 }

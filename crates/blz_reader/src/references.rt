@@ -1,13 +1,12 @@
 //! References from the entries of a unit to entries of any unit.
-ghost use Rattle.std.specs.Prelude.{◌≡◌, ◌+◌, Some, IfOk, IfSome, nat_lt};
+ghost use Rattle.std.specs.Prelude.{◌≡◌, ◌+◌, Some, IfOk};
 ghost use Rattle.std.specs.Bool.{OnTrue};
 ghost use Rattle.std.specs.List.{slice_get};
 ghost use Rattle.blz_model.specs.Part.{Gives, Exactly};
 ghost use Rattle.blz_info.specs.Marks.{or_invalid};
 ghost use Rattle.blz_units.specs.BuiltUnits.{built_view, files_view, BuiltFits, IsReadable};
-ghost use Rattle.blz_reader.specs.Following.{unit_in, target_in, target_of, given, told_by, entry_given, step_of, name_over, own_side};
-ghost use Rattle.blz_units.specs.KeptParts.{caches_of, entry_of, headers_of, unit_of, IsFilled, BuiltFit};
-ghost use Rattle.blz_units.specs.LongEntries.{attribute_count, seen_in};
+ghost use Rattle.blz_reader.specs.Following.{unit_in, target_in, target_of, given, seen_in, numbered_seen, told_by, entry_given, step_of, name_over, own_side};
+ghost use Rattle.blz_units.specs.KeptParts.{caches_of, headers_of, unit_of, IsFilled, BuiltFit};
 ghost use Rattle.blz_units.specs.declared.built_units.Side.TheVariants.{File};
 ghost use Rattle.blz_functions.specs.Naming.{visited};
 ghost use Rattle.blz_functions.specs.Opened.{open_view, CanBeOpened};
@@ -15,22 +14,20 @@ ghost use Rattle.blz_reader.specs.Readers.{reader_files, reader_table};
 ghost use Rattle.blz_units.specs.TableViews.{table_view};
 
 use crate::reader::Reader;
+use blz_bytes::Room;
 use blz_entry::{AttrValue, StrPlace, invalid};
 use blz_error::Result;
 use blz_functions::{Links, OpenUnit, Visited, visit};
 use blz_units::built_unit::BuiltUnit;
 use blz_units::built_units::{BuiltUnits, Side, look};
 use blz_units::dwarf::Dwarf;
-use blz_units::long_entries::{LongEntry, SeenEntry, attribute_count};
 use blz_units::unit_table::UnitTable;
-use std::alloc::{AllocError, Global};
+use std::alloc::Global;
 use std::marker::Model;
+use std::ops::Deref;
 
 /// How many entries a name is looked for over.
 const MOST_ENTRIES: usize = 16;
-
-/// What an entry tells is kept where it has more attributes than this, and else found again.
-const FEW_ATTRIBUTES: usize = 24;
 
 /// The unit that an entry stands in.
 #[derive(Clone, Copy)]
@@ -50,6 +47,14 @@ pub struct Reference {
     pub value: AttrValue,
 }
 
+/// What an entry tells of a name.
+#[derive(Clone, Copy)]
+pub struct SeenEntry {
+    /// It stands in the supplementary file.
+    pub sup: bool,
+    pub visited: Visited,
+}
+
 /// What an entry gives that is referred to.
 #[derive(Clone, Copy)]
 pub enum Followed {
@@ -59,7 +64,7 @@ pub enum Followed {
     On(Reference),
 }
 
-/// The references of a unit, and the units that are built on the way, with what their entries told.
+/// The references of a unit, and the units that are built on the way.
 #[derive(Drop)]
 pub struct References<'u> {
     alloc: Global,
@@ -97,7 +102,7 @@ pub fn open_in<'u>(unit: &'u BuiltUnit, dwarf: &Dwarf<'u, 'u>) -> OpenUnit<'u, '
     OpenUnit {
         sections: dwarf.whole_sections(&unit.origin),
         header: unit.header,
-        abbreviations: &unit.abbreviations,
+        abbreviations: unit.abbreviations.deref(),
         root: unit.root,
     }
 }
@@ -111,9 +116,10 @@ fn own_side(sup: bool) -> Side
 
 /// What an entry tells of a name, by its distance from the start of its unit.
 #[tactic(auto, unfolding(blz_functions::specs::Naming::visited))]
-fn visit_at(unit: &OpenUnit<'_, '_>, distance: u64) -> Result<Visited>
+fn visit_at(room: &mut Room, unit: &OpenUnit<'_, '_>, distance: u64) -> Result<Visited>
     requires { CanBeOpened unit.now }
-    ensures { Exactly (λ v. v) result (or_invalid (visited (open_view unit.now) (unit.now.header.start + distance))) }
+    ensures { Gives (λ v. v) result
+        (or_invalid (visited (open_view unit.now) (unit.now.header.start + distance))) }
 {
     let end = unit.header.end;
     let Some(place) = unit.header.start.checked_add(distance as usize) else {
@@ -122,7 +128,7 @@ fn visit_at(unit: &OpenUnit<'_, '_>, distance: u64) -> Result<Visited>
     if place > end {
         return Err(invalid("a reference leads past the entries of a unit"));
     }
-    visit(unit, place)
+    visit(room, unit, place)
 }
 
 /// What an entry gives by what it tells.
@@ -136,84 +142,52 @@ fn given(unit: Standing, sup: bool, visited: Visited) -> Followed
     }
 }
 
-/// Whether the entry at a distance from the start of a unit has very many attributes.
-fn is_long(unit: &OpenUnit<'_, '_>, distance: u64) -> bool
-    requires { CanBeOpened unit.now }
-    ensures { result ≡ nat_lt 24 (attribute_count (open_view unit.now) (unit.now.header.start + distance)) }
-{
-    attribute_count(unit, distance) > FEW_ATTRIBUTES
-}
-
 /// What the entry at a distance from the start of a unit tells of a name.
-fn seen_in(unit: &OpenUnit<'_, '_>, distance: u64) -> Result<SeenEntry>
+fn seen_in(room: &mut Room, unit: &OpenUnit<'_, '_>, distance: u64) -> Result<SeenEntry>
     requires { CanBeOpened unit.now }
-    ensures { Exactly (λ e. e) result (or_invalid (seen_in distance (open_view unit.now))) }
+    ensures { Gives (λ e. e) result (or_invalid (seen_in distance (open_view unit.now))) }
 {
-    let visited = visit_at(unit, distance)?;
+    let visited = visit_at(room, unit, distance)?;
     Ok(SeenEntry {
         sup: unit.sections.sup,
         visited,
     })
 }
 
-/// The same, and whether the entry has very many attributes.
-fn seen_over(unit: &OpenUnit<'_, '_>, distance: u64) -> Result<(SeenEntry, bool)>
-    requires { CanBeOpened unit.now }
-    ensures value { Exactly (λ e. e.0) result (or_invalid (seen_in distance (open_view unit.now))) }
-    ensures long { IfOk result (λ e. e.1 ≡ nat_lt 24 (attribute_count (open_view unit.now) (unit.now.header.start + distance))) }
-{
-    let entry = seen_in(unit, distance)?;
-    Ok((entry, is_long(unit, distance)))
-}
-
-/// The same of an entry of a unit that is kept.
-fn seen_among(
-    reader: &Reader<'_, '_, '_>,
+/// A unit that is kept, with the sections that it was built from.
+fn look_at<'u, 'b>(
+    reader: &Reader<'u, '_, 'b>,
     side: Side,
-    built: &BuiltUnits,
+    built: &'u BuiltUnits,
     number: usize,
-    distance: u64,
-) -> Result<(SeenEntry, bool)>
+) -> Result<OpenUnit<'u, 'b>>
     requires readable { IsReadable reader.now.dwarf.now }
     requires fits { BuiltFit (reader_files reader.now) (reader_table reader.now) built.now }
     requires filled { IsFilled (slice_get (caches_of side built.now) number) }
-    ensures { Exactly (λ e. e.0) result (or_invalid (entry_of (reader_files reader.now) (reader_table reader.now) side number distance)) }
+    ensures value { Exactly open_view result (or_invalid (unit_of (reader_files reader.now) side
+        (headers_of side (reader_table reader.now)) number)) }
+    ensures opened { IfOk result CanBeOpened }
 {
+    let (dwarf, table) = (reader.dwarf, reader.table);
     match side {
-        Side::File => {
-            let unit = look(
-                reader.dwarf,
-                side,
-                &reader.table.kept,
-                &built.kept.units,
-                number,
-            )?;
-            seen_over(&unit, distance)
-        },
-        Side::Sup => {
-            let unit = look(
-                reader.dwarf,
-                side,
-                &reader.table.sups,
-                &built.sups.units,
-                number,
-            )?;
-            seen_over(&unit, distance)
-        },
+        Side::File => look(dwarf, side, &table.kept, &built.kept.units, number),
+        Side::Sup => look(dwarf, side, &table.sups, &built.sups.units, number),
     }
 }
 
-/// The same of a unit that is built where it is not yet; the place is its file, its number and the distance.
+/// What an entry of a unit tells that is built where it is not yet; the place is its file, its number and the distance.
 fn filled_and_seen(
     alloc: Global,
+    room: &mut Room,
     dwarf: &Dwarf<'_, '_>,
     table: &UnitTable,
     built: &mut BuiltUnits,
     place: (Side, usize, u64),
-) -> Result<(SeenEntry, bool)>
+) -> Result<SeenEntry>
     requires readable { IsReadable dwarf.now }
     requires fits { BuiltFit (files_view dwarf.now) (table_view table.now) built.old }
-    ensures value { Gives (λ e. e.0) result (or_invalid (entry_of (files_view dwarf.now) (table_view table.now) place.0 place.1 place.2)) }
+    ensures value { Gives (λ e. e) result (or_invalid (numbered_seen (files_view dwarf.now)
+        (table_view table.now) place.0 place.1 place.2)) }
     ensures fits { BuiltFit (files_view dwarf.now) (table_view table.now) built.new }
 {
     let (side, number, distance) = place;
@@ -222,8 +196,9 @@ fn filled_and_seen(
         dwarf,
         table,
     };
-    reader.fill_unit(side, built, number)?;
-    seen_among(&reader, side, built, number, distance)
+    reader.fill_unit(room, side, built, number)?;
+    let unit = look_at(&reader, side, &*built, number)?;
+    seen_in(room, &unit, distance)
 }
 
 impl<'u> References<'u> {
@@ -312,107 +287,57 @@ impl<'u> References<'u> {
         }
     }
 
-    /// What is kept of an entry.
+    /// What an entry tells.
     #[tactic(auto, unfolding(crate::specs::Following::told_by))]
-    fn kept(&self, standing: Standing, distance: u64) -> Option<SeenEntry>
-        ensures { IfSome result (λ e. told_by self.now standing distance ≡ Some e) }
-    {
-        let (side, number) = self.number_of(standing);
-        self.built.long.find(side, number, distance)
-    }
-
-    /// Keeps what an entry tells.
-    #[tactic(auto, unfolding(crate::specs::Following::told_by))]
-    fn keep(
-        &mut self,
-        standing: Standing,
-        distance: u64,
-        seen: SeenEntry,
-    ) -> std::result::Result<(), AllocError>
-        requires { told_by self.old standing distance ≡ Some seen }
-        ensures { self.new ≡ self.old }
-    {
-        let (side, number) = self.number_of(standing);
-        self.built.long.keep(LongEntry {
-            side,
-            number,
-            distance,
-            seen,
-        })
-    }
-
-    /// What an entry tells, and whether it has very many attributes.
-    #[tactic(auto, unfolding(crate::specs::Following::told_by))]
-    fn found(&mut self, standing: Standing, distance: u64) -> Result<(SeenEntry, bool)>
-        ensures value { Gives (λ e. e.0) result (or_invalid (told_by self.old standing distance)) }
+    fn told_by(&mut self, room: &mut Room, standing: Standing, distance: u64) -> Result<SeenEntry>
+        ensures value { Gives (λ e. e) result (or_invalid (told_by self.old standing distance)) }
         ensures same { self.new ≡ self.old }
     {
         if self.is_own(standing) {
-            return seen_over(&self.unit, distance);
+            return seen_in(room, &self.unit, distance);
         }
         let (side, number) = self.number_of(standing);
         let (alloc, table) = (self.alloc, self.table);
         let place = (side, number, distance);
-        filled_and_seen(alloc, &self.dwarf, table, &mut self.built, place)
-    }
-
-    /// What an entry tells, which is kept where it has very many attributes.
-    fn found_once(&mut self, standing: Standing, distance: u64) -> Result<SeenEntry>
-        ensures value { Gives (λ e. e) result (or_invalid (told_by self.old standing distance)) }
-        ensures same { self.new ≡ self.old }
-    {
-        if let Some(entry) = self.kept(standing, distance) {
-            return Ok(entry);
-        }
-        let (entry, long) = self.found(standing, distance)?;
-        if long {
-            self.keep(standing, distance, entry)?;
-        }
-        Ok(entry)
-    }
-
-    /// What an entry tells; most stand in the unit itself, and have few attributes.
-    #[tactic(auto, unfolding(crate::specs::Following::told_by))]
-    fn told_by(&mut self, standing: Standing, distance: u64) -> Result<SeenEntry>
-        ensures value { Gives (λ e. e) result (or_invalid (told_by self.old standing distance)) }
-        ensures same { self.new ≡ self.old }
-    {
-        if self.is_own(standing) && !is_long(&self.unit, distance) {
-            return seen_in(&self.unit, distance);
-        }
-        self.found_once(standing, distance)
+        filled_and_seen(alloc, room, &self.dwarf, table, &mut self.built, place)
     }
 
     /// What an entry gives.
     #[tactic(auto, unfolding(crate::specs::Following::entry_given))]
-    fn entry_given(&mut self, standing: Standing, distance: u64) -> Result<Followed>
-        ensures value { Gives (λ f. f) result (or_invalid (entry_given self.old standing distance)) }
+    fn entry_given(
+        &mut self,
+        room: &mut Room,
+        standing: Standing,
+        distance: u64,
+    ) -> Result<Followed>
+        ensures value { Gives (λ f. f) result
+            (or_invalid (entry_given self.old standing distance)) }
         ensures same { self.new ≡ self.old }
     {
-        match self.told_by(standing, distance) {
+        match self.told_by(room, standing, distance) {
             Ok(entry) => Ok(given(standing, entry.sup, entry.visited)),
             Err(fault) => Err(fault),
         }
     }
 
     #[tactic(auto, unfolding(crate::specs::Following::step_of))]
-    fn step(&mut self, reference: &Reference) -> Result<Followed>
+    fn step(&mut self, room: &mut Room, reference: &Reference) -> Result<Followed>
         ensures value { Gives (λ f. f) result (or_invalid (step_of self.old reference.now)) }
         ensures same { self.new ≡ self.old }
     {
         match self.target(reference)? {
-            Some((standing, distance)) => self.entry_given(standing, distance),
+            Some((standing, distance)) => self.entry_given(room, standing, distance),
             None => Ok(Followed::Name(None)),
         }
     }
 
-    fn name_of(&mut self, first: Reference) -> Result<Option<StrPlace>>
+    fn name_of(&mut self, room: &mut Room, first: Reference) -> Result<Option<StrPlace>>
         ensures value { Gives (λ n. n) result (or_invalid (name_over 16 self.old first)) }
         ensures same { self.new ≡ self.old }
     {
         let mut reference = first;
         for _ in 0..MOST_ENTRIES {
-            match self.step(&reference) {
+            match self.step(room, &reference) {
                 Ok(Followed::Name(name)) => return Ok(name),
                 Ok(Followed::On(next)) => reference = next,
                 Err(fault) => return Err(fault),
@@ -429,7 +354,7 @@ impl<'u> References<'u> {
 }
 
 impl<'u> Links for References<'u> {
-    ghost use Rattle.blz_reader.specs.Linkage.{Linked, refer_in, no_reference_leads};
+    ghost use Rattle.blz_reader.specs.Linkage.{Linked, refer_in};
 
     ghost Among = { Linked };
 
@@ -437,14 +362,13 @@ impl<'u> Links for References<'u> {
 
     ghost refer = { refer_in };
 
-    fn follow(&mut self, value: AttrValue) -> Result<Option<StrPlace>> {
+    fn follow(&mut self, room: &mut Room, value: AttrValue) -> Result<Option<StrPlace>> {
         let sup = self.is_sup();
-        self.name_of(Reference {
+        let first = Reference {
             unit: Standing::Own,
             sup,
             value,
-        })
+        };
+        self.name_of(room, first)
     }
-
-    ghost leads_nowhere = { no_reference_leads };
 }

@@ -8,11 +8,9 @@ use Rattle.blz_ranges.specs.Best.{best, covers, IsBest}
 use Rattle.blz_info.specs.declared.units.UnitHeader.{UnitHeader}
 use Rattle.blz_units.specs.BuiltUnits.{Files, reading}
 use Rattle.blz_functions.specs.FunctionList.{Lists}
-use Rattle.blz_functions.specs.Leaves.{UnitParts}
-use Rattle.blz_functions.specs.SearchedFunctions.{AskedFunctions, asked_of, functions_asked}
 use Rattle.blz_ranges.specs.Owned.{Owned, items_of}
 use Rattle.blz_ranges.specs.Ranges.{owner_of, best_owner}
-use Rattle.blz_units.specs.UnitAnswers.{lists_in, ranged_functions, ranged_in, read_unit, unit_functions, best_of, best_function, found_or, first_function, function_at}
+use Rattle.blz_units.specs.UnitAnswers.{lists_in, read_unit, unit_functions, best_of, best_function, found_or, first_function, function_at}
 use Rattle.blz_units.specs.UnitTables.{UnitTable, announcing}
 use Rattle.blz_ranges.proofs.Backward.{passing_covers}
 use Rattle.blz_ranges.proofs.BestOf.{best_is_best}
@@ -35,45 +33,22 @@ at_best lists a n (Some p) best owner = at_place lists a n p best.span (slice_ge
 some_pair : (x y : ℕ × ℕ) → Some (Some x) ≡ Some (Some y) → x ≡ y
 some_pair x y e = cc
 
--- what is asked of a unit is told by all its ranges
-record AreAskedBy (f : Files) (t : UnitTable) (k : ℕ) (x : AskedFunctions) : Type 0 where
-  pub lists : Lists
-  pub read : ranged_functions f t k ≡ Some lists
-  pub same : asked_of lists ≡ x
-
-asked_by : (f : Files) (t : UnitTable) (k : ℕ) (x : AskedFunctions) (u : UnitParts) (o : Option Lists) → read_unit f t k ≡ Some u → ranged_in f t u ≡ o → (o >>= λ l. Some (asked_of l)) ≡ Some x → AreAskedBy f t k x
-unfolding ranged_functions
-asked_by f t k x u None unit is e = absurd cc
-asked_by f t k x u (Some l) unit is e = record { lists = l; read = rw unit is; same = (let same : asked_of l ≡ x = cc in same) }
-
-are_asked_by : (f : Files) (t : UnitTable) (k : ℕ) (x : AskedFunctions) (o : Option UnitParts) → read_unit f t k ≡ o → (o >>= lists_in f t) ≡ Some x → AreAskedBy f t k x
-unfolding functions_asked
-are_asked_by f t k x None unit e = absurd cc
-are_asked_by f t k x (Some u) unit e = asked_by f t k x u (ranged_in f t u) unit refl e
-
-are_asked : (f : Files) (t : UnitTable) (k : ℕ) (x : AskedFunctions) → unit_functions f t k ≡ Some x → AreAskedBy f t k x
-unfolding unit_functions
-are_asked f t k x e = are_asked_by f t k x (read_unit f t k) refl e
-
 module _ (f : Files) (t : UnitTable) (a k n : ℕ) where
-  by_owner : (j : ℕ) (x : AskedFunctions) → unit_functions f t j ≡ Some x → (o : Option ℕ) → x.at a ≡ o → (rest : Option (Option (ℕ × ℕ))) → (rest ≡ Some (Some (k, n)) → IsCovered f t a k n) → found_or j o rest ≡ Some (Some (k, n)) → IsCovered f t a k n
-  by_owner j x is None same rest later e = later e
-  by_owner j x is (Some m) same rest later e =
+  by_owner : (j : ℕ) (lists : Lists) → unit_functions f t j ≡ Some lists → (o : Option ℕ) → best_owner lists.ranges a ≡ o → (rest : Option (Option (ℕ × ℕ))) → (rest ≡ Some (Some (k, n)) → IsCovered f t a k n) → found_or j o rest ≡ Some (Some (k, n)) → IsCovered f t a k n
+  by_owner j lists is None same rest later e = later e
+  by_owner j lists is (Some m) same rest later e =
       let both : (j, m) ≡ (k, n) = some_pair (j, m) (k, n) e in
       let unit : j ≡ k = ap (λ (x : ℕ × ℕ). x.0) both in
       let number : m ≡ n = ap (λ (x : ℕ × ℕ). x.1) both in
-      let told = are_asked f t j x is in
-      let lists = told.lists in
-      let best_is : best_owner lists.ranges a ≡ Some m = ap (λ (y : AskedFunctions). y.at a) told.same ∙ same in
       record {
         lists = lists;
-        read = ap (ranged_functions f t) (sym unit) ∙ told.read;
-        range = at_best lists a n (best (items_of lists.ranges) a) (best_is_best (λ at s. covers s a) (items_of lists.ranges)) (best_is ∙ ap Some number);
+        read = ap (unit_functions f t) (sym unit) ∙ is;
+        range = at_best lists a n (best (items_of lists.ranges) a) (best_is_best (λ at s. covers s a) (items_of lists.ranges)) (same ∙ ap Some number);
       }
 
-  by_unit : (j : ℕ) (o : Option AskedFunctions) → unit_functions f t j ≡ o → (rest : Option (Option (ℕ × ℕ))) → (rest ≡ Some (Some (k, n)) → IsCovered f t a k n) → (o >>= best_of a >>= λ m. found_or j m rest) ≡ Some (Some (k, n)) → IsCovered f t a k n
+  by_unit : (j : ℕ) (o : Option Lists) → unit_functions f t j ≡ o → (rest : Option (Option (ℕ × ℕ))) → (rest ≡ Some (Some (k, n)) → IsCovered f t a k n) → (o >>= best_of a >>= λ m. found_or j m rest) ≡ Some (Some (k, n)) → IsCovered f t a k n
   by_unit j None is rest later e = absurd cc
-  by_unit j (Some x) is rest later e = by_owner j x is (x.at a) refl rest later e
+  by_unit j (Some lists) is rest later e = by_owner j lists is (best_owner lists.ranges a) refl rest later e
 
   first_covers : (units : List ℕ) → first_function f t a units ≡ Some (Some (k, n)) → IsCovered f t a k n
   unfolding first_function best_function
@@ -86,10 +61,10 @@ module _ (f : Files) (t : UnitTable) (a k n : ℕ) where
 
 -- ---- a unit that is read is one of the table
 
-within_by : (f : Files) (t : UnitTable) (k : ℕ) (lists : AskedFunctions) (o : Option UnitHeader) → slice_get t.kept k ≡ o → (o >>= reading f >>= lists_in f t) ≡ Some lists → k < length t.kept
+within_by : (f : Files) (t : UnitTable) (k : ℕ) (lists : Lists) (o : Option UnitHeader) → slice_get t.kept k ≡ o → (o >>= reading f >>= lists_in f t) ≡ Some lists → k < length t.kept
 within_by f t k lists None is e = absurd cc
 within_by f t k lists (Some header) is e = slice_get_within t.kept k header is
 
-pub unit_within : (f : Files) (t : UnitTable) (k : ℕ) (lists : AskedFunctions) → unit_functions f t k ≡ Some lists → k < length t.kept
+pub unit_within : (f : Files) (t : UnitTable) (k : ℕ) (lists : Lists) → unit_functions f t k ≡ Some lists → k < length t.kept
 unfolding unit_functions read_unit
 unit_within f t k lists e = within_by f t k lists (slice_get t.kept k) refl e

@@ -14,7 +14,7 @@ use Rattle.blz_line.specs.UnitLines.{LineTable}
 use Rattle.blz_line.specs.declared.row.LineRow.{LineRow}
 use Rattle.blz_split.specs.PackageParts.{package_of}
 use Rattle.blz_units.specs.BuiltUnits.{Files}
-use Rattle.blz_functions.specs.SearchedFunctions.{AskedFunctions}
+use Rattle.blz_functions.specs.FunctionList.{Lists}
 use Rattle.blz_units.specs.UnitAnswers.{unit_functions, unit_language, unit_lines, function_at}
 use Rattle.blz_units.specs.UnitSites as sites
 use Rattle.blz_units.specs.UnitTables.{UnitTable}
@@ -130,7 +130,7 @@ marks_inlined_at t f table a k n = marks_bind _ _ (marks_invalid _) (λ calls. m
 
 marks_numbered : (b : Book) (at : ℕ × ℕ) → Marks (function_numbered b at)
 unfolding function_numbered
-marks_numbered b at = marks_bind {A = AskedFunctions} _ _ (marks_invalid (unit_functions b.files b.table at.0)) (λ (lists : AskedFunctions). marks_invalid (slice_get lists.functions at.1))
+marks_numbered b at = marks_bind {A = Lists} _ _ (marks_invalid (unit_functions b.files b.table at.0)) (λ (lists : Lists). marks_invalid (slice_get lists.functions at.1))
 
 marks_symbol : (t : Texts) (b : Book) (at : ℕ × ℕ) → Marks (function_symbol t b at)
 unfolding function_symbol

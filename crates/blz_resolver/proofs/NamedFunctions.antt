@@ -14,7 +14,7 @@ use Rattle.blz_info.specs.Marks.{or_invalid}
 use Rattle.blz_info.specs.TextParts.{text_of}
 use Rattle.blz_info.specs.declared.text.StrPlace.{StrPlace}
 use Rattle.blz_info.specs.declared.text.Texts.{Texts}
-use Rattle.blz_functions.specs.SearchedFunctions.{AskedFunctions}
+use Rattle.blz_functions.specs.FunctionList.{Lists}
 use Rattle.blz_units.specs.UnitAnswers.{unit_functions, is_called, first_called, with_called, called_from, functions_named}
 use Rattle.blz_units.specs.UnitSites.{call_name}
 use Rattle.blz_functions.specs.declared.functions.Function.{Function}
@@ -167,21 +167,21 @@ record NamedFrom (t : Texts) (b : Book) (name : List ℕ) (k m : ℕ) : Type 0 w
   found : List (ℕ × ℕ)
   is : called_from t b.files b.table name k m ≡ Some found
   each : AllCalled t b name found
-  some : (j i : ℕ) (lists : AskedFunctions) → k ≤ j → j < k + m → unit_functions b.files b.table j ≡ Some lists → first_called t name lists ≡ Some i → 0 < length found
+  some : (j i : ℕ) (lists : Lists) → k ≤ j → j < k + m → unit_functions b.files b.table j ≡ Some lists → first_called t name lists ≡ Some i → 0 < length found
 
 module _ (t : Texts) (b : Book) (name : List ℕ) where
-  called_there : (k i : ℕ) (lists : AskedFunctions) → unit_functions b.files b.table k ≡ Some lists → first_called t name lists ≡ Some i → IsCalledAt t b name (k, i)
+  called_there : (k i : ℕ) (lists : Lists) → unit_functions b.files b.table k ≡ Some lists → first_called t name lists ≡ Some i → IsCalledAt t b name (k, i)
   unfolding function_numbered
   called_there k i lists is first =
       let c = position_passes (called t name) lists.functions i first in
-      record { function = c.item; there = ap (λ (o : Option AskedFunctions). or_invalid o >>= λ l. or_invalid (slice_get l.functions i)) is ∙ ap (λ (o : Option Function). or_invalid o) c.there; called = c.passes }
+      record { function = c.item; there = ap (λ (o : Option Lists). or_invalid o >>= λ l. or_invalid (slice_get l.functions i)) is ∙ ap (λ (o : Option Function). or_invalid o) c.there; called = c.passes }
 
-  read_on : (k m : ℕ) (lists : AskedFunctions) (found : List (ℕ × ℕ)) → unit_functions b.files b.table k ≡ Some lists → called_from t b.files b.table name (k + 1) m ≡ Some found → called_from t b.files b.table name k (suc m) ≡ Some (with_called k (first_called t name lists) found)
+  read_on : (k m : ℕ) (lists : Lists) (found : List (ℕ × ℕ)) → unit_functions b.files b.table k ≡ Some lists → called_from t b.files b.table name (k + 1) m ≡ Some found → called_from t b.files b.table name k (suc m) ≡ Some (with_called k (first_called t name lists) found)
   unfolding called_from
   read_on k m lists found is rest = rw (is, rest) refl
 
   -- a unit without such a function adds none
-  skipped : (k m j i : ℕ) (lists other : AskedFunctions) (later : Bool) → nat_lt k j ≡ later → unit_functions b.files b.table k ≡ Some lists → first_called t name lists ≡ None → (rest : NamedFrom t b name (k + 1) m)
+  skipped : (k m j i : ℕ) (lists other : Lists) (later : Bool) → nat_lt k j ≡ later → unit_functions b.files b.table k ≡ Some lists → first_called t name lists ≡ None → (rest : NamedFrom t b name (k + 1) m)
       → k ≤ j → j < k + suc m → unit_functions b.files b.table j ≡ Some other → first_called t name other ≡ Some i → 0 < length rest.found
   skipped k m j i lists other true lt is first rest ge below there found = let past : k < j = ltb-true k j lt in rest.some j i other (omega (arith, past)) (omega (arith, below)) there found
   skipped k m j i lists other false lt is first rest ge below there found =
@@ -191,7 +191,7 @@ module _ (t : Texts) (b : Book) (name : List ℕ) where
       let some : first_called t name lists ≡ Some i = ap (first_called t name) one ∙ found in
       absurd cc
 
-  by_first : (k m : ℕ) (lists : AskedFunctions) → unit_functions b.files b.table k ≡ Some lists → (o : Option ℕ) → first_called t name lists ≡ o → NamedFrom t b name (k + 1) m → NamedFrom t b name k (suc m)
+  by_first : (k m : ℕ) (lists : Lists) → unit_functions b.files b.table k ≡ Some lists → (o : Option ℕ) → first_called t name lists ≡ o → NamedFrom t b name (k + 1) m → NamedFrom t b name k (suc m)
   by_first k m lists is None first rest = record {
     found = rest.found;
     is = read_on k m lists rest.found is rest.is ∙ ap (λ (o : Option ℕ). Some (with_called k o rest.found)) first;
@@ -205,7 +205,7 @@ module _ (t : Texts) (b : Book) (name : List ℕ) where
     some = λ j i other ge below there found. omega arith;
   }
 
-  by_unit : (k m : ℕ) (o : Option AskedFunctions) → unit_functions b.files b.table k ≡ o → is_some o ≡ true → NamedFrom t b name (k + 1) m → NamedFrom t b name k (suc m)
+  by_unit : (k m : ℕ) (o : Option Lists) → unit_functions b.files b.table k ≡ o → is_some o ≡ true → NamedFrom t b name (k + 1) m → NamedFrom t b name k (suc m)
   by_unit k m None is some rest = absurd cc
   by_unit k m (Some lists) is some rest = by_first k m lists is (first_called t name lists) refl rest
 
@@ -215,7 +215,7 @@ module _ (t : Texts) (b : Book) (name : List ℕ) where
   named_from read k (suc m) le = by_unit k m (unit_functions b.files b.table k) refl (read k (omega (arith, le))) (named_from read (k + 1) m (omega (arith, le)))
 
   -- the unit of a function that has the name
-  found_some : (whole : NamedFrom t b name 0 (length b.table.kept)) (k n : ℕ) (function : Function) (o : Option AskedFunctions) → unit_functions b.files b.table k ≡ o → (or_invalid o >>= λ lists. or_invalid (slice_get lists.functions n)) ≡ Good function → is_called t name function.name ≡ true → 0 < length whole.found
+  found_some : (whole : NamedFrom t b name 0 (length b.table.kept)) (k n : ℕ) (function : Function) (o : Option Lists) → unit_functions b.files b.table k ≡ o → (or_invalid o >>= λ lists. or_invalid (slice_get lists.functions n)) ≡ Good function → is_called t name function.name ≡ true → 0 < length whole.found
   found_some whole k n function None is e passing = absurd cc
   found_some whole k n function (Some lists) is e passing =
       whole.some k (ahead (called t name) lists.functions) lists (omega arith) (omega (arith, unit_within b.files b.table k lists is)) is (position_some (called t name) lists.functions n function (there_in (slice_get lists.functions n) function e) passing)

@@ -9,7 +9,7 @@ use Rattle.blz_info.specs.Marks.{or_invalid}
 use Rattle.blz_info.specs.declared.text.StrPlace.{StrPlace}
 use Rattle.blz_info.specs.declared.text.Texts.{Texts}
 use Rattle.blz_units.specs.BuiltUnits.{Files}
-use Rattle.blz_functions.specs.SearchedFunctions.{AskedFunctions}
+use Rattle.blz_functions.specs.FunctionList.{Lists}
 use Rattle.blz_units.specs.UnitAnswers.{unit_functions, is_called, first_called, with_called, called_from, functions_named}
 use Rattle.blz_units.specs.UnitTables.{UnitTable}
 use Rattle.blz_functions.specs.declared.functions.Function.{Function}
@@ -39,7 +39,7 @@ module _ (t u : Texts) (s : SameTexts t u) where
   same_called name None = refl
   same_called name (Some place) = ap (λ (text : List ℕ). bytes_eq text name) (same_text t u s place)
 
-  same_first : (name : List ℕ) (l : AskedFunctions) → first_called t name l ≡ first_called u name l
+  same_first : (name : List ℕ) (l : Lists) → first_called t name l ≡ first_called u name l
   same_first name l = same_position (λ (function : Function). is_called t name function.name) (λ (function : Function). is_called u name function.name) l.functions (λ function. same_called name function.name)
 
   same_called_from : (f : Files) (table : UnitTable) (name : List ℕ) (k n : ℕ) → called_from t f table name k n ≡ called_from u f table name k n

@@ -8,7 +8,7 @@ use Rattle.blz_model.specs.declared.cache.Cache.{Cache}
 use Rattle.blz_model.specs.declared.cache.Cache.TheVariants.{Empty, Value, Mark}
 use Rattle.blz_info.specs.Marks.{or_invalid}
 use Rattle.blz_units.specs.BuiltUnits.{Files}
-use Rattle.blz_functions.specs.SearchedFunctions.{AskedFunctions}
+use Rattle.blz_functions.specs.FunctionList.{Lists}
 use Rattle.blz_reader.specs.Growing.{Told, Made, AreOrdered}
 use Rattle.blz_units.specs.KeptParts.{lists_view, lines_at, kept_functions, kept_lines, is_empty, lacks_lines}
 use Rattle.blz_functions.specs.FunctionRanges.{FunctionRanges}
@@ -22,9 +22,9 @@ use Rattle.blz_resolver.specs.Reading.{FunctionsStay, UnitsStay}
 -- ---- the functions of a unit
 
 -- where the functions of a unit are kept, they are those of its number
-numbered_in : (c : Cache FunctionRanges) (p : Part AskedFunctions) (n : ℕ) → Kept (λ _. Unit {0}) lists_view c p → is_value c ≡ true → (p >>= λ lists. or_invalid (slice_get lists.functions n)) ≡ or_invalid (function_in c n)
+numbered_in : (c : Cache FunctionRanges) (p : Part Lists) (n : ℕ) → Kept (λ _. Unit {0}) lists_view c p → is_value c ≡ true → (p >>= λ lists. or_invalid (slice_get lists.functions n)) ≡ or_invalid (function_in c n)
 numbered_in Empty p n kept is = absurd cc
-numbered_in (Value x) p n kept is = ap (λ (q : Part AskedFunctions). q >>= λ lists. or_invalid (slice_get lists.functions n)) kept.1
+numbered_in (Value x) p n kept is = ap (λ (q : Part Lists). q >>= λ lists. or_invalid (slice_get lists.functions n)) kept.1
 numbered_in (Mark k) p n kept is = absurd cc
 
 pub numbered_kept : (f : Files) (u : Units) (k n : ℕ) → UnitsFit f u → functions_kept u k ≡ true → (or_invalid (unit_functions f (units_table u) k) >>= λ lists. or_invalid (slice_get lists.functions n)) ≡ or_invalid (kept_function u k n)

@@ -8,7 +8,7 @@ use Rattle.blz_ranges.specs.Best.{Covers}
 use Rattle.blz_units.specs.BuiltUnits.{Files}
 use Rattle.blz_functions.specs.FunctionList.{Lists}
 use Rattle.blz_ranges.specs.Owned.{Owned}
-use Rattle.blz_units.specs.UnitAnswers.{ranged_functions, unit_functions, function_at}
+use Rattle.blz_units.specs.UnitAnswers.{unit_functions, function_at}
 use Rattle.blz_units.specs.UnitSites.{call_name}
 use Rattle.blz_units.specs.UnitTables.{UnitTable}
 use Rattle.blz_functions.specs.declared.functions.Function.{Function}
@@ -27,7 +27,7 @@ pub record HasRange (lists : Lists) (n addr : ℕ) : Type 0 where
 -- a function of a unit covers an address by one of its ranges
 pub record IsCovered (f : Files) (t : UnitTable) (addr k n : ℕ) : Type 0 where
   pub lists : Lists
-  pub read : ranged_functions f t k ≡ Some lists
+  pub read : unit_functions f t k ≡ Some lists
   pub range : HasRange lists n addr
 
 -- the functions of all units can be read

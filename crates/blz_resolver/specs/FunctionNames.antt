@@ -11,7 +11,7 @@ use Rattle.blz_image.specs.Segments.{image_file_place}
 use Rattle.blz_elf.specs.declared.find_addr_opts.FindAddrOpts.{FindAddrOpts}
 use Rattle.blz_info.specs.Marks.{or_invalid}
 use Rattle.blz_info.specs.declared.text.Texts.{Texts}
-use Rattle.blz_functions.specs.SearchedFunctions.{AskedFunctions}
+use Rattle.blz_functions.specs.FunctionList.{Lists}
 use Rattle.blz_units.specs.UnitAnswers.{unit_functions, functions_named}
 use Rattle.blz_units.specs.UnitSites.{call_name}
 use Rattle.blz_functions.specs.declared.functions.Function.{Function}
@@ -79,7 +79,7 @@ addresses_of images true name opts = do
 abbrev pub named_only : List Function → List Function
 named_only functions = filter (λ (function : Function). is_some function.name) functions
 
-abbrev pub lists_listing : Texts → ImageSet → Bool → AskedFunctions → Listing
+abbrev pub lists_listing : Texts → ImageSet → Bool → Lists → Listing
 lists_listing t images asked lists = listing_of (map (function_info t images asked) (named_only lists.functions))
 
 -- the functions of a unit that have a name

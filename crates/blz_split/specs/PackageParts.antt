@@ -25,6 +25,10 @@ pub record PackageParts : Type 0 where
 abbrev pub package_view : Package → PackageParts
 package_view p = record { «abbrev» = p.«abbrev».now; index = p.index.now; info = p.info.now; rnglists = p.rnglists.now; strings = p.strings.now; str_offsets = p.str_offsets.now; order = p.order }
 
+-- the bytes of its sections
+abbrev pub package_size : PackageParts → ℕ
+package_size p = length p.«abbrev» + length p.index + length p.info + length p.rnglists + length p.strings + length p.str_offsets
+
 -- the package of an image: its sections in this order, and an index that has to have a value
 unfoldable pub package_of : List ℕ → Part PackageParts
 package_of image = do

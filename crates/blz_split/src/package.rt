@@ -7,7 +7,7 @@ ghost use Rattle.blz_info.specs.Contents.{section_view};
 ghost use Rattle.blz_split.specs.Contributions.{index_tables, found_row, contribution};
 ghost use Rattle.blz_info.specs.FileSections.{sections_view};
 ghost use Rattle.blz_split.specs.SplitSections.{split_sections, piece_of};
-ghost use Rattle.blz_split.specs.PackageParts.{package_view, package_of, row_pieces, unit_of_row, split_unit, PiecesFit, IfPiecesFit, Inside};
+ghost use Rattle.blz_split.specs.PackageParts.{package_view, package_of, package_size, row_pieces, unit_of_row, split_unit, PiecesFit, IfPiecesFit, Inside};
 ghost use Rattle.blz_split.specs.IndexRows.{AreRowsOf};
 ghost use Rattle.blz_split.specs.SectionNames.{name_of};
 ghost use Rattle.blz_split.specs.TablesFit.{TablesFit};
@@ -112,6 +112,18 @@ impl<'b> Package<'b> {
     {
         let image = parser.image();
         read(parser, image)
+    }
+
+    /// How many bytes its sections have.
+    pub fn size(&self) -> u128
+        ensures { result ≡ package_size (package_view self.now) }
+    {
+        self.abbrev.len() as u128
+            + self.index.len() as u128
+            + self.info.len() as u128
+            + self.rnglists.len() as u128
+            + self.strings.len() as u128
+            + self.str_offsets.len() as u128
     }
 
     /// The same package for as long as it is lent.

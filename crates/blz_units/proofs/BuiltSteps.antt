@@ -1,6 +1,5 @@
 -- Units that are built, one more of which is kept.
 use Rattle.std.proofs.Common.{◌≡◌, ℕ, zero, suc, true, false, List, [], ◌∷◌, ◌++◌, length, length-append, Option, Some, None, refl, sym, ap, ◌∙◌, arith}
-use Rattle.blz_units.specs.SharedTables.{AreTables}
 use Rattle.std.specs.List.{slice_get, slice_set}
 use Rattle.std.proofs.lemmas.List.{length-set}
 use Rattle.blz_model.specs.Kept.{Kept, is_kept}
@@ -20,7 +19,7 @@ use Rattle.blz_units.specs.BuiltUnits.{Files, built_view, BuiltFits}
 use Rattle.blz_units.specs.KeptParts.{or_empty, is_missing, unit_of, IsFilled, IsBuilt, IsPartOf, AllBuilt, SideFits, BuiltFit, side_unit}
 use Rattle.blz_functions.specs.Leaves.{UnitParts}
 use Rattle.blz_units.specs.UnitTables.{UnitTable}
-use Rattle.blz_units.proofs.SharedPackage.{nothing_shared}
+use Rattle.blz_units.proofs.SharedPackage.{no_rows}
 use Rattle.blz_units.proofs.PutItems.{at_each, none_both, put_is}
 
 pub all_put : (f : Files) (side : Side) (headers : List UnitHeader) (caches : List (Cache BuiltUnit)) (k : ℕ) (c : Cache BuiltUnit) → Kept (BuiltFits f) (built_view f) c (or_invalid (unit_of f side headers k)) → AllBuilt f side headers caches → AllBuilt f side headers (slice_set caches k c)
@@ -105,9 +104,9 @@ side_same f headers old new e same shared fits = record { all = rw e fits.all; s
 nothing_built : (f : Files) → AllBuilt f File [] []
 nothing_built f = record { same = refl; each = λ k. tt }
 
-pub none_built : (f : Files) (headers : List UnitHeader) (b : SideUnits) → headers ≡ [] → b.units.items ≡ [] → ((s : FileSections) → AreShared s b.shared) → ((bytes : List ℕ) → AreTables bytes b.packed.tables) → b.packed.rows ≡ None → SideFits f File headers b
-none_built f headers b none empty shared packed rows = record { all = rw (none, empty) (nothing_built f); shared = shared f.main; packed = nothing_shared f b.packed packed rows }
+pub none_built : (f : Files) (headers : List UnitHeader) (b : SideUnits) → headers ≡ [] → b.units.items ≡ [] → ((s : FileSections) → AreShared s b.shared) → b.packed.rows ≡ None → SideFits f File headers b
+none_built f headers b none empty shared rows = record { all = rw (none, empty) (nothing_built f); shared = shared f.main; packed = no_rows f b.packed rows }
 
 -- the kept units share more
-pub shared_again : (f : Files) (t : UnitTable) (old new : built.BuiltUnits) → new.kept.units ≡ old.kept.units → new.kept.packed ≡ old.kept.packed → new.sups ≡ old.sups → new.long ≡ old.long → new.lists ≡ old.lists → AreShared f.main new.kept.shared → BuiltFit f t old → BuiltFit f t new
-shared_again f t old new units packed sups long lists shared fits = record { kept = side_same f t.kept old.kept new.kept units packed shared fits.kept; sups = rw sups fits.sups; long = rw long fits.long; lists = rw lists fits.lists }
+pub shared_again : (f : Files) (t : UnitTable) (old new : built.BuiltUnits) → new.kept.units ≡ old.kept.units → new.kept.packed ≡ old.kept.packed → new.sups ≡ old.sups → AreShared f.main new.kept.shared → BuiltFit f t old → BuiltFit f t new
+shared_again f t old new units packed sups shared fits = record { kept = side_same f t.kept old.kept new.kept units packed shared fits.kept; sups = rw sups fits.sups }

@@ -1,11 +1,10 @@
--- What holds of each value of a map holds of no values, of one more, and of one less.
+-- What holds of each value of a map holds of no values, and of one more.
 use Rattle.std.proofs.Common.{◌≡◌, ◌⊎◌, ℕ, false, Ordering, Less, Equal, Greater, Some, None, refl, subst, inl, inr}
 use Rattle.std.specs.Prelude.{IfSome}
 use Rattle.std.specs.BTreeMap.{BTreeMap, get, IsEmpty, Updates}
 use Rattle.std.specs.Ordering.{nat_cmp, is_eq}
-use Rattle.std.proofs.lemmas.Bool.{cases_Bool}
 use Rattle.std.proofs.lemmas.Map.Lookups.{CmpEqualImpliesEq, exact_pairs, exact_unsigned}
-use Rattle.blz_units.specs.SharedTables.{table_cmp}
+use Rattle.blz_units.specs.Sharing.{table_cmp}
 
 none_kept : {K V : Type 0} (cmp : K → K → Ordering) (m : BTreeMap K V) (key : K) → IsEmpty m → get cmp m key ≡ None
 none_kept cmp m key e = rw e refl
@@ -39,12 +38,3 @@ module _ {V : Type 0} (old new : BTreeMap ℕ V) (key : ℕ) (v : V) (P : ℕ �
 module _ {V : Type 0} (old new : BTreeMap (ℕ × ℕ) V) (key : ℕ × ℕ) (v : V) (P : ℕ × ℕ → V → Type 0) where
   pub pair_more : Updates table_cmp old new key (Some v) → P key v → ((k : ℕ × ℕ) → IfSome (get table_cmp old k) (P k)) → (k : ℕ × ℕ) → IfSome (get table_cmp new k) (P k)
   pair_more u here told = more_kept table_cmp (exact_pairs nat_cmp nat_cmp exact_unsigned exact_unsigned) old new key v P u here told
-
--- ---- one less
-
-module _ {K V : Type 0} (cmp : K → K → Ordering) (old new : BTreeMap K V) (key : K) (P : K → V → Type 0) where
-  pub fewer_kept : Updates cmp old new key None → ((k : K) → IfSome (get cmp old k) (P k)) → (k : K) → IfSome (get cmp new k) (P k)
-  fewer_kept u told k = elim (cases_Bool (is_eq (cmp key k))) [
-    | inl same ↦ rw (u.0 k, same) tt
-    | inr other ↦ rw (u.0 k, other) (told k)
-  ]

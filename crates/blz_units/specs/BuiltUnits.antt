@@ -1,11 +1,11 @@
 -- Units that are built, and the unit that a unit is read from (DWARF 5 sections 3.1 and 7.3.5).
 use Rattle.std.specs.Prelude.{◌≡◌, ℕ, ◌+◌, ◌^◌, ◌<◌, ◌≤◌, Bool, true, false, List, [], length, Option, Some, None, IfSome, option_map, ◌==◌, if◌then◌else◌}
+use Rattle.std.specs.Arc.{arc_value}
 use Rattle.std.specs.FinMap as map
 use Rattle.blz_model.specs.Reads.{◌>>=◌}
 use Rattle.blz_moves.specs.Relocations.{OffsetMap}
 use Rattle.blz_info.specs.AbbreviationTables.{abbreviations}
 use Rattle.blz_info.specs.Abbrevs.{Abbrev}
-use Rattle.blz_info.specs.Contents.{Contents}
 use Rattle.blz_info.specs.Headers.{next_unit}
 use Rattle.blz_entry.specs.Roots.{root_of}
 use Rattle.blz_entry.specs.declared.root.UnitRoot.{UnitRoot}
@@ -87,12 +87,12 @@ pub record IsReadable (d : Dwarf) : Type 0 where
 -- ---- units that are built
 
 -- A line program has to have a header.
-abbrev pub line_header : Contents → ℕ → ℕ → Option (Unit {0})
-line_header line at address_size = header_at line at address_size >>= λ _. Some tt
+abbrev pub line_header : FileSections → ℕ → ℕ → Option (Unit {0})
+line_header s at address_size = header_at s.line at address_size >>= λ _. Some tt
 
 abbrev pub has_lines : FileSections → UnitHeader → Option ℕ → Option (Unit {0})
 has_lines s h None = Some tt
-has_lines s h (Some at) = line_header s.line at h.address_size
+has_lines s h (Some at) = line_header s at h.address_size
 
 -- a unit with its abbreviations and its root
 unfoldable pub built : FileSections → UnitHeader → Option UnitParts
@@ -186,13 +186,13 @@ IsInside (Some p) Main = Unit {0}
 IsInside (Some p) Sup = Unit {0}
 IsInside (Some p) (Split pieces) = PiecesFit p pieces
 
--- the abbreviations of a unit of an origin
-abbrev pub table_from : Files → Origin → UnitHeader → Option (List Abbrev)
-table_from f origin h = abbreviations (sections_from f origin).«abbrev».bytes h.«abbrev»
+-- what is read of a unit, as one value
+abbrev pub parts_of : FileSections → UnitHeader → List Abbrev × UnitRoot → UnitParts
+parts_of s h read = record { sections = s; header = h; table = read.0; root = read.1 }
 
 -- what a built unit stands for
 abbrev pub built_view : Files → BuiltUnit → UnitParts
-built_view f u = record { sections = sections_from f u.origin; header = u.header; table = u.abbreviations; root = u.root }
+built_view f u = record { sections = sections_from f u.origin; header = u.header; table = arc_value u.abbreviations; root = u.root }
 
 -- A unit belongs to files.
 pub record BuiltFits (f : Files) (u : BuiltUnit) : Type 0 where

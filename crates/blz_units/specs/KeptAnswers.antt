@@ -22,7 +22,7 @@ use Rattle.blz_units.specs.UnitSites.{line_of, site_or, site_of}
 use Rattle.std.specs.List.{slice_get}
 use Rattle.blz_ranges.specs.declared.span.Span.{Span}
 use Rattle.blz_functions.specs.declared.functions.Function.{Function}
-use Rattle.blz_functions.specs.AskedCalls.{AskedCalls}
+use Rattle.blz_functions.specs.CallTree.{CallLists}
 use Rattle.blz_ranges.specs.Owned.{Owned}
 
 -- A call tells a part as it is kept.
@@ -101,13 +101,13 @@ ranges_in (Value x) = x.ranges
 ranges_in (Mark k) = []
 
 -- inlined calls by what is kept of them
-abbrev pub calls_told : Cache CallRanges → Option AskedCalls
+abbrev pub calls_told : Cache CallRanges → Option CallLists
 calls_told Empty = None
 calls_told (Value x) = Some (calls_view x)
 calls_told (Mark k) = None
 
 -- the same by the file
-abbrev pub calls_listed : Option AskedCalls → Option (Option AskedCalls)
+abbrev pub calls_listed : Option CallLists → Option (Option CallLists)
 calls_listed None = None
 calls_listed (Some l) = Some (Some l)
 

@@ -1,8 +1,6 @@
 -- What is kept of the units of a file.
-use Rattle.std.specs.Prelude.{◌≡◌, ◌≢◌, ℕ, ◌<◌, Bool, true, false, List, length, Option, Some, None, IfSome, option_map, ⊤}
-use Rattle.std.specs.BTreeMap.{get}
+use Rattle.std.specs.Prelude.{◌≡◌, ◌≢◌, ℕ, ◌<◌, Bool, true, false, List, length, Option, Some, None, option_map, ⊤}
 use Rattle.std.specs.List.{slice_get}
-use Rattle.std.specs.Ordering.{nat_cmp}
 use Rattle.blz_error.specs.declared.kind.ErrorKind.TheVariants.{OutOfMemory}
 use Rattle.blz_model.specs.Part.{Broken}
 use Rattle.blz_model.specs.Kept.{Kept, is_kept}
@@ -20,19 +18,13 @@ use Rattle.blz_units.specs.declared.built_units.Side.{Side}
 use Rattle.blz_units.specs.declared.built_units.SideUnits.{SideUnits}
 use Rattle.blz_units.specs.declared.built_units.Side.TheVariants.{File, Sup}
 use Rattle.blz_units.specs.declared.caches.Caches.{Caches}
-use Rattle.blz_units.specs.declared.long_entries.LongEntries.{LongEntries}
-use Rattle.blz_units.specs.declared.long_entries.LongEntry.{LongEntry}
-use Rattle.blz_units.specs.declared.long_entries.SeenEntry.{SeenEntry}
 use Rattle.blz_units.specs.declared.caches.UnitCaches.{UnitCaches}
 use Rattle.blz_units.specs.BuiltUnits.{Files, reading, sup_built, built_view, or_main, BuiltFits}
-use Rattle.blz_functions.specs.AskedCalls.{AskedCalls, asked_by}
-use Rattle.blz_functions.specs.SearchedFunctions.{AskedFunctions, asked}
+use Rattle.blz_functions.specs.CallTree.{CallLists}
+use Rattle.blz_functions.specs.FunctionList.{Lists}
 use Rattle.blz_functions.specs.Leaves.{UnitParts}
 use Rattle.blz_functions.specs.FunctionRanges.{FunctionRanges, CallRanges}
-use Rattle.blz_units.specs.LongEntries.{seen_in}
 use Rattle.blz_units.specs.SharedPackage.{IsPackageShared}
-use Rattle.blz_units.specs.SharedLists.{AreSharedLists}
-use Rattle.blz_units.specs.SharedPrograms.{ArePrograms}
 use Rattle.blz_units.specs.Sharing.{AreShared}
 use Rattle.blz_units.specs.UnitAnswers.{main_unit, unit_functions, unit_lines, function_calls}
 use Rattle.blz_units.specs.UnitTables.{UnitTable}
@@ -91,41 +83,26 @@ pub record SideFits (f : Files) (side : Side) (headers : List UnitHeader) (b : S
   pub shared : AreShared (side_sections f side) b.shared
   pub packed : IsPackageShared f b.packed
 
-abbrev pub headers_of : Side → UnitTable → List UnitHeader
-headers_of File t = t.kept
-headers_of Sup t = t.sups
-
--- what an entry tells of a name, by its unit and its distance from the unit's start
-abbrev pub entry_of : Files → UnitTable → Side → ℕ → ℕ → Option SeenEntry
-entry_of f t side k distance = unit_of f side (headers_of side t) k >>= seen_in distance
-
--- An entry tells what is kept of it.
-abbrev pub IsSeen : Files → UnitTable → LongEntry → Type 0
-IsSeen f t e = entry_of f t e.side e.number e.distance ≡ Some e.seen
-
--- Each entry tells what is kept of it, whichever key it is kept by.
-abbrev pub AreSeen : Files → UnitTable → LongEntries → Type 0
-AreSeen f t entries = (key : ℕ) → IfSome (get nat_cmp entries.kept key) (IsSeen f t)
-
--- the kept units, those of the supplementary file, what their entries tell, and the lists that calls name
+-- the kept units, and those of the supplementary file
 pub record BuiltFit (f : Files) (t : UnitTable) (b : built.BuiltUnits) : Type 0 where
   pub kept : SideFits f File t.kept b.kept
   pub sups : SideFits f Sup t.sups b.sups
-  pub long : AreSeen f t b.long
-  pub lists : AreSharedLists f b.lists
 
 abbrev pub caches_of : Side → built.BuiltUnits → List (Cache BuiltUnit)
 caches_of File b = b.kept.units.items
 caches_of Sup b = b.sups.units.items
 
+abbrev pub headers_of : Side → UnitTable → List UnitHeader
+headers_of File t = t.kept
+headers_of Sup t = t.sups
+
 -- ---- what was read of them
 
--- the ranges that are kept are those that are searched
-abbrev pub lists_view : FunctionRanges → AskedFunctions
-lists_view x = asked x.functions x.ranges
+abbrev pub lists_view : FunctionRanges → Lists
+lists_view x = record { functions = x.functions; ranges = x.ranges }
 
-abbrev pub calls_view : CallRanges → AskedCalls
-calls_view x = asked_by x.calls x.ranges
+abbrev pub calls_view : CallRanges → CallLists
+calls_view x = record { calls = x.calls; ranges = x.ranges }
 
 abbrev pub lines_view : Option OrderedLines → Option LineTable
 lines_view o = option_map (λ (l : OrderedLines). l.table) o
@@ -185,7 +162,6 @@ pub record PartsFit (f : Files) (t : UnitTable) (units : List UnitCaches) : Type
 pub record AllFit (f : Files) (t : UnitTable) (c : Caches) : Type 0 where
   pub built : BuiltFit f t c.built
   pub units : PartsFit f t c.units.items
-  pub programs : ArePrograms f.main c.programs
 
 -- ---- what is filled
 

@@ -1,25 +1,34 @@
--- What the units of some sections share: tables of abbreviations and headers of line programs, by their offsets.
-use Rattle.std.specs.Prelude.{◌≡◌, ℕ, Result, IfSome, is_some}
+-- What the units of some sections share: tables of abbreviations, headers of line programs, and line programs.
+use Rattle.std.specs.Prelude.{◌≡◌, ℕ, ◌+◌, ◌*◌, ◌==◌, List, Option, Some, IfSome, option_map, if◌then◌else◌}
+use Rattle.std.specs.Arc.{arc_value}
 use Rattle.std.specs.BTreeMap.{get}
-use Rattle.blz_error.specs.Fault.{Fault}
-use Rattle.blz_model.specs.Part.{Gives}
-use Rattle.blz_info.specs.Contents.{Contents}
+use Rattle.std.specs.Ordering.{nat_cmp, ordering_then}
+use Rattle.std.specs.declared.cmp.Ordering.{Ordering}
+use Rattle.blz_info.specs.AbbreviationTables.{abbreviations}
+use Rattle.blz_info.specs.Abbrevs.{Abbrev}
 use Rattle.blz_info.specs.FileSections.{FileSections}
-use Rattle.blz_info.specs.Marks.{or_invalid}
-use Rattle.blz_units.specs.declared.line_headers.LineHeaders.{LineHeaders}
+use Rattle.blz_info.specs.declared.units.UnitHeader.{UnitHeader}
 use Rattle.blz_units.specs.declared.shared_parts.SharedParts.{SharedParts}
 use Rattle.blz_units.specs.BuiltUnits.{line_header}
-use Rattle.blz_units.specs.SharedTables.{table_cmp, AreTables}
+use Rattle.blz_units.specs.SharedPrograms.{ArePrograms}
 
--- whether there is a header of a line program at an offset, or why it can't be told
-abbrev pub IsHeaderAt : Contents → ℕ → ℕ → Result (Unit {0}) Fault → Type 0
-IsHeaderAt line at address_size result = Gives (λ _. tt) result (or_invalid (line_header line at address_size))
+-- the sizes of the fields of a unit as one number
+abbrev pub sizes_of : UnitHeader → ℕ
+sizes_of h = h.version * 4 + (if h.wide then 2 else 0) + (if h.address_size == 8 then 1 else 0)
 
--- It is known of headers whether they can be read at an offset with a size of addresses.
-abbrev pub AreHeaders : Contents → LineHeaders → Type 0
-AreHeaders line headers = (key : ℕ × ℕ) → IfSome (get table_cmp headers.met key) (λ there. is_some (line_header line key.0 key.1) ≡ there)
+-- tables stand in the order of the sizes that they are ready for, and then of their offsets
+abbrev pub table_cmp : ℕ × ℕ → ℕ × ℕ → Ordering
+table_cmp x y = ordering_then (nat_cmp x.0 y.0) (nat_cmp x.1 y.1)
+
+abbrev pub table_key : UnitHeader → ℕ × ℕ
+table_key h = (sizes_of h, h.«abbrev»)
+
+-- the table that is kept of a unit
+abbrev pub table_kept : SharedParts → UnitHeader → Option (List Abbrev)
+table_kept p h = option_map arc_value (get table_cmp p.tables (table_key h))
 
 -- What is kept is what stands at its offset.
 pub record AreShared (s : FileSections) (p : SharedParts) : Type 0 where
-  pub tables : AreTables s.«abbrev».bytes p.tables
-  pub headers : AreHeaders s.line p.headers
+  pub tables : (key : ℕ × ℕ) → IfSome (get table_cmp p.tables key) (λ table. abbreviations s.«abbrev».bytes key.1 ≡ Some (arc_value table))
+  pub headers : (at : ℕ) → IfSome (get nat_cmp p.headers at) (λ size. line_header s at size ≡ Some tt)
+  pub programs : ArePrograms s p.programs

@@ -12,11 +12,12 @@ use Rattle.blz_line.specs.UnitLines.{LineTable}
 use Rattle.blz_functions.specs.declared.functions.Function.{Function}
 use Rattle.blz_functions.specs.declared.inlined_functions.InlinedFunction.{InlinedFunction}
 use Rattle.blz_units.specs.BuiltUnits.{Files, built, reading}
-use Rattle.blz_functions.specs.AskedCalls.{AskedCalls, asked_chain, calls_asked}
+use Rattle.blz_functions.specs.CallTree.{CallLists, unit_calls}
+use Rattle.blz_functions.specs.Chain.{chain}
 use Rattle.blz_functions.specs.FunctionList.{Lists, unit_lists}
-use Rattle.blz_functions.specs.SearchedFunctions.{AskedFunctions, functions_asked}
 use Rattle.blz_functions.specs.Leaves.{UnitParts}
 use Rattle.blz_functions.specs.References.{refer_from}
+use Rattle.blz_ranges.specs.Ranges.{best_owner}
 use Rattle.blz_units.specs.UnitTables.{UnitTable, reach_of, announcing, lines_in}
 
 -- ---- one unit
@@ -34,39 +35,32 @@ unfoldable pub unit_language : Files → UnitTable → ℕ → Option SrcLang
 unit_language f t k = main_unit f t k >>= λ u. Some (language_of u.root.language)
 
 -- the functions of a unit that is read
-abbrev pub lists_in : Files → UnitTable → UnitParts → Option AskedFunctions
-lists_in f t u = functions_asked (refer_from (reach_of f t) u) u
+abbrev pub lists_in : Files → UnitTable → UnitParts → Option Lists
+lists_in f t u = unit_lists (refer_from (reach_of f t) u) u
 
-unfoldable pub unit_functions : Files → UnitTable → ℕ → Option AskedFunctions
+unfoldable pub unit_functions : Files → UnitTable → ℕ → Option Lists
 unit_functions f t k = read_unit f t k >>= lists_in f t
-
--- all their ranges, by which they are asked
-abbrev pub ranged_in : Files → UnitTable → UnitParts → Option Lists
-ranged_in f t u = unit_lists (refer_from (reach_of f t) u) u
-
-unfoldable pub ranged_functions : Files → UnitTable → ℕ → Option Lists
-ranged_functions f t k = read_unit f t k >>= ranged_in f t
 
 -- the lines: none where the root tells no line program
 unfoldable pub unit_lines : Files → UnitTable → ℕ → Option (Option LineTable)
 unit_lines f t k = main_unit f t k >>= lines_in
 
 -- the inlined calls of the function at a place of a unit that is read
-abbrev pub calls_in : Files → UnitTable → ℕ → UnitParts → Option AskedCalls
-calls_in f t place u = calls_asked (refer_from (reach_of f t) u) u place
+abbrev pub calls_in : Files → UnitTable → ℕ → UnitParts → Option CallLists
+calls_in f t place u = unit_calls (refer_from (reach_of f t) u) u place
 
-unfoldable pub place_calls : Files → UnitTable → ℕ → ℕ → Option AskedCalls
+unfoldable pub place_calls : Files → UnitTable → ℕ → ℕ → Option CallLists
 place_calls f t k place = read_unit f t k >>= calls_in f t place
 
 -- the place of a function, by its number in a unit
-abbrev pub place_in : ℕ → AskedFunctions → Option ℕ
+abbrev pub place_in : ℕ → Lists → Option ℕ
 place_in n l = slice_get l.functions n >>= λ function. Some function.place
 
 unfoldable pub function_place : Files → UnitTable → ℕ → ℕ → Option ℕ
 function_place f t k n = unit_functions f t k >>= place_in n
 
 -- the inlined calls of a function, by its number in the unit
-unfoldable pub function_calls : Files → UnitTable → ℕ → ℕ → Option AskedCalls
+unfoldable pub function_calls : Files → UnitTable → ℕ → ℕ → Option CallLists
 function_calls f t k n = function_place f t k n >>= place_calls f t k
 
 -- the calls of some numbers
@@ -77,8 +71,8 @@ chosen calls (n ∷ rest) = do
   others ← chosen calls rest
   Some (call ∷ others)
 
-abbrev pub chain_of : ℕ → AskedCalls → Option (List InlinedFunction)
-chain_of addr l = chosen l.calls (asked_chain l addr)
+abbrev pub chain_of : ℕ → CallLists → Option (List InlinedFunction)
+chain_of addr l = chosen l.calls (chain l.ranges (length l.calls) addr)
 
 -- the inlined calls of a function of a unit that cover an address, the outermost first
 unfoldable pub covering_calls : Files → UnitTable → ℕ → ℕ → ℕ → Option (List InlinedFunction)
@@ -87,8 +81,8 @@ covering_calls f t addr k n = function_calls f t k n >>= chain_of addr
 -- ---- the function of an address
 
 -- the function of the best range of a unit that covers an address
-abbrev pub best_of : ℕ → AskedFunctions → Option (Option ℕ)
-best_of addr l = Some (l.at addr)
+abbrev pub best_of : ℕ → Lists → Option (Option ℕ)
+best_of addr l = Some (best_owner l.ranges addr)
 
 unfoldable pub best_function : Files → UnitTable → ℕ → ℕ → Option (Option ℕ)
 best_function f t addr k = unit_functions f t k >>= best_of addr
@@ -115,7 +109,7 @@ is_called texts name None = false
 is_called texts name (Some place) = bytes_eq (text_of texts place) name
 
 -- the first function of a unit that has a name
-abbrev pub first_called : Texts → List ℕ → AskedFunctions → Option ℕ
+abbrev pub first_called : Texts → List ℕ → Lists → Option ℕ
 first_called texts name l = position (λ (function : Function). is_called texts name function.name) l.functions
 
 abbrev pub with_called : ℕ → Option ℕ → List (ℕ × ℕ) → List (ℕ × ℕ)

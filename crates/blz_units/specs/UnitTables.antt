@@ -62,10 +62,6 @@ abbrev pub by_root : Option UnitParts → Option (Option (List Span))
 by_root None = Some None
 by_root (Some u) = root_spans u >>= λ spans. Some (Some spans)
 
--- what a unit announces that no set names
-abbrev pub root_announces : FileSections → UnitHeader → Option (Option (List Span))
-root_announces s h = by_root (built s h)
-
 -- A unit whose start is named with ranges is not built.
 abbrev pub by_pairs : List Span → Option UnitParts → Option (Option (List Span))
 by_pairs [] unit = by_root unit
@@ -77,6 +73,14 @@ unfoldable pub announces : FileSections → List ArangeSet → UnitHeader → Op
 announces s sets h =
     if is_type h.kind then Some None else (
     if is_partial h.kind then Some (Some []) else by_pairs (named s.aranges h.start sets) (built s h))
+
+-- ranges behind others, and whether there is a unit that has them
+abbrev pub added : List Span → Option (List Span) → List Span × Bool
+added old None = (old, false)
+added old (Some spans) = (old ++ spans, true)
+
+abbrev pub added_to : List Span → Option (Option (List Span)) → Option (List Span × Bool)
+added_to old spans = spans >>= λ new. Some (added old new)
 
 -- the ranges of a root behind others
 abbrev pub root_behind : UnitParts → List Span → Option (List Span)

@@ -9,6 +9,8 @@ ghost use Rattle.blz_info.specs.Marks.{or_invalid};
 ghost use Rattle.blz_entry.specs.declared.aranges.ArangeSet.{ArangeSet};
 ghost use Rattle.blz_units.specs.Sets.{sets_from, ranges_for, named, IsByUnit, IsExtent};
 
+use crate::words::RANGE_WORDS;
+use blz_bytes::Room;
 use blz_entry::{ArangeSet, Aranges, Section, Span};
 use blz_error::Result;
 use std::alloc::{AllocError, Global};
@@ -72,6 +74,7 @@ fn sets_of(alloc: Global, aranges: Section<'_, '_>) -> Result<Vec<ArangeSet>>
 
 /// Appends the ranges of a set.
 fn append_pairs(
+    room: &mut Room,
     aranges: &Section<'_, '_>,
     set: ArangeSet,
     out: &mut Vec<Span>,
@@ -80,6 +83,7 @@ fn append_pairs(
 {
     let mut set = set;
     while let Some(span) = set.next_range(aranges) {
+        room.take(RANGE_WORDS)?;
         out.push(span)?;
     }
     Ok(())
@@ -87,6 +91,7 @@ fn append_pairs(
 
 /// Appends the ranges of a set that names the start of a unit.
 fn append_for(
+    room: &mut Room,
     aranges: &Section<'_, '_>,
     start: u64,
     set: ArangeSet,
@@ -95,13 +100,14 @@ fn append_for(
     ensures { OnOk result (out.new.items ≡ out.old.items ++ ranges_for (section_view aranges.now) start set) }
 {
     if set.unit == start {
-        return append_pairs(aranges, set, out);
+        return append_pairs(room, aranges, set, out);
     }
     Ok(())
 }
 
 /// Appends the ranges of those of some sets that name it.
 fn append_named(
+    room: &mut Room,
     sets: &[ArangeSet],
     aranges: &Section<'_, '_>,
     start: u64,
@@ -110,7 +116,7 @@ fn append_named(
     ensures { OnOk result (out.new.items ≡ out.old.items ++ named (section_view aranges.now) start sets.now) }
 {
     for set in sets {
-        append_for(aranges, start, *set, out)?;
+        append_for(room, aranges, start, *set, out)?;
     }
     Ok(())
 }
@@ -127,6 +133,7 @@ fn extent_of(sets: &[ArangeSet], start: u64) -> (usize, usize)
 
 /// Appends the ranges of the sets that name the start of a unit, which stand together.
 fn append_within(
+    room: &mut Room,
     sets: &[ArangeSet],
     extent: (usize, usize),
     aranges: &Section<'_, '_>,
@@ -137,7 +144,7 @@ fn append_within(
     ensures { OnOk result (out.new.items ≡ out.old.items ++ named (section_view aranges.now) start sets.now) }
 {
     let (from, to) = extent;
-    append_named(&sets[from..to], aranges, start, out)
+    append_named(room, &sets[from..to], aranges, start, out)
 }
 
 impl AddressSets {
@@ -164,6 +171,7 @@ impl AddressSets {
     /// Appends the ranges of the sets that name the start of a unit, in the order of the section.
     pub fn append_ranges(
         &self,
+        room: &mut Room,
         aranges: &Section<'_, '_>,
         start: usize,
         out: &mut Vec<Span>,
@@ -173,6 +181,6 @@ impl AddressSets {
         let start = start as u64;
         let sets = self.by_unit();
         let extent = extent_of(sets, start);
-        append_within(sets, extent, aranges, start, out)
+        append_within(room, sets, extent, aranges, start, out)
     }
 }

@@ -1,32 +1,36 @@
 //! Units that are built, as places and numbers.
 ghost use Rattle.std.specs.Prelude.{◌≡◌, false, ◌≤◌, ◌<◌, ◌+◌, ◌^◌, ◌&&◌, length, is_some, IfOk, IfSome, Option};
+ghost use Rattle.std.specs.Arc.{arc_value};
 ghost use Rattle.blz_model.specs.Part.{Gives, Exactly};
 ghost use Rattle.blz_info.specs.Marks.{or_invalid};
 ghost use Rattle.blz_entry.specs.Roots.{root_of};
-ghost use Rattle.blz_units.specs.BuiltUnits.{built, built_view, first_unit, has_lines, has_id, not_empty, pieces_of, reading, rooted_on, sections_from, table_from, split_built, files_view, BuiltFits, IsInside, IsReadable};
+ghost use Rattle.blz_units.specs.BuiltUnits.{built, built_view, first_unit, has_lines, has_id, not_empty, parts_of, pieces_of, reading, rooted_on, sections_from, split_built, files_view, BuiltFits, IsInside, IsReadable};
 ghost use Rattle.blz_functions.specs.Leaves.{lying};
 ghost use Rattle.blz_units.specs.declared.dwarf.Origin.TheVariants.{Split};
 ghost use Rattle.blz_functions.specs.Opened.{open_view, CanBeOpened};
 ghost use Rattle.blz_units.specs.SharedPackage.{IsPackageShared};
-ghost use Rattle.blz_units.specs.Sharing.{AreHeaders, AreShared};
+ghost use Rattle.blz_units.specs.Sharing.{AreShared};
 ghost use Rattle.blz_info.specs.FileSections.{sections_view};
 
 use crate::dwarf::{Dwarf, Origin};
-use crate::line_headers::LineHeaders;
 use crate::shared_package::SharedPackage;
 use crate::shared_parts::SharedParts;
+use crate::words::{UNIT_WORDS, attribute_words, longest_search, names_words};
+use blz_bytes::Room;
 use blz_entry::{Abbreviations, Sections, UnitHeader, UnitHeaders, UnitKind, UnitRoot, invalid};
 use blz_error::Result;
 use blz_functions::OpenUnit;
 use blz_split::SplitUnit;
 use std::alloc::Global;
+use std::ops::Deref;
+use std::sync::Arc;
 
 /// A unit that is built: its abbreviations and its root are read, and its line program has a header. Units with one table
 /// of abbreviations share it.
 #[derive(Drop)]
 pub struct BuiltUnit {
     pub header: UnitHeader,
-    pub abbreviations: Abbreviations,
+    pub abbreviations: Arc<Abbreviations>,
     pub root: UnitRoot,
     pub origin: Origin,
 }
@@ -56,24 +60,25 @@ pub fn may_be_split(dwarf: &Dwarf<'_, '_>, header: &UnitHeader) -> bool
 /// Asks for the header of a line program, where a root tells one.
 fn check_lines(
     alloc: Global,
+    room: &mut Room,
     sections: &Sections<'_, '_>,
-    headers: &mut LineHeaders,
+    shared: &mut SharedParts,
     header: &UnitHeader,
     line: Option<u64>,
 ) -> Result<()>
-    requires { AreHeaders (sections_view sections.now).line headers.old }
+    requires { AreShared (sections_view sections.now) shared.old }
     ensures value { Gives (λ _. tt) result (or_invalid (has_lines (sections_view sections.now) header.now line)) }
-    ensures headers { AreHeaders (sections_view sections.now).line headers.new }
+    ensures shared { AreShared (sections_view sections.now) shared.new }
 {
     match line {
-        Some(at) => headers.check_header(alloc, sections, at, header.address_size),
+        Some(at) => shared.check_header(alloc, room, sections, at, header.address_size),
         None => Ok(()),
     }
 }
 
 /// The header of the first unit of a section, which has to be there.
 #[tactic(auto, unfolding(crate::specs::BuiltUnits::first_unit))]
-pub(crate) fn first_header(sections: &Sections<'_, '_>) -> Result<UnitHeader>
+fn first_header(sections: &Sections<'_, '_>) -> Result<UnitHeader>
     ensures value { Exactly (λ h. h) result (or_invalid (first_unit (sections_view sections.now))) }
     ensures ordered { IfOk result (λ h. h.entries ≤ h.end) }
 {
@@ -85,7 +90,7 @@ pub(crate) fn first_header(sections: &Sections<'_, '_>) -> Result<UnitHeader>
 }
 
 /// The root of a unit.
-fn root_of(
+fn parse_root(
     sections: &Sections<'_, '_>,
     header: &UnitHeader,
     abbreviations: &Abbreviations,
@@ -94,6 +99,49 @@ fn root_of(
     ensures { Exactly (λ r. r) result (or_invalid (root_of (lying (sections_view sections.now)) header.now abbreviations.now)) }
 {
     UnitRoot::parse(sections, header, abbreviations)
+}
+
+/// The same, where what is read takes of the room.
+fn root_of(
+    room: &mut Room,
+    sections: &Sections<'_, '_>,
+    header: &UnitHeader,
+    abbreviations: &Abbreviations,
+) -> Result<UnitRoot>
+    requires { sections.now.shift + length sections.now.info.bytes.now < 2 ^ 64 }
+    ensures { Gives (λ r. r) result (or_invalid (root_of (lying (sections_view sections.now)) header.now abbreviations.now)) }
+{
+    room.take(attribute_words(sections, header, abbreviations))?;
+    match parse_root(sections, header, abbreviations) {
+        Ok(root) => {
+            room.take(names_words(sections, &root))?;
+            Ok(root)
+        },
+        Err(fault) => {
+            room.take(longest_search(sections))?;
+            Err(fault)
+        },
+    }
+}
+
+/// The abbreviations and the root of a unit.
+#[tactic(auto, unfolding(crate::specs::BuiltUnits::built))]
+fn read(
+    alloc: Global,
+    room: &mut Room,
+    sections: &Sections<'_, '_>,
+    shared: &mut SharedParts,
+    header: &UnitHeader,
+) -> Result<(Arc<Abbreviations>, UnitRoot)>
+    requires fits { sections.now.shift + length sections.now.info.bytes.now < 2 ^ 64 }
+    requires shared { AreShared (sections_view sections.now) shared.old }
+    ensures value { Gives (λ r. parts_of (sections_view sections.now) header.now (arc_value r.0, r.1)) result (or_invalid (built (sections_view sections.now) header.now)) }
+    ensures shared { AreShared (sections_view sections.now) shared.new }
+{
+    let abbreviations = shared.table(alloc, room, sections, header)?;
+    let root = root_of(room, sections, header, abbreviations.deref())?;
+    check_lines(alloc, room, sections, shared, header, root.line)?;
+    Ok((abbreviations, root))
 }
 
 /// The pieces of the split unit of a unit, where the package has one that is not empty.
@@ -130,42 +178,12 @@ fn not_empty(pieces: Option<SplitUnit>) -> Option<SplitUnit>
 }
 
 impl BuiltUnit {
-    /// Builds a unit of an origin that has these abbreviations.
-    #[tactic(auto, unfolding(crate::specs::BuiltUnits::built))]
-    fn with_table(
-        alloc: Global,
-        dwarf: &Dwarf<'_, '_>,
-        headers: &mut LineHeaders,
-        origin: Origin,
-        header: &UnitHeader,
-        abbreviations: Abbreviations,
-    ) -> Result<BuiltUnit>
-        requires readable { IsReadable dwarf.now }
-        requires inside { IsInside (files_view dwarf.now).«package» origin }
-        requires ordered { header.now.entries ≤ header.now.end }
-        requires table { table_from (files_view dwarf.now) origin header.now ≡ Some abbreviations }
-        requires headers { AreHeaders (sections_from (files_view dwarf.now) origin).line headers.old }
-        ensures value { Gives (built_view (files_view dwarf.now)) result (or_invalid (built (sections_from (files_view dwarf.now) origin) header.now)) }
-        ensures fits { IfOk result (BuiltFits (files_view dwarf.now)) }
-        ensures origin { IfOk result (λ u. u.origin ≡ origin) }
-        ensures headers { AreHeaders (sections_from (files_view dwarf.now) origin).line headers.new }
-    {
-        let sections = dwarf.sections(&origin);
-        let root = root_of(&sections, header, &abbreviations)?;
-        check_lines(alloc, &sections, headers, header, root.line)?;
-        Ok(BuiltUnit {
-            header: *header,
-            abbreviations,
-            root,
-            origin,
-        })
-    }
-
     /// Builds a unit of an origin. InvalidDwarf exactly where its abbreviations, its root or the header of its line
     /// program have no value.
-    #[tactic(auto, unfolding(crate::specs::BuiltUnits::built), using(crate::proofs::Shared::shared_to, crate::proofs::Shared::shared_from))]
+    #[tactic(auto, using(crate::proofs::Shared::shared_to, crate::proofs::Shared::shared_from))]
     pub fn of_file(
         alloc: Global,
+        room: &mut Room,
         dwarf: &Dwarf<'_, '_>,
         shared: &mut SharedParts,
         origin: Origin,
@@ -180,9 +198,15 @@ impl BuiltUnit {
         ensures origin { IfOk result (λ u. u.origin ≡ origin) }
         ensures shared { AreShared (sections_from (files_view dwarf.now) origin) shared.new }
     {
+        room.take(UNIT_WORDS)?;
         let sections = dwarf.sections(&origin);
-        let table = shared.tables.table(alloc, &sections, header)?;
-        BuiltUnit::with_table(alloc, dwarf, &mut shared.headers, origin, header, table)
+        let (abbreviations, root) = read(alloc, room, &sections, shared, header)?;
+        Ok(BuiltUnit {
+            header: *header,
+            abbreviations,
+            root,
+            origin,
+        })
     }
 
     /// The unit with addresses and ranges that count from those of its main unit.
@@ -197,51 +221,24 @@ impl BuiltUnit {
         BuiltUnit { root, ..self }
     }
 
-    /// Builds a unit of some pieces of the package. Its line program is one of the main file.
-    #[tactic(auto, unfolding(crate::specs::BuiltUnits::built))]
-    fn of_package(
-        alloc: Global,
-        dwarf: &Dwarf<'_, '_>,
-        headers: &mut LineHeaders,
-        packed: &mut SharedPackage,
-        pieces: SplitUnit,
-        header: &UnitHeader,
-    ) -> Result<BuiltUnit>
-        requires readable { IsReadable dwarf.now }
-        requires inside { IsInside (files_view dwarf.now).«package» (Split pieces) }
-        requires ordered { header.now.entries ≤ header.now.end }
-        requires headers { AreHeaders (files_view dwarf.now).main.line headers.old }
-        requires packed { IsPackageShared (files_view dwarf.now) packed.old }
-        ensures value { Gives (built_view (files_view dwarf.now)) result (or_invalid (built (sections_from (files_view dwarf.now) (Split pieces)) header.now)) }
-        ensures fits { IfOk result (BuiltFits (files_view dwarf.now)) }
-        ensures headers { AreHeaders (files_view dwarf.now).main.line headers.new }
-        ensures packed { IsPackageShared (files_view dwarf.now) packed.new }
-    {
-        let table = packed.table(alloc, dwarf, pieces, header)?;
-        BuiltUnit::with_table(alloc, dwarf, headers, Origin::Split(pieces), header, table)
-    }
-
-    /// The unit of the pieces of a package, based on the main unit that has its id.
+    /// The unit of the pieces of a package, based on the main unit that has its id. It shares nothing with others.
     #[tactic(auto, unfolding(crate::specs::BuiltUnits::split_built))]
     fn of_pieces(
         alloc: Global,
+        room: &mut Room,
         dwarf: &Dwarf<'_, '_>,
-        headers: &mut LineHeaders,
-        packed: &mut SharedPackage,
         pieces: SplitUnit,
         main: &UnitRoot,
     ) -> Result<BuiltUnit>
         requires readable { IsReadable dwarf.now }
         requires inside { IsInside (files_view dwarf.now).«package» (Split pieces) }
-        requires headers { AreHeaders (files_view dwarf.now).main.line headers.old }
-        requires packed { IsPackageShared (files_view dwarf.now) packed.old }
         ensures value { Gives (built_view (files_view dwarf.now)) result (or_invalid (split_built (sections_from (files_view dwarf.now) (Split pieces)) main.now)) }
         ensures fits { IfOk result (BuiltFits (files_view dwarf.now)) }
-        ensures headers { AreHeaders (files_view dwarf.now).main.line headers.new }
-        ensures packed { IsPackageShared (files_view dwarf.now) packed.new }
     {
-        let header = first_header(&dwarf.sections(&Origin::Split(pieces)))?;
-        let unit = BuiltUnit::of_package(alloc, dwarf, headers, packed, pieces, &header)?;
+        let origin = Origin::Split(pieces);
+        let header = first_header(&dwarf.sections(&origin))?;
+        let mut shared = SharedParts::new(alloc);
+        let unit = BuiltUnit::of_file(alloc, room, dwarf, &mut shared, origin, &header)?;
         Ok(unit.based_on(main))
     }
 
@@ -251,6 +248,7 @@ impl BuiltUnit {
     #[tactic(auto, unfolding(crate::specs::BuiltUnits::reading))]
     pub fn reading(
         alloc: Global,
+        room: &mut Room,
         dwarf: &Dwarf<'_, '_>,
         shared: &mut SharedParts,
         packed: &mut SharedPackage,
@@ -266,17 +264,10 @@ impl BuiltUnit {
         ensures packed { IsPackageShared (files_view dwarf.now) packed.new }
     {
         let Some(pieces) = pieces_of(alloc, dwarf, packed, header)? else {
-            return BuiltUnit::of_file(alloc, dwarf, shared, Origin::Main, header);
+            return BuiltUnit::of_file(alloc, room, dwarf, shared, Origin::Main, header);
         };
-        let main = BuiltUnit::of_file(alloc, dwarf, shared, Origin::Main, header)?;
-        BuiltUnit::of_pieces(
-            alloc,
-            dwarf,
-            &mut shared.headers,
-            packed,
-            pieces,
-            &main.root,
-        )
+        let main = BuiltUnit::of_file(alloc, room, dwarf, shared, Origin::Main, header)?;
+        BuiltUnit::of_pieces(alloc, room, dwarf, pieces, &main.root)
     }
 
     /// The unit with the sections that it was built from.
@@ -289,7 +280,7 @@ impl BuiltUnit {
         OpenUnit {
             sections: dwarf.sections(&self.origin),
             header: self.header,
-            abbreviations: &self.abbreviations,
+            abbreviations: self.abbreviations.deref(),
             root: self.root,
         }
     }

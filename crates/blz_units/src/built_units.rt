@@ -1,7 +1,5 @@
 //! Units that are built, where they are kept.
-ghost use Rattle.std.specs.Prelude.{◌≡◌, true, ℕ, List, [], None, Option, IfOk};
-ghost use Rattle.std.specs.BTreeMap.{IsEmpty};
-ghost use Rattle.std.specs.Bool.{OnTrue};
+ghost use Rattle.std.specs.Prelude.{◌≡◌, true, List, [], None, Option, IfOk};
 ghost use Rattle.std.specs.List.{slice_get, slice_set};
 ghost use Rattle.blz_model.specs.Part.{Exactly};
 ghost use Rattle.blz_model.specs.declared.cache.Cache.TheVariants.{Empty};
@@ -10,13 +8,10 @@ ghost use Rattle.blz_units.specs.BuiltUnits.{files_view, IsReadable};
 ghost use Rattle.blz_units.specs.KeptParts.{or_empty, is_missing, unit_of, IsFilled, AllBuilt};
 ghost use Rattle.blz_functions.specs.Opened.{open_view, CanBeOpened};
 ghost use Rattle.blz_units.specs.Sharing.{AreShared};
-ghost use Rattle.blz_units.specs.SharedTables.{AreTables};
 ghost use Rattle.blz_info.specs.FileSections.{FileSections};
 
 use crate::built_unit::BuiltUnit;
 use crate::dwarf::Dwarf;
-use crate::long_entries::LongEntries;
-use crate::shared_lists::SharedLists;
 use crate::shared_package::SharedPackage;
 use crate::shared_parts::SharedParts;
 use crate::unit_list::UnitList;
@@ -41,7 +36,7 @@ pub enum Side {
 pub struct SideUnits {
     pub units: Vec<Cache<BuiltUnit>>,
     pub shared: SharedParts,
-    /// What the split units of the package share, from which those of the file itself are read.
+    /// What was read of the index of the package, from whose units those of the file itself are read.
     pub packed: SharedPackage,
 }
 
@@ -50,21 +45,6 @@ pub struct SideUnits {
 pub struct BuiltUnits {
     pub kept: SideUnits,
     pub sups: SideUnits,
-    /// What their entries with very many attributes told.
-    pub long: LongEntries,
-    /// Their lists of ranges that functions and calls name again and again.
-    pub lists: SharedLists,
-}
-
-impl Side {
-    pub fn is(self, other: Side) -> bool
-        ensures { OnTrue result (self ≡ other) }
-    {
-        match (self, other) {
-            (Side::File, Side::File) | (Side::Sup, Side::Sup) => true,
-            _ => false,
-        }
-    }
 }
 
 impl SideUnits {
@@ -72,14 +52,12 @@ impl SideUnits {
     pub fn new(alloc: Global) -> SideUnits
         ensures units { result.units.items ≡ [] }
         ensures shared { (s : FileSections) → AreShared s result.shared }
-        ensures packed { (bytes : List ℕ) → AreTables bytes result.packed.tables }
         ensures rows { result.packed.rows ≡ None }
-        ensures bytes { IsEmpty result.shared.tables.bytes }
     {
         SideUnits {
             units: Vec::new(alloc),
             shared: SharedParts::new(alloc),
-            packed: SharedPackage::new(alloc),
+            packed: SharedPackage::new(),
         }
     }
 }

@@ -5,7 +5,7 @@ ghost use Rattle.blz_units.specs.declared.caches.UnitCaches.{UnitCaches};
 ghost use Rattle.blz_units.specs.KeptParts.{is_empty, lacks_root, lacks_functions, lacks_lines, lacks_calls};
 
 use crate::built_units::BuiltUnits;
-use crate::shared_programs::SharedPrograms;
+use blz_bytes::Room;
 use blz_entry::UnitRoot;
 use blz_functions::{Functions, InlinedFunctions};
 use blz_line::Lines;
@@ -24,13 +24,12 @@ pub struct UnitCaches {
     pub calls: Vec<Cache<InlinedFunctions>>,
 }
 
-/// What was read of all units.
+/// What was read of all units, and how much may still be read.
 #[derive(Drop)]
 pub struct Caches {
     pub built: BuiltUnits,
     pub units: Vec<UnitCaches>,
-    /// The line programs that were read.
-    pub programs: SharedPrograms,
+    pub room: Room,
 }
 
 /// Whether nothing is kept.

@@ -97,7 +97,46 @@ fn sections_of<'s, 'b>(
     parts.sections(pieces, main, none)
 }
 
+/// The bytes of some sections.
+fn bytes_of(sections: &Sections<'_, '_>) -> u64 {
+    let lengths = [
+        sections.abbrev.bytes.len(),
+        sections.addr.bytes.len(),
+        sections.aranges.bytes.len(),
+        sections.info.bytes.len(),
+        sections.line.bytes.len(),
+        sections.line_str.bytes.len(),
+        sections.ranges.bytes.len(),
+        sections.rnglists.bytes.len(),
+        sections.strings.bytes.len(),
+        sections.str_offsets.bytes.len(),
+    ];
+    let mut bytes: u64 = 0;
+    for length in lengths {
+        bytes = bytes.saturating_add(length as u64);
+    }
+    bytes
+}
+
+/// The bytes of what a package tells of its units.
+fn package_bytes(parts: &Package<'_>) -> u64 {
+    let bytes = (parts.info().len() as u64).saturating_add(parts.abbrev().len() as u64);
+    bytes.saturating_add(parts.strings().len() as u64)
+}
+
 impl<'s, 'b> Dwarf<'s, 'b> {
+    /// The bytes of the sections of all files.
+    pub fn size(&self) -> u64 {
+        let mut bytes = bytes_of(&self.main);
+        if let Some(parts) = &self.package {
+            bytes = bytes.saturating_add(package_bytes(parts));
+        }
+        if let Some(sections) = &self.sup {
+            bytes = bytes.saturating_add(bytes_of(sections));
+        }
+        bytes
+    }
+
     /// The sections of an origin; where it is not there, those of the file itself.
     pub(crate) fn sections<'u>(&'u self, origin: &Origin) -> Sections<'u, 'b>
         requires readable { IsReadable self.now }

@@ -1,23 +1,24 @@
 //! The units of a file that are kept, and the ranges that they announce.
-ghost use Rattle.std.specs.Prelude.{◌≡◌, ◌+◌, ◌++◌, ◌∷◌, [], length, IfOk};
+ghost use Rattle.std.specs.Prelude.{◌≡◌, ◌≤◌, ◌++◌, ◌∷◌, [], length, IfOk};
 ghost use Rattle.blz_model.specs.Part.{Gives};
 ghost use Rattle.blz_info.specs.Marks.{or_invalid};
 ghost use Rattle.blz_units.specs.BuiltUnits.{files_view, IsReadable};
-ghost use Rattle.blz_units.specs.Keeping.{units_told, AreKnown};
 ghost use Rattle.blz_units.specs.KeptParts.{SideFits};
 ghost use Rattle.blz_units.specs.declared.built_units.Side.TheVariants.{File};
+ghost use Rattle.blz_ranges.specs.Owned.{owned, filled_up};
 ghost use Rattle.blz_units.specs.UnitLists.{EndBefore, IsInPlace};
 ghost use Rattle.blz_units.specs.UnitTables.{with_unit, no_units, units_kept};
 
 use crate::address_sets::AddressSets;
-use crate::announcing::announced;
+use crate::announcing::append_announced;
 use crate::built_units::SideUnits;
 use crate::dwarf::Dwarf;
-use crate::known_roots::KnownRanges;
 use crate::unit_list::UnitList;
-use blz_announced::KeptRanges;
-use blz_entry::{UnitHeader, UnitHeaders};
+use crate::words::HEADER_WORDS;
+use blz_bytes::Room;
+use blz_entry::{Span, UnitHeader, UnitHeaders};
 use blz_error::Result;
+use blz_ranges::own;
 use std::alloc::{AllocError, Global};
 use std::marker::Model;
 
@@ -25,43 +26,51 @@ use std::marker::Model;
 #[derive(Drop)]
 pub struct KeptUnits {
     kept: UnitList,
-    ranges: KeptRanges,
+    spans: Vec<Span>,
+    owners: Vec<usize>,
 }
 
 impl Model for KeptUnits {
     ghost use Rattle.std.specs.Prelude.{◌≡◌, length};
-    ghost use Rattle.blz_units.specs.Keeping.{Keeping};
+    ghost use Rattle.blz_ranges.specs.Owned.{owned};
+    ghost use Rattle.blz_units.specs.UnitTables.{KeptUnits};
 
-    ghost Value = { Keeping };
+    ghost Value = { KeptUnits };
 
-    ghost view = { λ k. record { kept = k.kept; ranges = k.ranges } };
+    ghost view = { λ k. record { kept = k.kept; announced = owned k.spans.items k.owners.items } };
 
-    ghost invariant = { λ k. k.ranges.count ≡ length k.kept };
+    ghost invariant = { λ k. length k.spans.items ≡ length k.owners.items };
 }
 
-/// One unit more, with the ranges as they are kept then.
+/// Keeps a unit, to which all ranges without an owner belong.
 fn keep(
     mut kept: UnitList,
-    ranges: KeptRanges,
+    spans: Vec<Span>,
+    mut owners: Vec<usize>,
     header: UnitHeader,
 ) -> std::result::Result<KeptUnits, AllocError>
     requires in_place { IsInPlace header }
     requires behind { EndBefore kept header.start }
-    requires count { ranges.count ≡ length kept + 1 }
-    ensures { IfOk result (λ k. k ≡ record { kept = kept ++ header ∷ []; ranges = ranges }) }
+    requires some { length owners.items ≤ length spans.items }
+    ensures { IfOk result (λ k. k ≡ record { kept = kept ++ header ∷ []; announced = owned spans.items (filled_up owners.items (length kept) (length spans.items)) }) }
 {
+    own(&mut owners, kept.len(), spans.len())?;
     kept.push(header)?;
-    Ok(KeptUnits { kept, ranges })
+    Ok(KeptUnits {
+        kept,
+        spans,
+        owners,
+    })
 }
 
 impl KeptUnits {
-    #[tactic(auto, unfolding(blz_announced::specs::Copies::copies))]
     fn new(alloc: Global) -> KeptUnits
-        ensures told { units_told result ≡ no_units }
+        ensures { result ≡ no_units }
     {
         KeptUnits {
             kept: UnitList::new(alloc),
-            ranges: KeptRanges::new(alloc),
+            spans: Vec::new(alloc),
+            owners: Vec::new(alloc),
         }
     }
 
@@ -69,66 +78,69 @@ impl KeptUnits {
     fn with_unit(
         self,
         alloc: Global,
+        room: &mut Room,
         dwarf: &Dwarf<'_, '_>,
         sets: &AddressSets,
         built: &mut SideUnits,
-        known: &mut KnownRanges,
         header: UnitHeader,
     ) -> Result<KeptUnits>
         requires readable { IsReadable dwarf.now }
         requires in_place { IsInPlace header }
         requires behind { EndBefore self.kept header.start }
-        requires known { AreKnown (files_view dwarf.now).main self.ranges known.old }
         requires fits { SideFits (files_view dwarf.now) File self.kept built.old }
-        ensures value { Gives units_told result (or_invalid (with_unit (files_view dwarf.now).main sets.now (units_told self) header)) }
+        ensures value { Gives (λ k. k) result (or_invalid (with_unit (files_view dwarf.now).main sets.now self header)) }
         ensures behind { IfOk result (λ k. EndBefore k.kept header.end) }
-        ensures known { IfOk result (λ k. AreKnown (files_view dwarf.now).main k.ranges known.new) }
         ensures fits { IfOk result (λ k. SideFits (files_view dwarf.now) File k.kept built.new) }
     {
-        let KeptUnits { kept, ranges } = self;
-        let told = announced(
-            alloc,
-            dwarf,
-            sets,
-            &mut built.shared,
-            &header,
-            &known.roots,
-            &mut known.lists,
-        )?;
-        let Some(told) = told else {
-            return Ok(KeptUnits { kept, ranges });
-        };
-        let ranges = known.keep(alloc, ranges, told.ranges)?;
-        built.units.push(told.part)?;
-        Ok(keep(kept, ranges, header)?)
+        room.take(HEADER_WORDS)?;
+        let KeptUnits {
+            kept,
+            mut spans,
+            owners,
+        } = self;
+        let shared = &mut built.shared;
+        let part = append_announced(alloc, room, dwarf, sets, shared, &header, &mut spans)?;
+        match part {
+            Some(unit) => {
+                let units = keep(kept, spans, owners, header)?;
+                built.units.push(unit)?;
+                Ok(units)
+            },
+            None => Ok(KeptUnits {
+                kept,
+                spans,
+                owners,
+            }),
+        }
     }
 
     /// Reads the headers of all units, each with what it announces. Those that had to be built for that are given too.
     #[tactic(auto, using(crate::proofs::BuiltSteps::none_built))]
     pub fn read(
         alloc: Global,
+        room: &mut Room,
         dwarf: &Dwarf<'_, '_>,
         sets: &AddressSets,
     ) -> Result<(KeptUnits, SideUnits)>
         requires { IsReadable dwarf.now }
-        ensures value { Gives (λ r. units_told r.0) result (or_invalid (units_kept (files_view dwarf.now).main sets.now)) }
+        ensures value { Gives (λ r. r.0) result (or_invalid (units_kept (files_view dwarf.now).main sets.now)) }
         ensures fits { IfOk result (λ r. SideFits (files_view dwarf.now) File r.0.kept r.1) }
     {
         let mut headers = UnitHeaders::new(dwarf.main.info);
         let mut units = KeptUnits::new(alloc);
         let mut built = SideUnits::new(alloc);
-        let mut known = KnownRanges::new(alloc);
         while let Some(header) = headers.next_header()? {
-            units = units.with_unit(alloc, dwarf, sets, &mut built, &mut known, header)?;
+            units = units.with_unit(alloc, room, dwarf, sets, &mut built, header)?;
         }
         Ok((units, built))
     }
 
-    /// The units, and the ranges that they announce.
-    pub fn into_parts(self) -> (UnitList, KeptRanges)
+    /// The units, the ranges that they announce, and for each range the number of its unit.
+    pub fn into_parts(self) -> (UnitList, Vec<Span>, Vec<usize>)
         ensures kept { result.0 ≡ self.kept }
-        ensures ranges { result.1 ≡ self.ranges }
+        ensures announced { owned result.1.items result.2.items ≡ self.announced }
+        ensures same { length result.1.items ≡ length result.2.items }
     {
-        (self.kept, self.ranges)
+        (self.kept, self.spans, self.owners)
     }
 }

@@ -1,54 +1,32 @@
-//! Which units read a line program alike.
+//! What a line program is read by.
 ghost use Rattle.std.specs.Prelude.{◌≡◌};
-ghost use Rattle.blz_units.specs.ProgramKeys.{for_all, for_unit, strings_key};
+ghost use Rattle.blz_units.specs.SharedPrograms.{program_key};
 
 use blz_entry::{UnitHeader, UnitRoot};
 
-/// By what the strings of a unit are found by their indices.
+/// What a line program is read by besides its offset: the size of addresses, and how the strings of its files are found.
 #[derive(Clone, Copy, PartialEq, Eq, PartialOrd, Ord)]
-pub struct StringsKey {
+pub struct LinesKey {
+    pub address_size: u8,
     pub wide: bool,
     pub str_offsets_base: u64,
 }
 
-/// The units that read the line program at an offset alike, in an order of its own.
+/// What a line program is read by, and its offset, in an order of its own.
 #[derive(Clone, Copy, PartialEq, Eq, PartialOrd, Ord)]
 pub struct ProgramKey {
+    pub lines: LinesKey,
     pub offset: u64,
-    pub address_size: u8,
-    /// Where they find their strings; none where no name of the program's files is told by an index.
-    pub strings: Option<StringsKey>,
 }
 
-/// The key of a unit.
-pub fn strings_key(header: &UnitHeader, root: &UnitRoot) -> StringsKey
-    ensures { result ≡ strings_key header.now root.now }
+/// The key of the line program at an offset, as a unit reads it.
+pub(crate) fn program_key(header: &UnitHeader, root: &UnitRoot, at: u64) -> ProgramKey
+    ensures { result ≡ program_key header.now root.now at }
 {
-    StringsKey {
+    let lines = LinesKey {
+        address_size: header.address_size,
         wide: header.wide,
         str_offsets_base: root.str_offsets_base,
-    }
-}
-
-impl ProgramKey {
-    /// All whose addresses have the size of those of a unit.
-    pub fn for_all(header: &UnitHeader, offset: u64) -> ProgramKey
-        ensures { result ≡ for_all header.now offset }
-    {
-        ProgramKey {
-            offset,
-            address_size: header.address_size,
-            strings: None,
-        }
-    }
-
-    /// Those of them that find their strings as the unit does.
-    pub fn for_unit(header: &UnitHeader, root: &UnitRoot, offset: u64) -> ProgramKey
-        ensures { result ≡ for_unit header.now root.now offset }
-    {
-        ProgramKey {
-            strings: Some(strings_key(header, root)),
-            ..ProgramKey::for_all(header, offset)
-        }
-    }
+    };
+    ProgramKey { lines, offset: at }
 }

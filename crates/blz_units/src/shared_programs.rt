@@ -1,35 +1,27 @@
 //! Line programs, read once for all units that read them alike.
-ghost use Rattle.std.specs.Prelude.{◌≡◌, map, option_map, IfOk, IfSome};
-ghost use Rattle.blz_info.specs.Contents.{section_view};
+ghost use Rattle.std.specs.Prelude.{◌≡◌, ◌≢◌, map, None, option_map, IfOk, IfSome};
+ghost use Rattle.blz_error.specs.declared.kind.ErrorKind.TheVariants.{InvalidDwarf, OutOfMemory};
 ghost use Rattle.blz_info.specs.FileSections.{FileSections, sections_view};
 ghost use Rattle.blz_line.specs.Lookups.{spans_of};
-ghost use Rattle.blz_line.specs.ProgramRuns.{IsRunOrderedBy};
-ghost use Rattle.blz_line.specs.ProgramTables.{program_at, GivesTable, IsOrderedBy};
+ghost use Rattle.blz_line.specs.ProgramTables.{program_at};
 ghost use Rattle.blz_line.specs.UnitLines.{OrderedLines, lines_of};
-ghost use Rattle.blz_model.specs.Part.{Gives};
+ghost use Rattle.blz_model.specs.Part.{Gives, or_mark};
 ghost use Rattle.blz_ranges.specs.Keyed.{IsAccepted, begin_key};
-ghost use Rattle.blz_units.specs.SharedPrograms.{ArePrograms, ButForMemory, IsFound, IsProgramAt, IsReadAt, KeepsOrder};
-ghost use Rattle.blz_units.specs.SharedRuns.{IsRunOf};
+ghost use Rattle.blz_units.specs.SharedPrograms.{ArePrograms, IsProgramAt};
 
-use crate::program_key::ProgramKey;
-use crate::read_program::ReadProgram;
-use crate::shared_names::SharedNames;
-use crate::shared_runs::SharedRuns;
-use blz_bytes::Orders;
+use crate::program_key::{ProgramKey, program_key};
+use crate::words::ROW_WORDS;
+use blz_bytes::{Orders, Room};
 use blz_entry::{Sections, UnitHeader, UnitRoot, invalid};
-use blz_error::Result;
-use blz_line::{Lines, ProgramLines, ProgramRun};
+use blz_error::{Error, ErrorKind, Result};
+use blz_line::{Lines, ProgramLines, program_bytes};
 use std::alloc::{AllocError, Global};
 use std::collections::BTreeMap;
 
-/// The tables of line programs, by the units that read them alike; none where a program has no value.
+/// The tables of line programs, by how they are read; none where a program has no value.
 #[derive(Drop)]
 pub struct SharedPrograms {
     pub kept: BTreeMap<ProgramKey, Option<ProgramLines>>,
-    /// What those give of whose files a name is told by an index.
-    pub runs: SharedRuns,
-    /// What such names are found by.
-    pub names: SharedNames,
 }
 
 impl SharedPrograms {
@@ -39,8 +31,6 @@ impl SharedPrograms {
     {
         SharedPrograms {
             kept: BTreeMap::new(alloc),
-            runs: SharedRuns::new(alloc),
-            names: SharedNames::new(alloc),
         }
     }
 
@@ -56,59 +46,21 @@ impl SharedPrograms {
         Ok(())
     }
 
-    /// What is kept of the line program at an offset, for all units or for those that find their strings as one does.
-    fn find(&self, header: &UnitHeader, root: &UnitRoot, at: u64) -> Option<&Option<ProgramLines>>
-        ensures { IfSome result (λ p. IsFound self.now header.now root.now at p.now) }
+    /// Keeps that the program of a key has no value, if that is why it can't be read.
+    fn keep_fault(&mut self, key: ProgramKey, fault: &Error) -> std::result::Result<(), AllocError>
+        ensures { (s : FileSections) → (fault.now.kind ≢ OutOfMemory → IsProgramAt s key None) → ArePrograms s self.old → ArePrograms s self.new }
     {
-        match self.kept.get(&ProgramKey::for_all(header, at)) {
-            Some(program) => Some(program),
-            None => self.kept.get(&ProgramKey::for_unit(header, root, at)),
+        match fault.kind() {
+            ErrorKind::OutOfMemory => Ok(()),
+            _ => self.keep(key, None),
         }
-    }
-
-    /// What the line program at an offset gives before the strings of its files are read; none where it has no value.
-    fn run<O: Orders>(
-        &mut self,
-        alloc: Global,
-        orders: &mut O,
-        sections: &Sections<'_, '_>,
-        header: &UnitHeader,
-        at: u64,
-    ) -> Result<Option<ProgramRun>>
-        requires { ArePrograms (sections_view sections.now) self.old }
-        ensures value { ButForMemory (IsRunOf (section_view sections.now.line) header.now at)
-            result }
-        ensures accepted { IfOk result (λ run. IfSome run (IsRunOrderedBy O.pair_places)) }
-        ensures kept { ArePrograms (sections_view sections.now) self.new }
-    {
-        self.runs.run(alloc, orders, &sections.line, header, at)
-    }
-
-    /// A line program as a unit reads it, by its run: where that is asked for again, by strings that are read once.
-    fn read_run(
-        &mut self,
-        alloc: Global,
-        sections: &Sections<'_, '_>,
-        header: &UnitHeader,
-        root: &UnitRoot,
-        at: u64,
-        run: Option<ProgramRun>,
-        again: bool,
-    ) -> Result<ReadProgram>
-        requires programs { ArePrograms (sections_view sections.now) self.old }
-        requires run { IsRunOf (section_view sections.now.line) header.now at run }
-        ensures value { ButForMemory (IsReadAt (sections_view sections.now) header.now root.now at) result }
-        ensures order { KeepsOrder run result }
-        ensures kept { ArePrograms (sections_view sections.now) self.new }
-    {
-        self.names
-            .read_run(alloc, sections, header, root, at, run, again)
     }
 
     /// Reads a program that is not kept, and keeps what it gives.
     fn read_anew<O: Orders>(
         &mut self,
         alloc: Global,
+        room: &mut Room,
         orders: &mut O,
         sections: &Sections<'_, '_>,
         header: &UnitHeader,
@@ -116,28 +68,32 @@ impl SharedPrograms {
         at: u64,
     ) -> Result<ProgramLines>
         requires { ArePrograms (sections_view sections.now) self.old }
-        ensures value { GivesTable (program_at sections.now header.now root.now at) result }
-        ensures accepted { IfOk result (IsOrderedBy O.pair_places) }
+        ensures value { Gives (λ p. p.table) result (or_mark (program_at sections.now header.now root.now at) InvalidDwarf) }
+        ensures accepted { IfOk result (λ p. IsAccepted O.pair_places (map begin_key (spans_of p.table.sequences)) p.ordered) }
         ensures kept { ArePrograms (sections_view sections.now) self.new }
     {
-        let again = self.runs.has(header, at);
-        let run = self.run(alloc, orders, sections, header, at)?;
-        let read = self.read_run(alloc, sections, header, root, at, run, again);
-        let ReadProgram { key, program } = read?;
-        let Some(program) = program else {
-            self.keep(key, None)?;
-            return Err(invalid("a line program has no value"));
-        };
-        let kept = program.share()?;
-        self.keep(key, Some(kept))?;
-        Ok(program)
+        room.take(program_bytes(sections, at))?;
+        let key = program_key(header, root, at);
+        match ProgramLines::parse(alloc, orders, sections, header, root, at) {
+            Ok(program) => {
+                room.take(program.rows_count().saturating_mul(ROW_WORDS))?;
+                let kept = program.share()?;
+                self.keep(key, Some(kept))?;
+                Ok(program)
+            },
+            Err(fault) => {
+                self.keep_fault(key, &fault)?;
+                Err(fault)
+            },
+        }
     }
 
     /// The table of the line program at an offset, as a unit reads it. InvalidDwarf exactly where that, or the string of a
     /// file, has no value.
-    pub fn read<O: Orders>(
+    fn read<O: Orders>(
         &mut self,
         alloc: Global,
+        room: &mut Room,
         orders: &mut O,
         sections: &Sections<'_, '_>,
         header: &UnitHeader,
@@ -145,22 +101,26 @@ impl SharedPrograms {
         at: u64,
     ) -> Result<ProgramLines>
         requires { ArePrograms (sections_view sections.now) self.old }
-        ensures value { GivesTable (program_at sections.now header.now root.now at) result }
-        ensures accepted { IfOk result (IsOrderedBy O.pair_places) }
+        ensures value { Gives (λ p. p.table) result (or_mark (program_at sections.now header.now root.now at) InvalidDwarf) }
+        ensures accepted { IfOk result (λ p. IsAccepted O.pair_places (map begin_key (spans_of p.table.sequences)) p.ordered) }
         ensures kept { ArePrograms (sections_view sections.now) self.new }
     {
-        match self.find(header, root, at) {
-            Some(Some(program)) => Ok(program.asked_again(alloc, orders)?),
+        match self.kept.get(&program_key(header, root, at)) {
+            Some(Some(program)) => {
+                room.take(program.sequences().len() as u64)?;
+                Ok(program.asked_again(alloc, orders)?)
+            },
             Some(None) => Err(invalid("a line program has no value")),
-            None => self.read_anew(alloc, orders, sections, header, root, at),
+            None => self.read_anew(alloc, room, orders, sections, header, root, at),
         }
     }
 
     /// The lines of a unit; None exactly where its root tells no line program, and InvalidDwarf exactly where that, or the
-    /// string of a file, has no value.
+    /// string of a file, has no value. What is read takes of the room.
     pub fn lines<O: Orders>(
         &mut self,
         alloc: Global,
+        room: &mut Room,
         orders: &mut O,
         sections: &Sections<'_, '_>,
         header: &UnitHeader,
@@ -174,7 +134,7 @@ impl SharedPrograms {
         let Some(at) = root.line else {
             return Ok(None);
         };
-        let program = self.read(alloc, orders, sections, header, root, at)?;
+        let program = self.read(alloc, room, orders, sections, header, root, at)?;
         Ok(Some(Lines::of_unit(program, root)))
     }
 }

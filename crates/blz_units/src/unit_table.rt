@@ -1,14 +1,16 @@
 //! The units of a file, and the addresses that they announce.
-ghost use Rattle.std.specs.Prelude.{◌≡◌, IfOk, option_map};
+ghost use Rattle.std.specs.Prelude.{◌≡◌, map, IfOk, Option, Some, option_map};
 ghost use Rattle.blz_model.specs.Part.{Gives, Exactly};
 ghost use Rattle.blz_info.specs.Contents.{section_view};
 ghost use Rattle.blz_info.specs.Marks.{or_invalid};
-ghost use Rattle.blz_announced.specs.Units.{IsOrderedBy};
+ghost use Rattle.blz_units.specs.Announced.{announced_at};
 ghost use Rattle.blz_units.specs.BuiltUnits.{files_view, IsReadable};
 ghost use Rattle.blz_units.specs.KeptParts.{SideFits};
 ghost use Rattle.blz_units.specs.declared.built_units.Side.TheVariants.{File};
+ghost use Rattle.blz_ranges.specs.Keyed.{IsAccepted, begin_key};
+ghost use Rattle.blz_ranges.specs.Owned.{items_of};
 ghost use Rattle.blz_functions.specs.References.{unit_at};
-ghost use Rattle.blz_units.specs.TableViews.{announced_at, table_view};
+ghost use Rattle.blz_units.specs.TableViews.{table_view};
 ghost use Rattle.blz_units.specs.UnitTables.{sup_units, sups_checked, units_in, units_of};
 ghost use Rattle.blz_info.specs.FileSections.{sections_view};
 
@@ -17,10 +19,12 @@ use crate::built_units::SideUnits;
 use crate::dwarf::Dwarf;
 use crate::kept_units::KeptUnits;
 use crate::unit_list::UnitList;
-use blz_announced::{Announced, UnitsAt};
-use blz_bytes::Orders;
+use crate::units_at::UnitsAt;
+use crate::words::HEADER_WORDS;
+use blz_bytes::{Orders, Room};
 use blz_entry::{Section, Sections, UnitHeaders, invalid};
 use blz_error::Result;
+use blz_ranges::OwnedRanges;
 use std::alloc::Global;
 
 /// The units that are kept, the ranges that they announce, each with the number of its unit, and the units of the
@@ -28,17 +32,18 @@ use std::alloc::Global;
 #[derive(Drop)]
 pub struct UnitTable {
     pub kept: UnitList,
-    pub announced: Announced,
+    pub announced: OwnedRanges,
     pub sups: UnitList,
 }
 
 /// The headers of the units of a section, without type units.
-pub fn units_in(alloc: Global, info: Section<'_, '_>) -> Result<UnitList>
+fn units_in(alloc: Global, room: &mut Room, info: Section<'_, '_>) -> Result<UnitList>
     ensures { Gives (λ l. l) result (or_invalid (units_in (section_view info.entry))) }
 {
     let mut headers = UnitHeaders::new(info);
     let mut units = UnitList::new(alloc);
     while let Some(header) = headers.next_header()? {
+        room.take(HEADER_WORDS)?;
         units.push_but_types(header)?;
     }
     Ok(units)
@@ -46,11 +51,11 @@ pub fn units_in(alloc: Global, info: Section<'_, '_>) -> Result<UnitList>
 
 /// The units of a supplementary file, and none without one. InvalidDwarf exactly where their headers have no value.
 #[tactic(auto, unfolding(crate::specs::UnitTables::sup_units))]
-fn sup_units(alloc: Global, sup: &Option<Sections<'_, '_>>) -> Result<UnitList>
+fn sup_units(alloc: Global, room: &mut Room, sup: &Option<Sections<'_, '_>>) -> Result<UnitList>
     ensures { Gives (λ l. l) result (or_invalid (sup_units (option_map sections_view sup.now))) }
 {
     match sup {
-        Some(sections) => units_in(alloc, sections.info),
+        Some(sections) => units_in(alloc, room, sections.info),
         None => Ok(UnitList::new(alloc)),
     }
 }
@@ -59,7 +64,7 @@ fn sup_units(alloc: Global, sup: &Option<Sections<'_, '_>>) -> Result<UnitList>
 pub fn check_sup_units(alloc: Global, sup: &Option<Sections<'_, '_>>) -> Result<()>
     ensures { Gives (λ _. tt) result (or_invalid (sups_checked (option_map sections_view sup.now))) }
 {
-    sup_units(alloc, sup)?;
+    sup_units(alloc, &mut Room::endless(), sup)?;
     Ok(())
 }
 
@@ -70,19 +75,20 @@ impl UnitTable {
     #[tactic(auto, unfolding(crate::specs::UnitTables::units_of))]
     pub fn read<O: Orders>(
         alloc: Global,
+        room: &mut Room,
         orders: &mut O,
         dwarf: &Dwarf<'_, '_>,
     ) -> Result<(UnitTable, SideUnits)>
         requires { IsReadable dwarf.now }
         ensures table { Gives (λ r. table_view r.0) result (or_invalid (units_of (files_view dwarf.now))) }
         ensures fits { IfOk result (λ r. SideFits (files_view dwarf.now) File (table_view r.0).kept r.1) }
-        ensures accepted { IfOk result (λ r. IsOrderedBy O.pair_places r.0.announced) }
+        ensures accepted { IfOk result (λ r. IsAccepted O.pair_places (map begin_key (items_of r.0.announced.ranges)) r.0.announced.ordered) }
     {
-        let sups = sup_units(alloc, &dwarf.sup)?;
+        let sups = sup_units(alloc, room, &dwarf.sup)?;
         let sets = AddressSets::read(alloc, dwarf.main.aranges)?;
-        let (units, built) = KeptUnits::read(alloc, dwarf, &sets)?;
-        let (kept, ranges) = units.into_parts();
-        let announced = Announced::build(alloc, orders, ranges)?;
+        let (units, built) = KeptUnits::read(alloc, room, dwarf, &sets)?;
+        let (kept, spans, owners) = units.into_parts();
+        let announced = OwnedRanges::build(alloc, orders, spans, owners)?;
         let table = UnitTable {
             kept,
             announced,
@@ -115,7 +121,7 @@ impl UnitTable {
 
     /// The units that announce an address.
     pub fn find_units(&self, addr: u64) -> UnitsAt<'_>
-        ensures { result ≡ announced_at (table_view self.now) self.now.announced.kept.ordered addr }
+        ensures { result ≡ announced_at (table_view self.now) self.now.announced.ordered addr }
     {
         UnitsAt::new(&self.announced, addr)
     }

@@ -2,13 +2,13 @@
 ghost use Rattle.std.specs.Prelude.{◌≡◌};
 ghost use Rattle.blz_model.specs.Part.{Exactly};
 ghost use Rattle.blz_info.specs.Marks.{or_invalid};
-ghost use Rattle.blz_units.specs.TableViews.{announced_at};
+ghost use Rattle.blz_units.specs.Announced.{announced_at};
 ghost use Rattle.blz_functions.specs.References.{unit_at};
 ghost use Rattle.blz_index.specs.UnitsWarm.{announced_ordered, units_table};
 
 use crate::units::Units;
-use blz_announced::UnitsAt;
 use blz_error::Result;
+use blz_units::units_at::UnitsAt;
 
 impl Units {
     /// The number of the unit that an offset of `.debug_info` leads into, and the offset's distance from its start.

@@ -7,4 +7,4 @@ pub returns-clause-tree : goal.returns-clause-tree
 returns-clause-tree c = function_calls_have_tree
 
 pub returns-clause-path : goal.returns-clause-path
-returns-clause-path c = λ asked a tree answers nested. chain_is_path asked a _ tree refl answers nested
+returns-clause-path c = λ lists tree a t nested. chain_is_path _ _ a _ _ refl t.ranges t.count t.is_tree nested

@@ -8,7 +8,7 @@ pub loop-index-preserved : goal.loop-index-preserved
 loop-index-preserved c = record {
   ahead = omega (arith, c.in_ok-value.ensures.within);
   within = λ le. c.in_ok-value.ensures.within.1 (c.loop-index.invariant.within le);
-  rest = sym (wanted_more c.args.specs.now c.loop-index.index _ _ _ _ _ _ _ c.loop-index-test.true (sym c.in_ok-value.ensures.value) (sym c.if-tells.ensures)) ∙ c.loop-index.invariant.rest;
+  rest = sym (wanted_more c.args.specs.now c.loop-index.index _ _ _ _ _ _ _ c.loop-index-test.true (sym c.in_ok-value.ensures.value) (sym c.if-is_wanted.ensures)) ∙ c.loop-index.invariant.rest;
 }
 
 pub returns-in_err-value-clause-value : goal.returns-in_err-value-clause-value
@@ -16,9 +16,9 @@ returns-in_err-value-clause-value c =
     ap (option_map (met_view c.args.specs.now)) c.from_residual.ensures
     ∙ sym (wanted_none c.args.specs.now c.loop-index.index _ _ _ _ _ c.loop-index-test.true (sym c.in_err-value.ensures.value)) ∙ c.loop-index.invariant.rest
 
-pub returns-then-tells-clause-value : goal.returns-then-tells-clause-value
-returns-then-tells-clause-value c =
-    sym (wanted_found c.args.specs.now c.loop-index.index _ _ _ _ _ _ _ c.loop-index-test.true (sym c.in_ok-value.ensures.value) (sym c.if-tells.ensures)) ∙ c.loop-index.invariant.rest
+pub returns-then-is_wanted-clause-value : goal.returns-then-is_wanted-clause-value
+returns-then-is_wanted-clause-value c =
+    sym (wanted_found c.args.specs.now c.loop-index.index _ _ _ _ _ _ _ c.loop-index-test.true (sym c.in_ok-value.ensures.value) (sym c.if-is_wanted.ensures)) ∙ c.loop-index.invariant.rest
 
 pub returns-clause-value : goal.returns-clause-value
 returns-clause-value c = wanted_end c.args.specs.now c.loop-index.index _ _ _ _ c.loop-index-test.false ∙ c.loop-index.invariant.rest

@@ -1,10 +1,10 @@
-use Rattle.std.proofs.Common.{◌≡◌, ◌∷◌, [], length, length-append, ap, arith}
+use Rattle.std.proofs.Common.{◌≡◌, length, ap, arith}
+use Rattle.blz_ranges.proofs.OwnedItems.{length_filled}
 use Rattle.blz_units.proofs.kept_units.keep.Goals as goal
 
 pub invariant_of-result : goal.invariant_of-result
 invariant_of-result c =
-    let a = ap length c.in_ok-push.ensures in
-    let b = length-append c.args.kept (c.args.header ∷ []) in
-    let d = c.requires.count in
-    let same : c.args.ranges.count ≡ length c.push.new.self = omega arith in
+    let k = ap length c.in_ok-own.ensures in
+    let l = length_filled c.args.owners.items c.len.result c.len-2.result (omega arith) in
+    let same : length c.args.spans.items ≡ length c.own.new.owners.items = omega arith in
     same

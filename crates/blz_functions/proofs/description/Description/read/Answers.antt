@@ -9,20 +9,20 @@ pub returns-in-Ok-None-clause-value : goal.returns-in-Ok-None-clause-value
 returns-in-Ok-None-clause-value g c =
     let k = c.loop-found.invariant in
     let u = open_view c.args.unit.now in
-    ap or_invalid (sym k.rest ∙ described_over _ u (g.met.F.Links.leads_nowhere _) c.loop-found.description c.loop-found.entries.pending _ c.loop-found.entries.place _ (read_one u _ c.loop-found.entries c.next_wanted.new.self (k.source ∙ c.requires) (rw c.in-Ok-None.field-0-is at c.in-Ok-None.ensures.value)))
+    ap or_invalid (sym k.rest ∙ described_over _ u c.loop-found.description c.loop-found.entries.pending _ c.loop-found.entries.place _ (read_one u _ c.loop-found.entries c.next_wanted.new.self (k.source ∙ c.requires) (rw c.in-Ok-None.field-0-is at c.in-Ok-None.ensures.value)))
 
 pub returns-in-Err-clause-value : goal.returns-in-Err-clause-value
 returns-in-Err-clause-value g c =
     let k = c.loop-found.invariant in
     let u = open_view c.args.unit.now in
-    marks _ _ (sym k.rest ∙ described_none _ u (g.met.F.Links.leads_nowhere _) c.loop-found.description c.loop-found.entries.pending c.loop-found.entries.place (read_none u c.loop-found.entries (k.source ∙ c.requires) c.in-Err.ensures.value.0)) c.in-Err.ensures.value.1
+    marks _ _ (sym k.rest ∙ described_none _ u c.loop-found.description c.loop-found.entries.pending c.loop-found.entries.place (read_none u c.loop-found.entries (k.source ∙ c.requires) c.in-Err.ensures.value.0)) c.in-Err.ensures.value.1
 
 pub returns-in-Err-add-clause-value : goal.returns-in-Err-add-clause-value
 returns-in-Err-add-clause-value g c =
     let k = c.loop-found.invariant in
     let u = open_view c.args.unit.now in
     let read = read_one u _ c.loop-found.entries c.next_wanted.new.self (k.source ∙ c.requires) (rw c.in-Ok-Some.field-0-is at c.in-Ok-Some.ensures.value) in
-    marks_on _ _ _ c.in-Err-add.ensures.value (λ fails. sym k.rest ∙ described_fails _ u (g.met.F.Links.leads_nowhere _) c.loop-found.description c.loop-found.entries.pending _ c.loop-found.entries.place _ _ _ read (rw k.same at fails))
+    marks_on _ _ _ c.in-Err-add.ensures.value (λ fails. sym k.rest ∙ described_fails _ u c.loop-found.description c.loop-found.entries.pending _ c.loop-found.entries.place _ _ _ read (rw k.same at fails))
 
 pub loop-found-preserved : goal.loop-found-preserved
 loop-found-preserved g c =
@@ -34,7 +34,7 @@ loop-found-preserved g c =
       depth = c.next_wanted.ensures.depth ∙ k.depth;
       ahead = omega arith;
       same = c.add.ensures.same ∙ k.same;
-      rest = sym (described_more _ u (g.met.F.Links.leads_nowhere _) c.loop-found.description _ c.loop-found.entries.pending _ c.loop-found.entries.place _ _ _ read (rw k.same at c.in-Ok.ensures.value)) ∙ k.rest;
+      rest = sym (described_more _ u c.loop-found.description _ c.loop-found.entries.pending _ c.loop-found.entries.place _ _ _ read (rw k.same at c.in-Ok.ensures.value)) ∙ k.rest;
     }
 
 pub loop-found-preserved-then-tells_site : goal.loop-found-preserved-then-tells_site
@@ -50,5 +50,5 @@ loop-found-preserved-then-tells_site g c =
       depth = c.next_wanted.ensures.depth ∙ k.depth;
       ahead = omega arith;
       same = k.same;
-      rest = sym (described_more refer u (g.met.F.Links.leads_nowhere _) d _ c.loop-found.entries.pending _ c.loop-found.entries.place _ _ _ read step) ∙ k.rest;
+      rest = sym (described_more refer u d _ c.loop-found.entries.pending _ c.loop-found.entries.place _ _ _ read step) ∙ k.rest;
     }

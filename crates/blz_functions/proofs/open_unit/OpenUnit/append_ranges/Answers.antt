@@ -9,4 +9,4 @@ pub returns : goal.returns
 unfolding ranges_in
 returns c =
     let unit = c.args.self.now in
-    subst (λ (o : Option (List Span)). Appends o c.args.out.now.items c.for_each_range.result c.for_each_range.new.out.items) (ranges_lying unit.sections unit.header unit.root c.args.ranges.now) c.for_each_range.ensures
+    subst (λ (o : Option (List Span)). Appends o c.args.out.now.items c.append_ranges.result c.append_ranges.new.out.items) (ranges_lying unit.sections unit.header unit.root c.args.ranges.now) c.append_ranges.ensures

@@ -5,4 +5,4 @@ use Rattle.blz_functions.proofs.open_unit.OpenUnit.string.Goals as goal
 
 pub returns : goal.returns
 unfolding string_in
-returns c = let unit = c.args.self.now in c.attr_string.ensures ∙ string_lying unit.sections unit.header unit.root c.args.value
+returns c = let unit = c.args.self.now in c.attr_string-found.ensures ∙ string_lying unit.sections unit.header unit.root c.args.value

@@ -2,7 +2,7 @@ use Rattle.std.proofs.Common.{ap, ◌∙◌, sym}
 use Rattle.blz_info.specs.Marks.{or_invalid}
 use Rattle.blz_units.specs.UnitAnswers.{function_at}
 use Rattle.blz_units.specs.UnitTables.{announcing}
-use Rattle.blz_units.proofs.LeftOut.{function_again}
+use Rattle.blz_reader.proofs.LeftOut.{function_again}
 use Rattle.blz_index.specs.UnitsWarm.{units_table}
 use Rattle.blz_reader.proofs.KeptTold.{first_is, repeats_exactly}
 use Rattle.blz_index.proofs.units.Units.find_function_prepared.Goals as goal

@@ -1,7 +1,7 @@
 use Rattle.std.proofs.Common.{◌∙◌, sym}
 use Rattle.blz_units.specs.UnitSites.{location_at}
 use Rattle.blz_units.specs.UnitTables.{announcing}
-use Rattle.blz_units.proofs.LeftOut.{line_again}
+use Rattle.blz_reader.proofs.LeftOut.{line_again}
 use Rattle.blz_index.specs.UnitsWarm.{units_table}
 use Rattle.blz_reader.proofs.KeptTold.{first_line_is}
 use Rattle.blz_index.proofs.NeverFull.{line_exactly}

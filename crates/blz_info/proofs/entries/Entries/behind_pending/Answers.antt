@@ -1,6 +1,5 @@
 use Rattle.std.proofs.Common.{false, sym, ◌∙◌}
 use Rattle.blz_info.specs.Contents.{section_view}
-use Rattle.blz_info.specs.Cuts.{kept_runs}
 use Rattle.blz_info.proofs.RunSteps.{runs_passed}
 use Rattle.blz_info.proofs.entries.Entries.behind_pending.Goals as goal
 
@@ -8,4 +7,4 @@ pub returns-in-Some-clause-value : goal.returns-in-Some-clause-value
 returns-in-Some-clause-value c =
     let e = c.self.inside in
     let passes = rw c.in-Some.is at c.self.invariant.passing in
-    rw (← c.self.view_is) (c.passed.ensures.value ∙ sym (runs_passed false e.encoding (kept_runs c.in-Some.runs.now.runs) c.in-Some.runs.now.tail e.pending.now e.base (section_view e.section) e.place passes.runs))
+    rw (← c.self.view_is) (rw c.deref.ensures.value at c.passed_by.ensures.value ∙ sym (runs_passed false e.encoding c.in-Some.runs.now.runs.items c.in-Some.runs.now.tail e.pending.now e.base (section_view e.section) e.place passes))

@@ -3,7 +3,7 @@ use Rattle.blz_info.proofs.Marked.{good_some, marks_on}
 use Rattle.blz_info.specs.Marks.{or_invalid}
 use Rattle.blz_reader.specs.Readers.{reader_files, reader_table}
 use Rattle.blz_units.specs.UnitAnswers.{function_at}
-use Rattle.blz_units.proofs.LeftOut.{function_again}
+use Rattle.blz_reader.proofs.LeftOut.{function_again}
 use Rattle.blz_reader.proofs.CacheSteps.{fills_same, fills_again}
 use Rattle.blz_reader.proofs.UnitSteps.{function_over, function_on, function_fails}
 use Rattle.blz_reader.proofs.reader.Reader.find_function.Goals as goal

@@ -2,7 +2,7 @@ use Rattle.std.proofs.Common.{sym, ◌∙◌, None, Some}
 use Rattle.blz_line.specs.Lookups.{location_view}
 use Rattle.blz_reader.specs.Readers.{reader_files, reader_table}
 use Rattle.blz_units.specs.UnitSites.{location_at}
-use Rattle.blz_units.proofs.LeftOut.{line_again}
+use Rattle.blz_reader.proofs.LeftOut.{line_again}
 use Rattle.blz_reader.proofs.CacheSteps.{fills_same, fills_again}
 use Rattle.blz_reader.proofs.UnitSteps.{line_over, line_on, line_fails}
 use Rattle.blz_reader.proofs.reader.Reader.find_location.Goals as goal

@@ -8,4 +8,4 @@ pub returns-clause-filled : goal.returns-clause-filled
 returns-clause-filled g c = put_there lacks_functions (with_functions c.in_ok-functions.functions) c.args.caches.now.units.items _ c.args.number refl c.requires.lacks c.put_functions.ensures (λ _. filled c.in_ok-functions.functions c.in_ok-functions.ensures.read.full)
 
 pub returns-clause-fills : goal.returns-clause-fills
-returns-clause-fills g c = put_fills g.O.Orders.pair_places c.args.self.now c.args.caches.now _ c.requires.fillable c.functions_part.ensures.fits c.requires.fillable.fits.programs (functions_put c.args.self.now g.O.Orders.pair_places c.args.caches.now.units.items _ c.args.number c.in_ok-functions.functions c.requires.fillable.fits.units c.requires.lacks c.put_functions.ensures c.in_ok-functions.ensures.read)
+returns-clause-fills g c = put_fills g.O.Orders.pair_places c.args.self.now c.args.caches.now _ c.requires.fillable c.functions_part.ensures.fits (functions_put c.args.self.now g.O.Orders.pair_places c.args.caches.now.units.items _ c.args.number c.in_ok-functions.functions c.requires.fillable.fits.units c.requires.lacks c.put_functions.ensures c.in_ok-functions.ensures.read)

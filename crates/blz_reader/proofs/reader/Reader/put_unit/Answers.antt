@@ -9,4 +9,4 @@ unfolding read_unit
 returns c =
     let f = reader_files c.args.self.now in
     let t = reader_table c.args.self.now in
-    record { kept = record { all = rw c.put.ensures (all_put f File t.kept c.args.built.now.kept.units.items c.args.number c.args.unit (back_is f c.args.unit (read_unit f t c.args.number) c.requires.unit) c.requires.fits.kept.all); shared = c.requires.fits.kept.shared; packed = c.requires.fits.kept.packed }; sups = c.requires.fits.sups; long = c.requires.fits.long; lists = c.requires.fits.lists }
+    record { kept = record { all = rw c.put.ensures (all_put f File t.kept c.args.built.now.kept.units.items c.args.number c.args.unit (back_is f c.args.unit (read_unit f t c.args.number) c.requires.unit) c.requires.fits.kept.all); shared = c.requires.fits.kept.shared; packed = c.requires.fits.kept.packed }; sups = c.requires.fits.sups }

@@ -9,7 +9,7 @@ pub returns-clause-fits : goal.returns-clause-fits
 returns-clause-fits c =
     let f = reader_files c.args.self.now in
     let t = reader_table c.args.self.now in
-    record { kept = record { all = rw c.take.ensures.left (all_put f File t.kept c.args.built.now.kept.units.items c.args.number Empty tt c.requires.fits.kept.all); shared = c.requires.fits.kept.shared; packed = c.requires.fits.kept.packed }; sups = c.requires.fits.sups; long = c.requires.fits.long; lists = c.requires.fits.lists }
+    record { kept = record { all = rw c.take.ensures.left (all_put f File t.kept c.args.built.now.kept.units.items c.args.number Empty tt c.requires.fits.kept.all); shared = c.requires.fits.kept.shared; packed = c.requires.fits.kept.packed }; sups = c.requires.fits.sups }
 
 pub returns-clause-taken : goal.returns-clause-taken
 unfolding read_unit

@@ -1,33 +1,23 @@
-use Rattle.std.proofs.Common.{Option, Some, sym, ap, subst, ◌∙◌}
 use Rattle.blz_info.specs.FileSections.{sections_view}
-use Rattle.blz_line.specs.ProgramTables.{OrderedProgram}
-use Rattle.blz_units.specs.SharedPrograms.{table_of, IsProgramAt}
-use Rattle.blz_units.proofs.SharedPrograms.{found, good_found, none_found}
+use Rattle.blz_units.proofs.SharedPrograms.{broken_program, good_program}
 use Rattle.blz_units.proofs.shared_programs.SharedPrograms.read_anew.Goals as goal
 
-pub returns-in_default-clause-value : goal.returns-in_default-clause-value
-returns-in_default-clause-value g c =
-    let is = found c.args.sections.now c.args.header.now c.args.root.now c.args.at c.in_ok-key.field-0 c.in_ok-key.ensures.value in
-    none_found c.args.sections.now c.args.header.now c.args.root.now c.args.at _ c.invalid.ensures (is ∙ ap (λ (o : Option OrderedProgram). table_of o) c.in_default.is)
-
-pub returns-clause-value : goal.returns-clause-value
-returns-clause-value g c =
-    let is = found c.args.sections.now c.args.header.now c.args.root.now c.args.at c.in_ok-key.field-0 c.in_ok-key.ensures.value in
-    good_found c.args.sections.now c.args.header.now c.args.root.now c.args.at c.in-Some.program (is ∙ ap (λ (o : Option OrderedProgram). table_of o) c.in-Some.is)
-
-pub returns-clause-accepted : goal.returns-clause-accepted
-returns-clause-accepted g c = rw c.in-Some.is at (c.in_ok-key.ensures.order _ c.in_ok-run.ensures.accepted)
-
-pub returns-in_err-keep-2-clause-kept : goal.returns-in_err-keep-2-clause-kept
-returns-in_err-keep-2-clause-kept g c =
+pub returns-in_err-keep-in-Ok-clause-kept : goal.returns-in_err-keep-in-Ok-clause-kept
+returns-in_err-keep-in-Ok-clause-kept g c =
     let s = sections_view c.args.sections.now in
-    let same = c.in-Some.is ∙ ap (λ (p : OrderedProgram). Some p) (sym c.in_ok-kept.ensures) in
-    let is = subst (λ (o : Option OrderedProgram). IsProgramAt s c.in_ok-key.field-0.key o) same c.in_ok-key.ensures.value.is in
-    c.keep-2.ensures s is c.read_run-read.ensures.kept
+    c.keep.ensures s (rw (c.in_ok-kept-in-Ok.ensures, c.program_key-key.ensures) (good_program c.args.sections.now c.args.header.now c.args.root.now c.args.at c.in-Ok.program c.in-Ok.ensures.value)) c.requires
 
-pub returns-clause-kept : goal.returns-clause-kept
-returns-clause-kept g c =
+pub returns-in_ok-keep-in-Ok-clause-kept : goal.returns-in_ok-keep-in-Ok-clause-kept
+returns-in_ok-keep-in-Ok-clause-kept g c =
     let s = sections_view c.args.sections.now in
-    let same = c.in-Some.is ∙ ap (λ (p : OrderedProgram). Some p) (sym c.in_ok-kept.ensures) in
-    let is = subst (λ (o : Option OrderedProgram). IsProgramAt s c.in_ok-key.field-0.key o) same c.in_ok-key.ensures.value.is in
-    c.keep-2.ensures s is c.read_run-read.ensures.kept
+    c.keep.ensures s (rw (c.in_ok-kept-in-Ok.ensures, c.program_key-key.ensures) (good_program c.args.sections.now c.args.header.now c.args.root.now c.args.at c.in-Ok.program c.in-Ok.ensures.value)) c.requires
+
+pub returns-in_err-keep_fault-in-Err-clause-kept : goal.returns-in_err-keep_fault-in-Err-clause-kept
+returns-in_err-keep_fault-in-Err-clause-kept g c =
+    let s = sections_view c.args.sections.now in
+    c.keep_fault.ensures s (λ ne. rw c.program_key-key.ensures (broken_program c.args.sections.now c.args.header.now c.args.root.now c.args.at _ ne c.in-Err.ensures.value)) c.requires
+
+pub returns-in_ok-keep_fault-in-Err-clause-kept : goal.returns-in_ok-keep_fault-in-Err-clause-kept
+returns-in_ok-keep_fault-in-Err-clause-kept g c =
+    let s = sections_view c.args.sections.now in
+    c.keep_fault.ensures s (λ ne. rw c.program_key-key.ensures (broken_program c.args.sections.now c.args.header.now c.args.root.now c.args.at _ ne c.in-Err.ensures.value)) c.requires

@@ -5,8 +5,8 @@ use Rattle.blz_info.specs.Marks.{or_invalid}
 use Rattle.blz_entry.specs.declared.aranges.ArangeSet.{ArangeSet}
 use Rattle.blz_info.specs.declared.units.UnitHeader.{UnitHeader}
 use Rattle.blz_info.proofs.Marked.{good_some, marks_on}
+use Rattle.blz_ranges.proofs.OwnedItems.{items_owned}
 use Rattle.blz_units.specs.BuiltUnits.{Files, files_view}
-use Rattle.blz_units.specs.Keeping.{units_told}
 use Rattle.blz_units.specs.Sets.{sets_from}
 use Rattle.blz_units.specs.UnitTables.{KeptUnits, sup_units, units_kept, units_of}
 use Rattle.blz_units.proofs.unit_table.UnitTable.read.Goals as goal
@@ -36,8 +36,11 @@ returns-in_err-units-clause-table g c =
 
 pub returns-clause-table : goal.returns-clause-table
 returns-clause-table g c =
-    let is = table_is (files_view c.args.dwarf.now) c.in_ok-sups.sups c.in_ok-sets.sets (units_told c.in_ok-units.units) (good_some _ _ c.in_ok-sups.ensures) (good_some _ _ c.in_ok-sets.ensures) (good_some _ _ c.in_ok-units.ensures.value) in
-    rw (c.into_parts-kept.ensures.kept, c.in_ok-announced.ensures.all, c.into_parts-kept.ensures.ranges) (ap or_invalid is)
+    let is = table_is (files_view c.args.dwarf.now) c.in_ok-sups.sups c.in_ok-sets.sets c.in_ok-units.units (good_some _ _ c.in_ok-sups.ensures) (good_some _ _ c.in_ok-sets.ensures) (good_some _ _ c.in_ok-units.ensures.value) in
+    rw (c.into_parts-kept.ensures.kept, c.in_ok-announced.ensures.ranges, c.into_parts-kept.ensures.announced) (ap or_invalid is)
 
 pub returns-clause-fits : goal.returns-clause-fits
 returns-clause-fits g c = rw c.into_parts-kept.ensures.kept c.in_ok-units.ensures.fits
+
+pub returns-clause-accepted : goal.returns-clause-accepted
+returns-clause-accepted g c = rw (c.in_ok-announced.ensures.ranges, items_owned c.into_parts-kept.result.1.items c.into_parts-kept.result.2.items c.into_parts-kept.ensures.same) c.in_ok-announced.ensures.accepted

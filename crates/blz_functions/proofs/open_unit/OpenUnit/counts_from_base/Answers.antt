@@ -1,8 +1,0 @@
-use Rattle.std.proofs.Common.{◌∙◌}
-use Rattle.blz_functions.proofs.Lying.{counts_lying}
-use Rattle.blz_functions.proofs.open_unit.OpenUnit.counts_from_base.Goals as goal
-
-pub returns : goal.returns
-returns c =
-    let unit = c.args.self.now in
-    c.counts_from_base.ensures ∙ counts_lying unit.sections unit.header unit.root c.args.list.place

@@ -1,4 +1,0 @@
-use Rattle.blz_line.proofs.ordered_sequences.OrderedSequences.best_index.Goals as goal
-
-pub returns : goal.returns
-returns c = rw (← c.self.view_is) (rw c.self.invariant.index at (rw c.deref.ensures at c.find.ensures))
