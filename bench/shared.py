@@ -3,6 +3,7 @@ memory of a run."""
 import glob
 import os
 import re
+import resource
 import subprocess
 import sys
 import tempfile
@@ -13,6 +14,13 @@ TOP = os.path.dirname(os.path.dirname(os.path.abspath(__file__)))
 BENCH = os.path.join(TOP, "crates", "blz_bench", "out", "blz_bench")
 
 
+def help_if_asked(text):
+    """Tells what a script does, and ends, where its words ask for that."""
+    if {"-h", "--help"} & set(sys.argv[1:]):
+        print(text)
+        sys.exit()
+
+
 def built_bench():
     """The measuring program, proved and built first where it is missing or a source is newer."""
     sources = glob.glob(os.path.join(TOP, "crates", "*", "src", "**", "*.rt"), recursive=True)
@@ -20,6 +28,18 @@ def built_bench():
         subprocess.run(["rt", "run"], cwd=os.path.dirname(os.path.dirname(BENCH)), check=True, capture_output=True)
         os.utime(BENCH)
     return BENCH
+
+
+def program_of(name):
+    """A program of this repository, proved and built first where that is needed; the variable of its name in capitals names another."""
+    if given := os.environ.get(name.upper()):
+        return given
+    # without a word it tells its usage, and ends with status 2
+    subprocess.run([os.path.join(TOP, name)], capture_output=True, check=False)
+    built = os.path.join(TOP, "crates", f"{name}_main", "out", f"{name}_main")
+    if not os.path.exists(built):
+        sys.exit(f"{name} could not be built; `./{name}` tells why")
+    return built
 
 
 def debug_program(folder, version, count):
@@ -61,6 +81,37 @@ def measured(words, runs=3):
             seconds.append(used.ru_utime + used.ru_stime)
             peak, written = int(told.read()) * 1024, open(out.name, "rb").read()
     return Run(min(seconds), min(walls), peak, written)
+
+
+class Ended(typing.NamedTuple):
+    """How one run ended, with its processor seconds, its peak memory and the size of its output in bytes."""
+    status: int  # less than 0 where a signal ended it
+    seconds: float
+    peak: int
+    size: int
+    errors: bytes
+
+
+MOST_SECONDS, MOST_MEMORY = 20, 4 << 30  # what a run of cut_run may take
+
+
+def limited():
+    resource.setrlimit(resource.RLIMIT_CPU, (MOST_SECONDS, MOST_SECONDS))
+    resource.setrlimit(resource.RLIMIT_AS, (MOST_MEMORY, MOST_MEMORY))
+
+
+def cut_run(words):
+    """One run of these words, which may fail or take long; `time` starts it, as in measured."""
+    with tempfile.NamedTemporaryFile("w+") as told, tempfile.TemporaryFile() as out:
+        command = ["/usr/bin/time", "-f", "%M", "-o", told.name, *words]
+        run = subprocess.Popen(command, stdout=out, stderr=subprocess.PIPE, preexec_fn=limited)
+        errors = run.stderr.read()
+        _, status, used = os.wait4(run.pid, 0)
+        run.returncode = os.waitstatus_to_exitcode(status)
+        # `time` ends with 128 and the signal where one ended its program
+        ended = 128 - run.returncode if run.returncode > 128 else run.returncode
+        peak = int(told.read().split()[-1]) * 1024
+        return Ended(ended, used.ru_utime + used.ru_stime, peak, os.fstat(out.fileno()).st_size, errors)
 
 
 def debug_size(program):
