@@ -1,0 +1,64 @@
+"""Which image of a process an address belongs to, and where it lies in it."""
+import os
+import re
+import typing
+
+from elf_view import Elf
+from flow_parts import Refused, lines_of
+
+PROC = re.compile(r"^([0-9a-f]+)-([0-9a-f]+) (\S+) ([0-9a-f]+) \S+ \S+\s*(.*)$")
+GDB = re.compile(r"^\s+0x([0-9a-f]+)\s+0x([0-9a-f]+)\s+0x[0-9a-f]+\s+0x([0-9a-f]+)\s+(?:[-rwxps]+\s+)?(\S.*)$")
+DELETED = " (deleted)"
+
+
+class Mapping(typing.NamedTuple):
+    begin: int
+    end: int
+    place: int
+    path: str
+    process: str = ""
+
+
+def real(path, known={}):
+    """The path without links; kept, since it is asked for each frame."""
+    if path not in known:
+        path_there = path[:-len(DELETED)] if path.endswith(DELETED) else path
+        known[path] = os.path.realpath(path_there) if path_there.startswith(("/", ".")) else path_there
+    return known[path]
+
+
+def mappings_of(path):
+    """The mappings of a copy of /proc/PID/maps, or of what gdb prints for `info proc mappings`."""
+    found = []
+    for line in lines_of(path):
+        if mapped := PROC.match(line.rstrip("\n")):
+            begin, end, _, place, file = mapped.groups()
+        elif mapped := GDB.match(line.rstrip("\n")):
+            begin, end, place, file = mapped.groups()
+        else:
+            continue
+        if file:
+            found.append(Mapping(int(begin, 16), int(end, 16), int(place, 16), real(file)))
+    if not found:
+        raise Refused(f"{path}: no mapping of a file, as /proc/PID/maps has them")
+    return found
+
+
+class Images:
+    """Images by path, each read once; None where it can't be read."""
+
+    def __init__(self):
+        self.known = {}
+
+    def of(self, path):
+        path = real(path)
+        if path not in self.known:
+            try:
+                self.known[path] = Elf(path) if os.path.isfile(path) else None
+            except (Refused, OSError):
+                self.known[path] = None
+        return self.known[path]
+
+
+def mapping_at(mappings, addr):
+    return next((mapped for mapped in mappings if mapped.begin <= addr < mapped.end), None)
