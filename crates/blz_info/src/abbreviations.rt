@@ -22,9 +22,9 @@ use std::marker::Model;
 
 /// What an abbreviation takes of a file's room, and each of its attributes: its own words, those of its runs, and one
 /// for reading it.
-const ABBREVIATION_WORDS: u64 = 16;
+const ABBREVIATION_WORDS: u64 = 24;
 
-const ATTRIBUTE_WORDS: u64 = 12;
+const ATTRIBUTE_WORDS: u64 = 16;
 
 /// An attribute of an abbreviation: its name, its form, and the value of `DW_FORM_implicit_const`, else 0.
 #[derive(Clone, Copy)]
