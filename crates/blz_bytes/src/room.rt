@@ -1,7 +1,9 @@
 //! How much a file may make its reader keep and read again.
 ghost use Rattle.std.specs.Prelude.{◌≡◌, ◌+◌, ◌<◌, IfErr, OnOk};
+ghost use Rattle.blz_error.specs.declared.kind.ErrorKind.TheVariants.{OutOfMemory};
 ghost use Rattle.blz_bytes.specs.Allowance.{words_of};
 
+use blz_error::{Error, ErrorKind, Str};
 use std::alloc::AllocError;
 use std::marker::Model;
 
@@ -16,6 +18,8 @@ pub const LEAST_WORDS: u64 = 262_144;
 #[derive(Drop)]
 pub struct Room {
     left: u64,
+    // whether more was asked for than was left
+    refused: bool,
 }
 
 impl Model for Room {
@@ -35,12 +39,34 @@ impl Room {
             left: bytes
                 .saturating_mul(WORDS_A_BYTE)
                 .saturating_add(LEAST_WORDS),
+            refused: false,
         }
     }
 
     /// Room without an end, for a call that reads a part of a file once.
     pub fn endless() -> Room {
-        Room { left: u64::MAX }
+        Room {
+            left: u64::MAX,
+            refused: false,
+        }
+    }
+
+    /// The words that are left.
+    pub fn left(&self) -> u64
+        ensures { result ≡ self.now }
+    {
+        self.left
+    }
+
+    /// The error for want of memory, which says so where it is the room that had no more.
+    pub fn want(&self) -> Error
+        ensures { result.kind ≡ OutOfMemory }
+    {
+        if self.refused {
+            let text = Str::fixed("more to read than the file's size allows");
+            return Error::new(ErrorKind::OutOfMemory, text);
+        }
+        Error::from(AllocError)
     }
 
     /// Takes words; an error exactly where fewer are left, and none is taken then.
@@ -49,6 +75,7 @@ impl Room {
         ensures refused { IfErr result (λ _. (self.old < words) × (self.new ≡ self.old)) }
     {
         if words > self.left {
+            self.refused = true;
             return Err(AllocError);
         }
         self.left -= words;
