@@ -1,5 +1,6 @@
 //! The attributes of an entry that tell what a function or an inlined call is.
 use super::small::entries_at;
+use blz_bytes::Room;
 use blz_checks::Checks;
 use blz_entry::{Abbreviations, AttrValue, Encoding, Entries, Passing, StrPart, StrPlace};
 use blz_moves::RelocationMap;
@@ -50,7 +51,8 @@ fn check_values(checks: &mut Checks, alloc: Global, version: u16) -> blz_error::
         wide: false,
         address_size: 8,
     };
-    let abbreviations = Abbreviations::parse_for(alloc, TABLE, 0, encoding)?;
+    let mut room = Room::endless();
+    let abbreviations = Abbreviations::parse_for(alloc, &mut room, TABLE, 0, encoding)?;
     let mut entries = entries_at(INFO, &moves, &abbreviations, 0)?;
     for place in [0, 22] {
         let entry = entries.next_entry()?;
@@ -75,9 +77,7 @@ const REPEATED: &[u8] =
     b"\x01\x2e\0\x59\x21\x03\x59\x21\0\x03\x19\x59\x21\x09\x03\x08\x59\x21\x08\0\0\x02\x34\0\x59\x21\x03\x59\x21\0\x03\x19\x59\x21\x09\x03\x08\x59\x21\x08\0\0\0";
 
 #[test]
-fn of_attributes_without_bytes_the_last_of_a_name_and_kind_is_wanted(
-    rt: HostRuntime,
-) -> Result<(), Fail> {
+fn attributes_without_bytes_are_wanted_one_by_one(rt: HostRuntime) -> Result<(), Fail> {
     let mut checks = Checks::new();
     let moves = RelocationMap::new(rt.alloc());
     let abbreviations = Abbreviations::parse(rt.alloc(), REPEATED, 0).expect(&rt, "refused");
@@ -96,35 +96,15 @@ fn of_attributes_without_bytes_the_last_of_a_name_and_kind_is_wanted(
             len: 1,
         };
         let told = [
+            (0x59, AttrValue::Signed(3)),
             (0x59, AttrValue::Signed(0)),
             (0x03, AttrValue::Other),
+            (0x59, AttrValue::Signed(9)),
             (0x03, AttrValue::Text(name)),
             (0x59, AttrValue::Signed(8)),
         ];
         checks.same(found.as_slice(), told.as_slice());
     }
-    checks.result()
-}
-
-// languages of a unit: an implicit constant of 12, a byte, and an implicit constant of 4
-const LANGUAGES: &[u8] = b"\x01\x11\0\x13\x21\x0c\x13\x0b\x13\x21\x04\0\0\0";
-
-#[test]
-fn of_languages_without_bytes_the_first_is_told_by_the_abbreviation(
-    rt: HostRuntime,
-) -> Result<(), Fail> {
-    let mut checks = Checks::new();
-    let moves = RelocationMap::new(rt.alloc());
-    let abbreviations = Abbreviations::parse(rt.alloc(), LANGUAGES, 0).expect(&rt, "refused");
-    let mut entries = entries_at(b"\x01\x09", &moves, &abbreviations, 0).expect(&rt, "refused");
-    entries
-        .next_entry()
-        .expect(&rt, "refused")
-        .expect(&rt, "an entry");
-    checks.same(entries.bare_language(), Some(AttrValue::Signed(12)));
-    let found = wanted(rt.alloc(), &mut entries).expect(&rt, "refused");
-    checks.same(found.as_slice(), [(0x13, AttrValue::Const(9))].as_slice());
-    checks.holds(entries.bare_language().is_none());
     checks.result()
 }
 
