@@ -1,6 +1,7 @@
 //! The units of a file, as they are asked.
 ghost use Rattle.std.specs.Prelude.{◌≡◌, ◌<◌, true, length, IfOk, IfSome, IfErr};
 ghost use Rattle.std.specs.Option.{option_map};
+ghost use Rattle.blz_error.specs.declared.kind.ErrorKind.TheVariants.{OutOfMemory};
 ghost use Rattle.blz_model.specs.Part.{Gives};
 ghost use Rattle.blz_info.specs.Marks.{or_invalid};
 ghost use Rattle.blz_line.specs.Lookups.{location_view};
@@ -17,7 +18,7 @@ mod listing;
 
 use crate::cold::cold_caches;
 use blz_bytes::{Orders, Room};
-use blz_error::Result;
+use blz_error::{Error, ErrorKind, Result};
 use blz_functions::Function;
 use blz_line::Location;
 use blz_model::SrcLang;
@@ -40,6 +41,16 @@ pub struct Units {
     pub(crate) prepared: bool,
 }
 
+// An error of a part that was read within the file's room, which says so where it is the room that had no more.
+fn of_room(room: &Room, fault: Error) -> Error
+    ensures { result.kind ≡ fault.kind }
+{
+    match fault.kind() {
+        ErrorKind::OutOfMemory => room.want(),
+        _ => fault,
+    }
+}
+
 impl Units {
     /// Reads the headers of the units and the ranges that they announce, and nothing else of them. InvalidDwarf exactly
     /// where those have no value.
@@ -51,7 +62,10 @@ impl Units {
         ensures cold { IfOk result AreCold }
     {
         let mut room = Room::of(dwarf.size());
-        let (table, built) = UnitTable::read(alloc, &mut room, orders, dwarf)?;
+        let (table, built) = match UnitTable::read(alloc, &mut room, orders, dwarf) {
+            Ok(read) => read,
+            Err(fault) => return Err(of_room(&room, fault)),
+        };
         let caches = cold_caches(alloc, room, built, table.kept.len(), table.sups.len())?;
         Ok(Units {
             table,
@@ -183,9 +197,18 @@ impl Units {
             dwarf,
             table: &self.table,
         };
-        reader.fill_all(orders, &mut self.caches)?;
+        let Ok(()) = reader.fill_all(orders, &mut self.caches) else {
+            return Err(AllocError);
+        };
         self.prepared = true;
         Ok(())
+    }
+
+    /// The error for want of memory, which says so where it is the file's room that had no more.
+    pub fn want(&self) -> Error
+        ensures { result.kind ≡ OutOfMemory }
+    {
+        self.caches.room.want()
     }
 
     /// Whether `prepare` has filled each cache.

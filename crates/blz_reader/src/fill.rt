@@ -1,5 +1,6 @@
 //! The parts of units, kept when they are first asked for.
-ghost use Rattle.std.specs.Prelude.{◌≡◌, true, false, IfOk};
+ghost use Rattle.std.specs.Prelude.{◌≡◌, true, false, IfErr, IfOk};
+ghost use Rattle.blz_error.specs.declared.kind.ErrorKind.TheVariants.{OutOfMemory};
 ghost use Rattle.std.specs.List.{slice_get};
 ghost use Rattle.blz_model.specs.Part.{Gives};
 ghost use Rattle.blz_info.specs.Marks.{or_invalid};
@@ -46,15 +47,19 @@ impl<'r, 's, 'b> Reader<'r, 's, 'b> {
 
     /// Reads the root of a unit itself where it is not kept.
     #[tactic(auto, using(crate::proofs::CacheSteps::fills_same))]
-    pub fn fill_root(&self, caches: &mut Caches, number: usize) -> Result<(), AllocError>
+    pub fn fill_root(&self, caches: &mut Caches, number: usize) -> blz_error::Result<()>
         requires fillable { CanBeFilled self.now caches.old }
         ensures filled { IfOk result (λ _. HasPart lacks_root caches.new number) }
+        ensures want { IfErr result (λ e. e.kind ≡ OutOfMemory) }
         ensures fills { (told : Told) → Fills told self.now caches.old caches.new }
     {
         if !lacks_root(caches.units.as_slice(), number) {
             return Ok(());
         }
-        self.put_root_of(caches, number)
+        match self.put_root_of(caches, number) {
+            Ok(()) => Ok(()),
+            Err(_) => Err(caches.room.want()),
+        }
     }
 
     /// Puts the root of a unit itself, which lacks it.
@@ -99,15 +104,19 @@ impl<'r, 's, 'b> Reader<'r, 's, 'b> {
         orders: &mut O,
         caches: &mut Caches,
         number: usize,
-    ) -> Result<(), AllocError>
+    ) -> blz_error::Result<()>
         requires fillable { CanBeFilled self.now caches.old }
         ensures filled { IfOk result (λ _. HasPart lacks_functions caches.new number) }
+        ensures want { IfErr result (λ e. e.kind ≡ OutOfMemory) }
         ensures fills { Fills O.pair_places self.now caches.old caches.new }
     {
         if !lacks_functions(caches.units.as_slice(), number) {
             return Ok(());
         }
-        self.put_functions_of(orders, caches, number)
+        match self.put_functions_of(orders, caches, number) {
+            Ok(()) => Ok(()),
+            Err(_) => Err(caches.room.want()),
+        }
     }
 
     /// Puts the functions of a unit that lacks them.
@@ -160,16 +169,20 @@ impl<'r, 's, 'b> Reader<'r, 's, 'b> {
         orders: &mut O,
         caches: &mut Caches,
         number: usize,
-    ) -> Result<(), AllocError>
+    ) -> blz_error::Result<()>
         requires fillable { CanBeFilled self.now caches.old }
         ensures filled { IfOk result (λ _. HasPart lacks_lines caches.new number) }
+        ensures want { IfErr result (λ e. e.kind ≡ OutOfMemory) }
         ensures fills { Fills O.pair_places self.now caches.old caches.new }
     {
         self.fill_root(caches, number)?;
         if !lacks_lines(caches.units.as_slice(), number) {
             return Ok(());
         }
-        self.put_lines_of(orders, caches, number)
+        match self.put_lines_of(orders, caches, number) {
+            Ok(()) => Ok(()),
+            Err(_) => Err(caches.room.want()),
+        }
     }
 
     /// Puts the lines of a unit that lacks them, whose root is kept.
@@ -281,15 +294,19 @@ impl<'r, 's, 'b> Reader<'r, 's, 'b> {
         caches: &mut Caches,
         number: usize,
         function: usize,
-    ) -> Result<(), AllocError>
+    ) -> blz_error::Result<()>
         requires fillable { CanBeFilled self.now caches.old }
         ensures filled { IfOk result (λ _. HasCallsOf caches.new number function) }
+        ensures want { IfErr result (λ e. e.kind ≡ OutOfMemory) }
         ensures fills { Fills O.pair_places self.now caches.old caches.new }
     {
         self.fill_functions(orders, caches, number)?;
         if !lacks_calls(caches.units.as_slice(), number, function) {
             return Ok(());
         }
-        self.put_calls_of(orders, caches, number, function)
+        match self.put_calls_of(orders, caches, number, function) {
+            Ok(()) => Ok(()),
+            Err(_) => Err(caches.room.want()),
+        }
     }
 }

@@ -6,9 +6,9 @@ ghost use Rattle.blz_units.specs.KeptParts.{functions_at, functions_count, AreFu
 
 use crate::reader::Reader;
 use blz_bytes::Orders;
+use blz_error::Result;
 use blz_model::Cache;
 use blz_units::caches::{Caches, UnitCaches};
-use std::alloc::AllocError;
 
 /// How many functions of a unit are kept.
 fn functions_count(units: &[UnitCaches], number: usize) -> usize
@@ -31,7 +31,7 @@ impl<'r, 's, 'b> Reader<'r, 's, 'b> {
         caches: &mut Caches,
         number: usize,
         count: usize,
-    ) -> Result<(), AllocError>
+    ) -> Result<()>
         requires fillable { CanBeFilled self.now caches.old }
         ensures filled { IfOk result (λ _. HasFirstCalls count caches.new number) }
         ensures fills { Fills O.pair_places self.now caches.old caches.new }
@@ -49,7 +49,7 @@ impl<'r, 's, 'b> Reader<'r, 's, 'b> {
         orders: &mut O,
         caches: &mut Caches,
         number: usize,
-    ) -> Result<(), AllocError>
+    ) -> Result<()>
         requires fillable { CanBeFilled self.now caches.old }
         ensures filled { IfOk result (λ _. AreFull (slice_get caches.new.units.items number)) }
         ensures fills { Fills O.pair_places self.now caches.old caches.new }
@@ -63,7 +63,7 @@ impl<'r, 's, 'b> Reader<'r, 's, 'b> {
     }
 
     /// Reads all parts of all units that are not kept.
-    pub fn fill_all<O: Orders>(&self, orders: &mut O, caches: &mut Caches) -> Result<(), AllocError>
+    pub fn fill_all<O: Orders>(&self, orders: &mut O, caches: &mut Caches) -> Result<()>
         requires fillable { CanBeFilled self.now caches.old }
         ensures filled { IfOk result (λ _. AllFull caches.new.units.items) }
         ensures fills { Fills O.pair_places self.now caches.old caches.new }

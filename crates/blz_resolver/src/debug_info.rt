@@ -1,5 +1,6 @@
 //! The debug information of a bundle with its units.
-ghost use Rattle.std.specs.Prelude.{◌≡◌, ◌<◌, ◌≤◌, ◌-◌, true, false, length, map, IfOk, option_map};
+ghost use Rattle.std.specs.Prelude.{◌≡◌, ◌<◌, ◌≤◌, ◌-◌, true, false, length, map, IfErr, IfOk, option_map};
+ghost use Rattle.blz_error.specs.declared.kind.ErrorKind.TheVariants.{OutOfMemory};
 ghost use Rattle.std.specs.FinMap as finite;
 ghost use Rattle.blz_model.specs.Part.{Gives, Exactly, all_good};
 ghost use Rattle.blz_elf.specs.AnswerView.{answer_view};
@@ -30,7 +31,7 @@ use blz_bytes::{Orders, Steps};
 use blz_elf::{Answer, ElfParser, FindAddrOpts, FindSymOpts, SymInfos, SymType, Visit};
 use blz_error::Result;
 use blz_index::Units;
-use std::alloc::{AllocError, Global};
+use std::alloc::Global;
 use std::sync::ledger::Ledger;
 
 /// The files of a bundle that debug information is read from, and their units, which keep what was read.
@@ -194,11 +195,12 @@ impl<'b> DebugInfo<'b> {
         orders: &mut O,
         bundle: &Bundle<'b>,
         unit: usize,
-    ) -> std::result::Result<(), AllocError>
+    ) -> Result<()>
         requires fits { HasBook (bundle_view bundle.now) self.old }
         requires there { unit < length (units_table self.old.units).kept }
         ensures keeps { KeepsBook (bundle_view bundle.now) self.old self.new }
         ensures filled { IfOk result (λ _. lines_kept self.new.units unit ≡ true) }
+        ensures want { IfErr result (λ e. e.kind ≡ OutOfMemory) }
     {
         let reader = BookReader {
             bundle: *bundle,
@@ -224,15 +226,19 @@ impl<'b> DebugInfo<'b> {
         alloc: Global,
         orders: &mut O,
         bundle: &Bundle<'b>,
-    ) -> std::result::Result<(), AllocError>
+    ) -> Result<()>
         requires { HasBook (bundle_view bundle.now) self.old }
         ensures has { HasBook (bundle_view bundle.now) self.new }
         ensures grows { UnitsGrow O.pair_places self.old.units self.new.units }
         ensures is_prepared { IfOk result (λ _. units_prepared self.new.units ≡ true) }
         ensures stays { units_prepared self.old.units ≡ true → units_prepared self.new.units ≡ true }
+        ensures want { IfErr result (λ e. e.kind ≡ OutOfMemory) }
     {
         let dwarf = self.files.dwarf();
-        self.units.prepare(alloc, orders, &dwarf)
+        match self.units.prepare(alloc, orders, &dwarf) {
+            Ok(()) => Ok(()),
+            Err(_) => Err(self.units.want()),
+        }
     }
 
     /// The answer of an address without its inlined calls from what was prepared; the parser is the one of the debug file.

@@ -1,6 +1,7 @@
 //! A function of a unit, as it is answered.
-ghost use Rattle.std.specs.Prelude.{◌≡◌, ◌<◌, true, length, IfOk};
+ghost use Rattle.std.specs.Prelude.{◌≡◌, ◌<◌, true, length, IfErr, IfOk};
 ghost use Rattle.std.specs.Option.{option_map};
+ghost use Rattle.blz_error.specs.declared.kind.ErrorKind.TheVariants.{OutOfMemory};
 ghost use Rattle.blz_model.specs.Part.{Gives, Exactly};
 ghost use Rattle.blz_elf.specs.AnswerView.{resolved_view};
 ghost use Rattle.blz_units.specs.UnitSites.{call_name};
@@ -17,7 +18,7 @@ use blz_entry::{Span, StrPlace, Texts};
 use blz_error::Result;
 use blz_index::{Function, Units};
 use blz_model::SrcLang;
-use std::alloc::{AllocError, Global};
+use std::alloc::Global;
 
 /// Where a function begins, 0 where its bounds are not known.
 pub(crate) fn begin_of(bounds: Option<Span>) -> u64
@@ -104,11 +105,12 @@ impl<'b> BookReader<'_, 'b> {
         orders: &mut O,
         units: &mut Units,
         unit: usize,
-    ) -> std::result::Result<(), AllocError>
+    ) -> Result<()>
         requires reads { Reads self.now units.old }
         requires there { unit < length (units_table units.old).kept }
         ensures keeps { Keeps self.now units.old units.new }
         ensures filled { IfOk result (λ _. lines_kept units.new unit ≡ true) }
+        ensures want { IfErr result (λ e. e.kind ≡ OutOfMemory) }
     {
         units.fill_lines(alloc, orders, &self.dwarf, unit)
     }

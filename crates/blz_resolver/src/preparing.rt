@@ -17,7 +17,7 @@ use blz_bundle::Bundle;
 use blz_bytes::{Orders, Steps};
 use blz_elf::{Answer, FindSymOpts};
 use blz_error::Result;
-use std::alloc::{AllocError, Global};
+use std::alloc::Global;
 use std::sync::ledger::Ledger;
 
 fn prepare_units<'b, O: Orders>(
@@ -25,11 +25,12 @@ fn prepare_units<'b, O: Orders>(
     orders: &mut O,
     bundle: &Bundle<'b>,
     debug: &mut Option<DebugInfo<'b>>,
-) -> std::result::Result<(), AllocError>
+) -> Result<()>
     requires { HasBookIf (bundle_view bundle.now) debug.old }
     ensures has { HasBookIf (bundle_view bundle.now) debug.new }
     ensures grows { UnitsGrowIf O.pair_places (units_in debug.old) (units_in debug.new) }
     ensures is_prepared { IfOk result (λ _. ArePrepared debug.new) }
+    ensures want { IfErr result (λ e. e.kind ≡ OutOfMemory) }
     ensures stays { ArePrepared debug.old → ArePrepared debug.new }
     ensures rows { IfOk result (λ _. (unit : ℕ) → unit < unit_count_of (bundle_view bundle.now) (is_some debug.new) → lines_in (units_in debug.new) unit ≡ true) }
 {

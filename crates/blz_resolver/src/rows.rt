@@ -15,7 +15,7 @@ use blz_bytes::{DirPath, Orders};
 use blz_entry::Texts;
 use blz_error::Result;
 use blz_line::{LineSequence, Lines};
-use std::alloc::{AllocError, Global};
+use std::alloc::Global;
 
 /// The lines of a unit: its sequences and its files.
 #[derive(Clone, Copy)]
@@ -67,12 +67,13 @@ fn fill_rows<'b, O: Orders>(
     bundle: &Bundle<'b>,
     debug: &mut Option<DebugInfo<'b>>,
     unit: usize,
-) -> std::result::Result<(), AllocError>
+) -> Result<()>
     requires book { HasBookIf (bundle_view bundle.now) debug.old }
     requires there { unit < unit_count_of (bundle_view bundle.now) (is_some debug.old) }
     ensures book { HasBookIf (bundle_view bundle.now) debug.new }
     ensures stay { UnitsStayIf (units_in debug.old) (units_in debug.new) }
     ensures filled { IfOk result (λ _. lines_in (units_in debug.new) unit ≡ true) }
+    ensures want { IfErr result (λ e. e.kind ≡ OutOfMemory) }
 {
     match debug {
         Some(info) => info.fill_rows(alloc, orders, bundle, unit),
@@ -117,8 +118,7 @@ impl<'b> ElfResolver<'b> {
         ensures refused { IfErr result (λ e. e.kind ≡ OutOfMemory) }
         ensures stays { Stays self.old self.new }
     {
-        fill_rows(alloc, orders, &self.bundle, &mut self.debug, unit)?;
-        Ok(())
+        fill_rows(alloc, orders, &self.bundle, &mut self.debug, unit)
     }
 
     /// The lines of a unit that `fill_unit_rows` read; None exactly where it has no line program (DWARF 5 section 6.2).

@@ -1,6 +1,7 @@
 //! Parts of a unit, read first and lent after.
-ghost use Rattle.std.specs.Prelude.{◌≡◌, ◌<◌, true, length, Some, IfOk, IfSome};
+ghost use Rattle.std.specs.Prelude.{◌≡◌, ◌<◌, true, length, Some, IfErr, IfOk, IfSome};
 ghost use Rattle.std.specs.Option.{option_map};
+ghost use Rattle.blz_error.specs.declared.kind.ErrorKind.TheVariants.{OutOfMemory};
 ghost use Rattle.blz_model.specs.Part.{Gives, Exactly};
 ghost use Rattle.blz_info.specs.Marks.{or_invalid};
 ghost use Rattle.blz_units.specs.BuiltUnits.{Files};
@@ -17,7 +18,7 @@ use blz_line::Lines;
 use blz_reader::reader::Reader;
 use blz_units::dwarf::Dwarf;
 use blz_units::look;
-use std::alloc::{AllocError, Global};
+use std::alloc::Global;
 
 impl Units {
     /// The functions of a unit, with their ranges; Some exactly where they are kept.
@@ -57,10 +58,11 @@ impl Units {
         orders: &mut O,
         dwarf: &Dwarf<'_, '_>,
         unit: usize,
-    ) -> std::result::Result<(), AllocError>
+    ) -> Result<()>
         requires asked { CanBeAsked dwarf.now self.old }
         requires there { unit < length (units_table self.old).kept }
         ensures there { IfOk result (λ _. lines_kept self.new unit ≡ true) }
+        ensures want { IfErr result (λ e. e.kind ≡ OutOfMemory) }
         ensures leaves { Leaves O.pair_places dwarf.now self.old self.new }
     {
         let reader = Reader {

@@ -9,8 +9,8 @@ use Rattle.blz_index.proofs.units.Units.parse.Goals as goal
 pub returns-clause-fits : goal.returns-clause-fits
 returns-clause-fits g c =
     let f = files_view c.args.dwarf.now in
-    let t = table_view c.in_ok-table.table in
-    record { table = good_some (units_of f) t c.in_ok-table.ensures.table; caches = cold_fits f t _ _ _ c.in_ok-caches.caches c.in_ok-table.ensures.fits c.len.ensures c.len-2.ensures c.in_ok-caches.ensures; full = λ e. absurd cc }
+    let t = table_view c.in-Ok.read.0 in
+    record { table = good_some (units_of f) t c.in-Ok.ensures.table; caches = cold_fits f t _ _ _ c.in_ok-caches.caches c.in-Ok.ensures.fits c.len.ensures c.len-2.ensures c.in_ok-caches.ensures; full = λ e. absurd cc }
 
 pub returns-clause-cold : goal.returns-clause-cold
 returns-clause-cold g c = record {

@@ -20,3 +20,6 @@ loop-function-preserved g c =
 
 pub returns-clause-filled : goal.returns-clause-filled
 returns-clause-filled g c = λ n lt. c.loop-function.invariant.filled n (omega (arith, lt, c.loop-function-test.false))
+
+pub returns-in_err-fill_calls-clause-fills : goal.returns-in_err-fill_calls-clause-fills
+returns-in_err-fill_calls-clause-fills g c = fills_again _ _ _ _ _ c.loop-function.invariant.fills c.fill_calls.ensures.fills

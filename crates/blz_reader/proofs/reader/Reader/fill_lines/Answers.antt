@@ -11,5 +11,8 @@ returns-then-not-lacks_lines-clause-fills g c = c.fill_root.ensures.fills g.O.Or
 pub put_lines_of-requires-clause-fillable : goal.put_lines_of-requires-clause-fillable
 put_lines_of-requires-clause-fillable g c = (c.fill_root.ensures.fills None).fillable
 
-pub returns-clause-fills : goal.returns-clause-fills
-returns-clause-fills g c = fills_again _ _ _ _ _ (c.fill_root.ensures.fills g.O.Orders.pair_places) c.put_lines_of.ensures.fills
+pub returns-in-Ok-clause-fills : goal.returns-in-Ok-clause-fills
+returns-in-Ok-clause-fills g c = fills_again _ _ _ _ _ (c.fill_root.ensures.fills g.O.Orders.pair_places) c.put_lines_of.ensures.fills
+
+pub returns-in-Err-clause-fills : goal.returns-in-Err-clause-fills
+returns-in-Err-clause-fills g c = fills_again _ _ _ _ _ (c.fill_root.ensures.fills g.O.Orders.pair_places) c.put_lines_of.ensures.fills
