@@ -155,7 +155,7 @@ first_none (Some c) paths left is passed =
 
 -- the candidate that a search gives is the first that was left
 pub next_path : {Z E : Type 0} (old new : Search) (candidate : Result (String Z) E) (path : String Z) → candidate ≡ Ok path → Steps old (Some candidate) new → left_of old ≡ string_bytes path ∷ left_of new
-next_path {Z = Z} {E = E} old new candidate path is steps = let P : Result (String Z) E → Type 0 = λ candidate. Steps old (Some candidate) new in subst P is steps
+next_path {Z = Z} {E = E} old new candidate path is steps = let P : Result (String Z) E → Type 0 = λ candidate. Steps old (Some candidate) new in (subst P is steps).1
 
 -- ---- over files that stay
 

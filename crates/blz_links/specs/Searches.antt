@@ -1,5 +1,5 @@
 -- A search for the file of a link, as it goes on.
-use Rattle.std.specs.Prelude.{◌≡◌, ℕ, ◌+◌, Bool, List, [], ◌∷◌, length, filter, Option, Some, None, Result, Ok, Err, string_bytes, if◌then◌else◌}
+use Rattle.std.specs.Prelude.{◌≡◌, ℕ, ◌+◌, Bool, true, false, List, [], ◌∷◌, length, filter, Option, Some, None, Result, Ok, Err, string_bytes, if◌then◌else◌}
 use Rattle.std.specs.declared.string.String.{String}
 use Rattle.blz_links.specs.Candidates.{is_other}
 
@@ -17,8 +17,13 @@ answers_left s = length s.paths + (if s.has_ended then 0 else 1)
 abbrev pub left_of : Search → List (List ℕ)
 left_of s = filter (is_other s.linker) s.paths
 
--- A step gives the first of them; after the last there is nothing, and after want of memory nothing is left.
+-- no candidate is left, and no other answer
+abbrev pub IsOver : Search → Type 0
+IsOver s = (left_of s ≡ []) × (s.has_ended ≡ true)
+
+-- A step gives the first of them. After the last the search is over, and after want of memory too; what is over gives
+-- neither a candidate nor want of memory.
 abbrev pub Steps : {Z E : Type 0} → Search → Option (Result (String Z) E) → Search → Type 0
-Steps old None new = (left_of old ≡ []) × (left_of new ≡ [])
-Steps old (Some (Ok path)) new = left_of old ≡ string_bytes path ∷ left_of new
-Steps old (Some (Err e)) new = left_of new ≡ []
+Steps old None new = (left_of old ≡ []) × IsOver new
+Steps old (Some (Ok path)) new = (old.has_ended ≡ false) × (left_of old ≡ string_bytes path ∷ left_of new)
+Steps old (Some (Err e)) new = (old.has_ended ≡ false) × IsOver new
