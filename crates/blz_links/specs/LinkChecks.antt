@@ -32,6 +32,11 @@ abbrev pub must : Bool → Bytes → Checked (Unit {0})
 must true text = Ok tt
 must false text = Err (fault_of InvalidData text)
 
+-- a value that is there
+abbrev pub then_some : {A : Type 0} → Checked A → Checked (Option A)
+then_some (Ok x) = Ok (Some x)
+then_some (Err e) = Err e
+
 -- a call's answer, seen in this way
 abbrev pub seen_by : {X Y : Type 0} → (X → Y) → Result X Fault → Checked Y
 seen_by view (Ok x) = Ok (view x)

@@ -1,12 +1,15 @@
 -- The links of an image.
-use Rattle.std.specs.Prelude.{ℕ, List, Option, Some, None}
+use Rattle.std.specs.Prelude.{◌≡◌, ℕ, List, Option, Some, None, Result, ⊤}
+use Rattle.std.specs.Option.{option_map}
+use Rattle.blz_error.specs.Fault.{Fault}
 use Rattle.blz_model.specs.declared.byte_order.ByteOrder.{ByteOrder}
 use Rattle.blz_model.specs.Part.{Part, Good, Broken, ◌>>=◌}
 use Rattle.blz_image.specs.Images.{image_order, image_section, image_section_data}
 use Rattle.blz_links.specs.LinkValues.{DebugLinkValue, DebugAltlinkValue, DebugSupValue}
+use Rattle.blz_links.specs.declared.link_section.LinkSection.{LinkSection}
 use Rattle.blz_links.specs.declared.link_section.LinkSection.TheVariants.{DebugLink, DebugAltlink, DebugSup}
 use Rattle.blz_links.specs.LinkNames.{name_of}
-use Rattle.blz_links.specs.LinkChecks.{debug_link_of, debug_altlink_of, debug_sup_of}
+use Rattle.blz_links.specs.LinkChecks.{Checked, debug_link_of, debug_altlink_of, debug_sup_of, seen_by, then_some}
 
 -- what is found, where it can be looked for
 abbrev pub found : {A : Type 0} → Part (Option A) → Option A
@@ -46,3 +49,15 @@ debug_altlink_in image = link_in image (name_of DebugAltlink) (λ order. debug_a
 
 abbrev pub debug_sup_in : List ℕ → Part (Option DebugSupValue)
 debug_sup_in image = link_in image (name_of DebugSup) debug_sup_of
+
+-- ---- the text of a refusal
+
+-- Where the bytes of the section are there, the answer is that of their checks: the error too, text and all.
+abbrev pub GivesChecks : {X Y : Type 0} → (X → Y) → (ByteOrder → List ℕ → Checked Y) → Part (Option (ByteOrder × List ℕ)) → Result (Option X) Fault → Type 0
+GivesChecks view checks (Good None) result = ⊤
+GivesChecks view checks (Good (Some section)) result = seen_by (option_map view) result ≡ then_some (checks section.0 section.1)
+GivesChecks view checks (Broken k) result = ⊤
+
+-- the same of an image's section
+abbrev pub AsChecked : {X Y : Type 0} → (X → Y) → (ByteOrder → List ℕ → Checked Y) → LinkSection → List ℕ → Result (Option X) Fault → Type 0
+AsChecked view checks section image result = GivesChecks view checks (linked_data image (name_of section)) result
