@@ -16,7 +16,9 @@ const CHUNK_PIECES: usize = 32;
 
 const PIECE: [u8; 1024] = [0; 1024];
 
-/// The files that a runtime has. It does not tell what they hold, and follows no links.
+/// The files that a runtime has. It does not tell what they hold, and follows no links. A path that is too long for the
+/// system, or has a name that is, names nothing, as no file can have it. Below a file and in a loop of links nothing stands
+/// either; a read there is a failure. A file of more than 4,294,967,295 bytes is refused before it is read.
 #[derive(Drop)]
 pub struct RealFiles<'r, R> {
     rt: &'r R,
@@ -74,11 +76,12 @@ fn read_more<R: Read>(file: &mut R, bytes: &mut Vec<u8>) -> io::Result<Option<us
 fn read_whole<R: rt::Files>(rt: &R, alloc: Global, path: &str) -> io::Result<Vec<u8>> {
     let mut file = fs::open(rt, path)?;
     let mut bytes = Vec::new(alloc);
-    // room for the whole file at once, so that what is read does not move; a file that tells no size grows
     let told = fs::metadata(rt, path)?.len();
-    if told <= MOST_BYTES as u64 {
-        bytes.reserve_exact(told as usize + CHUNK_PIECES * PIECE.len())?;
+    if told > MOST_BYTES as u64 {
+        return Err(io::Error::from(io::ErrorKind::FileTooLarge));
     }
+    // room for the whole file at once, so that what is read does not move; a file that tells no size grows
+    bytes.reserve_exact(told as usize + CHUNK_PIECES * PIECE.len())?;
     for _ in 0..u64::MAX {
         if read_more(&mut file, &mut bytes)? == Some(0) {
             return Ok(bytes);
@@ -113,7 +116,10 @@ impl<'r, R: rt::Files> Files for RealFiles<'r, R> {
         match read_whole(self.rt, alloc, path) {
             Ok(bytes) => Ok(bytes),
             Err(error) => match error.kind() {
-                io::ErrorKind::NotFound => Err(FilesFault::NotFound),
+                // no file can have a name that is too long
+                io::ErrorKind::NotFound | io::ErrorKind::InvalidFilename => Err(
+                    FilesFault::NotFound,
+                ),
                 io::ErrorKind::OutOfMemory => Err(FilesFault::Memory),
                 kind => self.failure(kind),
             },
@@ -124,8 +130,10 @@ impl<'r, R: rt::Files> Files for RealFiles<'r, R> {
         match fs::exists(self.rt, path) {
             Ok(found) => Ok(found),
             Err(error) => match error.kind() {
-                // below a file nothing can stand, nor where no file can have the name
-                io::ErrorKind::NotADirectory | io::ErrorKind::InvalidFilename => Ok(false),
+                // no file can have a name that is too long, and below a file or a loop of links nothing can stand
+                io::ErrorKind::InvalidFilename
+                | io::ErrorKind::NotADirectory
+                | io::ErrorKind::FilesystemLoop => Ok(false),
                 kind => self.failure(kind),
             },
         }
@@ -146,7 +154,9 @@ impl<'r, R: rt::Files> Files for RealFiles<'r, R> {
                 changed: seconds_of(&metadata),
             }),
             Err(error) => match error.kind() {
-                io::ErrorKind::NotFound => Err(FilesFault::NotFound),
+                io::ErrorKind::NotFound | io::ErrorKind::InvalidFilename => Err(
+                    FilesFault::NotFound,
+                ),
                 kind => self.failure(kind),
             },
         }
