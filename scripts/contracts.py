@@ -303,15 +303,18 @@ def block_at(lines, at):
 class Contract:
     """A call, or a whole trait, as it is written: its comment, its head with its clauses, and what its file imports."""
 
-    def __init__(self, crate, path, name):
-        self.crate, self.path, self.name = crate, path, name
-        lines = lines_of(path)
-        self.uses = ghost_uses(lines)
+    def __init__(self, crate, name):
+        self.crate, self.name = crate, name
         is_trait = re.compile(rf"^pub trait {re.escape(name)}\b")
         is_call = re.compile(rf"^\s*pub fn {re.escape(name)}\b")
-        at = next(at for at, line in enumerate(lines) if is_trait.match(line) or is_call.match(line))
-        self.lines = block_at(lines, at) if is_trait.match(lines[at]) else lines[at:end_of_head(lines, at)]
-        self.comment = comment_above(lines, at)
+        for path in source_files(crate):
+            lines = lines_of(path)
+            for at, line in enumerate(lines):
+                if is_trait.match(line) or is_call.match(line):
+                    self.path, self.uses, self.comment = os.path.relpath(path, TOP), ghost_uses(lines), comment_above(lines, at)
+                    self.lines = block_at(lines, at) if is_trait.match(line) else lines[at:end_of_head(lines, at)]
+                    return
+        raise LookupError(f"{crate} has no public {name}")
 
     def text(self):
         lines = [*self.comment, *self.lines]
