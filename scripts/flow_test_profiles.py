@@ -32,6 +32,11 @@ def reported(data, sort):
     return {name.strip(): int(count) for count, name in re.findall(r"^\s+[\d.]+%\s+(\d+)\s+(\S.*)$", text, re.M)}
 
 
+def original(symbol):
+    """The name of a function whose copy the compiler gave a longer one."""
+    return symbol.partition(".")[0]
+
+
 def by_last(folded, known):
     """The samples by the last name of their stacks that was not inlined."""
     found = collections.Counter()
@@ -43,14 +48,16 @@ def by_last(folded, known):
 
 def compared_with_report(folder, path, data):
     """Folded stacks of a text with inlined lines and of one without, beside perf's report; the numbers that were compared."""
-    plain, inlined = script_of(data, "--no-inline"), script_of(data)
-    stacks = script("stacks_of_perf", path, text=plain)
+    text, inlined = script_of(data, "--no-inline"), script_of(data)
+    stacks = script("stacks_of_perf", path, text=text)
     equal("stacks without and with inlined lines", stacks.out, script("stacks_of_perf", path, text=inlined).out)
-    known = set(functions(path).values())
-    folded = counts_of(script("folded_of_perf", path, text=plain).out)
+    equal("hits without and with them", script("hits_of_perf", path, text=text).out, script("hits_of_perf", path, text=inlined).out)
+    known = {original(name) for name in functions(path).values()}
+    holds("the function of the loop has a symbol of another name", "leaf.constprop.0" in functions(path).values())
+    folded = counts_of(script("folded_of_perf", path, text=text).out)
     theirs = collections.Counter()
     for name, count in reported(data, "sym").items():
-        theirs[name[4:] if name[4:] in known else "elsewhere"] += count
+        theirs[original(name[4:]) if original(name[4:]) in known else "elsewhere"] += count
     equal("samples by function", by_last(folded, known), theirs)
     alone = counts_of(asked("blz_fold", path, write(folder, "stacks", stacks.out)))
     in_image = sum(count for stack, count in folded.items() if any(name in known for name in stack.split(";")))

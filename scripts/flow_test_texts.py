@@ -5,7 +5,7 @@ import xml.dom.minidom
 
 from backtrace_text import addresses, backtraces
 from flow_test import SCRIPTS, equal, holds, needs, script, tried, write
-from perf_text import Places, Profile
+from perf_text import NOT_NAMED, Places, Profile
 
 WITH_FILE = {"stacks_of_perf": ["/bin/true"], "folded_of_perf": ["--text"], "hits_of_perf": ["/bin/true"],
              "hits_of_callgrind": ["/bin/true"], "lcov_of_cover": ["/bin/true"], "flame_graph": [], "trace": [], "breakpoints": [],
@@ -60,6 +60,7 @@ prog 41 1.000002: PERF_RECORD_MMAP2 41/41: [0x7f0000001000(0x1000) @ 0x2000 08:0
 prog 41 1.000003:     250000 cycles:u: 
 \t          4c6010 square+0x10 (inlined)
 \t          4c6010 leaf+0x10 (/p/prog)
+\t          4c6080 clone+0x40 (inlined)
 \t          4c6100 main+0x20 (/p/prog)
 
 My prog 7 41/42 [002] 1.000004: 1 cpu-clock:pppH:  7f0000001010 operator()(int)+0x10 (/p/lib.so (deleted))
@@ -72,11 +73,12 @@ def lines_of_perf_script(folder):
     places = Places(profile)
     first, second = profile.samples
     equal("frames", [(frame.addr, frame.symbol, frame.inlined) for frame in first.frames],
-          [(0x4c6010, "leaf", ("square",)), (0x4c6100, "main", ())])
-    equal("places where both kinds can be", [places.place(first, frame) for frame in first.frames], [0x4c6010, 0x4c60ff])
+          [(0x4c6010, "leaf", ("square",)), (0x4c6080, "clone", ()), (0x4c6100, "main", ())])
+    equal("files", [frame.module for frame in first.frames], ["/p/prog", NOT_NAMED, "/p/prog"])
+    equal("places where both kinds can be", [places.place(first, frame) for frame in first.frames], [0x4c6010, 0x4c607f, 0x4c60ff])
     equal("a sample without call graph", (second.process, second.event, second.has_stack, places.place(second, second.frames[0])),
           ("41", "cpu-clock:pppH", False, 0x2010))
-    return "2 samples, 3 frames"
+    return "2 samples, 4 frames"
 
 
 BACKTRACES = """Thread 1 (LWP 7):

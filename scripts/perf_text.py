@@ -3,21 +3,23 @@ import re
 import typing
 
 from flow_parts import Refused, lines_of, name_of
-from mapped import Mapping, real
+from mapped import Images, Mapping, mapping_at, real
 
 MMAP = re.compile(r"^\s*\S.*PERF_RECORD_MMAP2? (-?\d+)/\S+ \[0x([0-9a-f]+)\(0x([0-9a-f]+)\) @ (?:0x)?([0-9a-f]+)[^\]]*\]: \S+ (.*)$")
 RECORD = re.compile(r"PERF_RECORD_[A-Z_0-9]+")
-SAMPLE = re.compile(r"^\s*(\S.*?)\s+(\d+)(?:/(\d+))?\s+(?:\[\d+\]\s+)?[\d.]+:\s+(?:\d+\s+)?(\S+):(?:\s+(.*))?$")
-FRAME = re.compile(r"^\s*([0-9a-f]+) (.*?)\s*\(([^()]*(?:\([^()]*\))?)\)$")
+SAMPLE = re.compile(r"^\s*\S.*?\s+(\d+)(?:/\d+)?\s+(?:\[\d+\]\s+)?[\d.]+:\s+(?:\d+\s+)?(\S+):(?:\s+(.*))?$")
+FRAME = re.compile(r"^\s*([0-9a-f]+) (.*?)(?:\+0x([0-9a-f]+))?\s*\(([^()]*(?:\([^()]*\))?)\)$")
+INLINED, NOT_NAMED = "inlined", "[no file without --no-inline]"
 
 
 class Frame(typing.NamedTuple):
-    """The innermost has depth 0. The module is what perf names in brackets. The calls inlined into it, the innermost first,
-    have lines of their own before it, with its address and the module `inlined`."""
+    """The innermost has depth 0. The module is what perf names in brackets, and begin where the symbol begins. The calls
+    inlined into it, the innermost first, have lines of their own before it, with its address and the module `inlined`."""
     addr: int
     symbol: str
+    begin: int
     module: str
-    depth: int
+    depth: int = 0
     inlined: tuple = ()
 
 
@@ -28,12 +30,12 @@ class Sample(typing.NamedTuple):
     has_stack: bool
 
 
-def frame_of(text, depth):
+def frame_of(text):
     """A frame; None where the text is none. Perf prints `symbol+0xoffset`, or `[unknown]`."""
     if not (found := FRAME.match(text)):
         return None
-    addr, symbol, module = found.groups()
-    return Frame(int(addr, 16), re.sub(r"\+0x[0-9a-f]+$", "", symbol), module, depth)
+    addr, symbol, offset, module = found.groups()
+    return Frame(int(addr, 16), symbol, int(addr, 16) - int(offset or "0", 16), module)
 
 
 def mapping_of(line):
@@ -48,31 +50,47 @@ class Profile:
     """The mappings and the samples of a text."""
 
     def __init__(self, lines):
-        self.mappings, self.samples, self.lines = {}, [], 0
-        sample, inlined = None, []
+        self.mappings, self.samples, self.lines, self.inlined = {}, [], 0, []
+        sample = None
         for line in lines:
             line, self.lines = line.rstrip("\n"), self.lines + 1
-            if RECORD.search(line):
-                self.map(mapping_of(line))
-                sample = None
-            elif sample and line[:1] in ("\t", " ") and (frame := frame_of(line, len(sample.frames))):
-                if frame.module == "inlined":
-                    inlined.append(frame.symbol)
-                else:
-                    sample.frames.append(frame._replace(inlined=tuple(inlined)))
-                    inlined = []
-            elif begun := SAMPLE.match(line):
-                sample, inlined = self.begin(*begun.groups()), []
+            if sample and (frame := frame_of(line)):
+                self.add(sample, frame)
+            else:
+                self.end(sample)
+                sample = self.begun(line)
+        self.end(sample)
 
-    def map(self, mapped):
-        if mapped:
+    def begun(self, line):
+        """The sample whose frames follow; a sample without a call graph has its one frame in the same line."""
+        if mapped := mapping_of(line):
             self.mappings.setdefault(mapped.path, []).append(mapped)
+        if RECORD.search(line) or not (found := SAMPLE.match(line)):
+            return None
+        process, event, rest = found.groups()
+        frame = frame_of(rest) if rest else None
+        self.samples.append(Sample(process, event, [frame] if frame else [], not rest))
+        return None if rest else self.samples[-1]
 
-    def begin(self, comm, first, second, event, rest):
-        """A sample without a call graph has its one frame in the same line."""
-        frame = frame_of(rest, 0) if rest else None
-        self.samples.append(Sample(first, event, [frame] if frame else [], not rest))
-        return self.samples[-1] if not rest else None
+    def add(self, sample, frame):
+        if self.inlined and self.inlined[0].addr != frame.addr:
+            self.end(sample)
+        if frame.module == INLINED:
+            self.inlined.append(frame)
+        else:
+            self.keep(sample, frame)
+
+    def keep(self, sample, frame):
+        inlined = tuple(call.symbol for call in self.inlined)
+        sample.frames.append(frame._replace(depth=len(sample.frames), inlined=inlined))
+        self.inlined = []
+
+    def end(self, sample):
+        """Where the debug information names a function in another way than its symbol does, as that of `leaf.constprop.0`,
+        perf says of the function itself that it is inlined, and names no file: then it is the last line of its address."""
+        if self.inlined:
+            function = self.inlined.pop()
+            self.keep(sample, function)
 
 
 def profile_of(path):
@@ -89,8 +107,12 @@ class Places:
     each of the two kinds together: the kind that more frames can be, and as said where both can be."""
 
     def __init__(self, profile):
-        self.mappings = profile.mappings
+        self.mappings, self.images, self.known = profile.mappings, Images(), {}
         self.are_places = {has_stack: self.decided(profile, has_stack) for has_stack in (True, False)}
+        for sample in profile.samples:
+            for depth, frame in enumerate(sample.frames):
+                if frame.module == INLINED:
+                    sample.frames[depth] = frame._replace(module=self.module_of(frame))
 
     def decided(self, profile, has_stack):
         place, address = 0, 0
@@ -100,6 +122,24 @@ class Places:
                 place += any(each.place <= frame.addr < each.place + each.end - each.begin for each in mapped)
                 address += any(each.begin <= frame.addr < each.end for each in mapped)
         return place >= address if has_stack else place > address
+
+    def module_of(self, frame):
+        """The file of a function that perf says is inlined: the one that is mapped at its address, or the only one in which a
+        function of such a name begins at its place."""
+        known = frame.begin, frame.symbol
+        if known not in self.known:
+            if self.are_places[True]:
+                found = {path for path in self.mappings if self.begins_in(path, frame)}
+            else:
+                found = {path for path, mappings in self.mappings.items() if mapping_at(mappings, frame.addr)}
+            self.known[known] = found.pop() if len(found) == 1 else NOT_NAMED
+        return self.known[known]
+
+    def begins_in(self, path, frame):
+        """Symbols have the words of the name that perf prints, which is demangled."""
+        image = self.images.of(path)
+        symbol = image.functions().named.get(image.address_of(frame.begin)) if image else None
+        return symbol and any(word in symbol[0] for word in re.findall(r"\w{3,}", frame.symbol.partition("(")[0]))
 
     def place(self, sample, frame):
         """The place in the file that the frame names; None where no mapping has it. Frames but the innermost are places
