@@ -16,11 +16,10 @@ class Counted:
 
     def __init__(self):
         self.counts = collections.defaultdict(collections.Counter)
-        self.total = 0
 
     def read(self, path):
         self.names, self.image, self.addr, self.passed = {}, "", 0, False
-        self.positions, self.events, self.lines = ["line"], [], 0
+        self.positions, self.events, self.lines, self.part = ["line"], [], 0, None
         for line in lines_of(path):
             self.lines += 1
             try:
@@ -31,6 +30,8 @@ class Counted:
                 raise Refused(f"{name_of(path)}: {refused}") from None
         if not self.events:
             raise Refused(f"{name_of(path)}: no text of callgrind, which has a line `events:`")
+        if self.part is not None:
+            raise Refused(f"{name_of(path)}: it does not end with `totals:`: callgrind did not write all of it")
 
     def line(self, line):
         if line[:1] in "0123456789+-*" and line:
@@ -45,17 +46,25 @@ class Counted:
             self.passed = True
         elif line.startswith(("positions:", "events:")):
             self.header(*line.split(":", 1))
+        elif line.startswith("totals:"):
+            self.end(int(line.split()[1 + self.at - len(self.positions)]))
 
     def header(self, word, listed):
         if word == "positions":
             self.positions = listed.split()
         else:
-            self.events = listed.split()
+            self.events, self.part = listed.split(), 0
             if self.positions[0] != "instr":
                 raise Refused(f"it tells no addresses of instructions: {HOW}")
             if "Ir" not in self.events:
                 raise Refused(f"no count of executed instructions (Ir) among its events: {' '.join(self.events)}")
             self.at = len(self.positions) + self.events.index("Ir")
+
+    def end(self, told):
+        """A file may have several parts, which end with the sum of their counts."""
+        if self.part != told:
+            raise Refused(f"{self.part} instructions up to line {self.lines}, where callgrind tells {told}")
+        self.part = None
 
     def cost(self, words):
         place = words[0]
@@ -65,8 +74,11 @@ class Counted:
             self.addr = int(place, 16)
         if not self.passed and len(words) > self.at:
             self.counts[self.image][self.addr] += int(words[self.at])
-            self.total += int(words[self.at])
+            self.part += int(words[self.at])
         self.passed = False
+
+    def total(self):
+        return sum(counts.total() for counts in self.counts.values())
 
     def of(self, path):
         counts = self.counts.get(os.path.realpath(path))

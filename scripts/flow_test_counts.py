@@ -136,7 +136,12 @@ def callgrind_texts(folder):
 def refused(folder, path, out):
     """What can't be read has status 1 and one line that names the file."""
     lines = counted(path, folder, name="lines")[0]
+    with open(out) as text:
+        whole = text.read()
+    cut = write(folder, "cut", whole[:whole.index("totals:")])
+    other = write(folder, "other", whole.replace("totals: ", "totals: 1"))
     for words, told in [((path, lines), "no addresses of instructions"), (("/bin/true", out), "nothing was counted"),
+                        ((path, cut), "did not write all of it"), ((path, other), "where callgrind tells 1"),
                         ((path, path + ".c"), "no text of callgrind"), ((path, out + "x"), "No such file")]:
         ran = tried("scripts/hits_of_callgrind", *words)
         equal(f"status where {told}", (ran.status, ran.out, len(ran.errors.splitlines()), told in ran.errors), (1, "", 1, True))
