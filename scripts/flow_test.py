@@ -8,7 +8,9 @@ import typing
 from flow_parts import TOP, program
 
 SCRIPTS = os.path.join(TOP, "scripts")
-PROGRAMS = ("blz_tool", "blz_fold", "blz_rows", "blz_cover")
+PROGRAMS = tuple(name for name in ("blz_tool", "blz_fold", "blz_rows", "blz_cover", "blz_lines")
+                 if os.path.exists(program(name)))
+LISTING = tuple(name for name in PROGRAMS if name == "blz_lines")  # asked where it is there
 
 
 class Skipped(Exception):

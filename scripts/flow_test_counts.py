@@ -5,7 +5,7 @@ import json
 import os
 import re
 
-from flow_test import Skipped, asked, built, counts_of, equal, functions, holds, needs, run, script, tried, write
+from flow_test import LISTING, Skipped, asked, built, counts_of, equal, functions, holds, needs, run, script, tried, write
 from flow_test_profiles import SOURCE, recorded, reported, script_of
 
 HEADER = """static inline int clamp(int value, int least, int most) {
@@ -256,7 +256,7 @@ def records_of(text):
     return found
 
 
-@needs("valgrind", "gcc", "gcov", "lcov", "readelf", "blz_tool", "blz_rows", "blz_cover")
+@needs("valgrind", "gcc", "gcov", "lcov", "readelf", "blz_tool", "blz_rows", "blz_cover", *LISTING)
 def lcov_of_a_program(folder):
     path = primes(folder)
     out, _ = counted(path, folder, "--dump-instr=yes")
