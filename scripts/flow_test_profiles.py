@@ -26,9 +26,10 @@ def script_of(data, *options):
     return run("perf", "script", "-i", data, "--show-mmap-events", *options).out
 
 
-def reported(data, sort):
-    """The samples by what perf's own report sorts them by."""
+def reported(data, sort, event=""):
+    """The samples, or those of one event, by what perf's own report sorts them by."""
     text = run("perf", "report", "-i", data, "--no-children", "-g", "none", "--no-inline", "--sort", sort, "-n", "--stdio").out
+    text = next((part for part in text.split("of event ") if event and part.startswith(f"'{event}'")), text)
     return {name.strip(): int(count) for count, name in re.findall(r"^\s+[\d.]+%\s+(\d+)\s+(\S.*)$", text, re.M)}
 
 
@@ -145,6 +146,22 @@ def perf_samples_that_are_lost_are_said(folder):
     unmapped = tried("scripts/stacks_of_perf", path, text="\n".join(line for line in text.splitlines() if "RECORD" not in line))
     holds("want of mappings is said", unmapped.status == 1 and "no mapping has their addresses" in unmapped.errors)
     return f"{total} samples of another image, {single} without call graph"
+
+
+@needs("perf", "gcc")
+def perf_samples_of_one_event(folder):
+    path, told = built(folder, "program", SOURCE, "-O2"), []
+    data = recorded(folder, path, "-e", "task-clock")
+    text = script_of(data)
+    for event in ("cpu-clock", "task-clock"):
+        ours = script("hits_of_perf", "--event", event, path, text=text).out
+        told.append(sum(int(line.split()[1]) for line in ours.splitlines()))
+        equal(f"samples of {event}", told[-1], reported(data, "dso", event)["program"])
+    both = script("hits_of_perf", path, text=text)
+    equal("samples of both", sum(int(line.split()[1]) for line in both.out.splitlines()), sum(told))
+    holds("several events are told", "several events" in both.errors and tried(
+        "scripts/hits_of_perf", "--event", "cycles", path, text=text).status == 1)
+    return f"{told[0]} and {told[1]} samples of two events as perf report"
 
 
 RECURSIVE = """#include <stdlib.h>

@@ -1,8 +1,9 @@
 """Reads what `perf script` prints: mappings, samples and their frames, and which kind of addresses they are."""
+import collections
 import re
 import typing
 
-from flow_parts import Refused, lines_of, name_of
+from flow_parts import Refused, lines_of, name_of, told
 from mapped import Images, Mapping, mapping_at, real
 
 MMAP = re.compile(r"^\s*\S.*PERF_RECORD_MMAP2? (-?\d+)/\S+ \[0x([0-9a-f]+)\(0x([0-9a-f]+)\) @ (?:0x)?([0-9a-f]+)[^\]]*\]: \S+ (.*)$")
@@ -93,12 +94,24 @@ class Profile:
             self.keep(sample, function)
 
 
-def profile_of(path):
-    """What a text has, `-` for standard input; refused where it has no sample."""
+def profile_of(path, event):
+    """What a text has, `-` for standard input, of one event or of all; refused where it has no sample."""
     profile = Profile(lines_of(path))
     if not profile.samples:
         raise Refused(f"{name_of(path)}: no sample of perf script in {profile.lines} lines")
+    events = collections.Counter(sample.event for sample in profile.samples)
+    listed = ", ".join(f"{name} {count}" for name, count in events.most_common())
+    if event:
+        profile.samples = [sample for sample in profile.samples if sample.event == event]
+        if not profile.samples:
+            raise Refused(f"{name_of(path)}: no sample of {event}, but of {listed}")
+    elif len(events) > 1:
+        told(f"samples of several events are added up; --event takes one of them: {listed}")
     return profile
+
+
+def event_word(parser):
+    parser.add_argument("--event", metavar="EVENT", help="takes the samples of this event alone, as `cycles:u`")
 
 
 class Places:
