@@ -34,7 +34,7 @@ class Counted:
             raise Refused(f"{name_of(path)}: it does not end with `totals:`: callgrind did not write all of it")
 
     def line(self, line):
-        if line[:1] in "0123456789+-*" and line:
+        if line[:1] in "0123456789+-*" and line and self.part is not None:
             self.cost(line.split())
         elif named := NAMED.match(line):
             word, number, name, plain = named.groups()

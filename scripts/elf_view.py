@@ -26,6 +26,17 @@ class Section(typing.NamedTuple):
     link: int
 
 
+def checked(read):
+    """Refuses an image whose bytes lead a reading astray."""
+    @functools.wraps(read)
+    def kept(self):
+        try:
+            return read(self)
+        except (struct.error, IndexError, ValueError, OverflowError):
+            raise Refused(f"{self.path}: a broken ELF image") from None
+    return kept
+
+
 class Elf:
     """An image; its fields are read as its header says."""
 
@@ -36,11 +47,9 @@ class Elf:
         if self.data[:4] != b"\x7fELF" or len(self.data) < 52:
             raise Refused(f"{path}: not an ELF image")
         self.order, self.is_wide = "<>"[self.data[5] == 2], self.data[4] == 2
-        try:
-            self.read()
-        except (struct.error, IndexError):
-            raise Refused(f"{path}: a broken ELF image") from None
+        self.read()
 
+    @checked
     def read(self):
         words = "HHIQQQIHHHHHH" if self.is_wide else "HHIIIIIHHHHHH"
         kind, _, _, self.entry, segments, sections, _, _, _, count, _, sections_count, names = self.fields(words, 16)
@@ -86,6 +95,7 @@ class Elf:
         return [(section.begin, section.begin + section.size) for section in self.sections if section.flags & EXECUTED]
 
     @functools.cache
+    @checked
     def functions(self):
         """The begins of functions in their order, by begin a name and the end, and the begins by name, from the tables of
         symbols."""
@@ -102,6 +112,7 @@ class Elf:
                     begins.setdefault(self.text(names + name), set()).add(begin)
         return Functions(sorted(found), found, begins)
 
+    @checked
     def build_id(self):
         for section in self.sections:
             if section.kind == NOTES and section.size >= 16:

@@ -184,12 +184,18 @@ def trace_of_a_backtrace(folder):
     frame = r"(\S+ at [^\[\n]*)"
     for kind, pattern in (("module(+0x..)", rf"^{frame}\["), ("absolute", rf"^frame \d+: {frame}$")):
         equal(f"frames of {kind}", [frames_of(found) for found in re.findall(pattern, ran.out, re.M)], theirs)
-    other = "no address\x80\xff here: 0x12 and /nowhere/program+0x1182\n\n"
-    equal("other bytes", script("trace", "--maps", maps, text=other).out, other)
+    other = "no address\x80\xff here: 0x12, a\0b+0x1182 and /nowhere/program+0x1182\n\n"
+    left = script("trace", "--maps", maps, text=other)
+    equal("other bytes", (left.out, "/nowhere/program: no image" in left.errors), (other, True))
     begin = next(addr for addr, name in functions(path).items() if name == "deep")
     both = script("trace", text=f"{path}(deep+0x9)[\n{path}+0x{begin + 8:x}[\n").out.splitlines()
     equal("a function and an offset", both[0], both[1])
-    return f"{len(theirs)} frames in two forms, {sum(map(len, theirs))} names and lines as llvm-symbolizer"
+    fixed = built(folder, "fixed", BACKTRACE, "-O1", "-fno-optimize-sibling-calls", "-no-pie")
+    text = tried(fixed, maps, folder=folder).out
+    places = [int(addr, 16) - 1 for addr in re.findall(rf"^{fixed}\[0x([0-9a-f]+)\]", text, re.M)]
+    ours = [frames_of(found) for found in re.findall(rf"^{frame}$", script("trace", text=text.replace("[", "() [", 1)).out, re.M)]
+    equal("frames of module[..]", ours, [frames for frames in symbolized(fixed, places) if frames[0][1] != "??"])
+    return f"{len(theirs)} frames in two forms, {len(ours)} of a fixed program, as llvm-symbolizer names them"
 
 
 with open(os.path.join(SCRIPTS, "overrun.c")) as text:

@@ -23,7 +23,8 @@ def real(path, known={}):
     """The path without links; kept, since it is asked for each frame."""
     if path not in known:
         path_there = path[:-len(DELETED)] if path.endswith(DELETED) else path
-        known[path] = os.path.realpath(path_there) if path_there.startswith(("/", ".")) else path_there
+        is_path = path_there.startswith(("/", ".")) and "\0" not in path_there
+        known[path] = os.path.realpath(path_there) if is_path else path_there
     return known[path]
 
 
