@@ -84,6 +84,12 @@ def program(name):
     return os.environ.get(name.upper()) or os.path.join(TOP, name)
 
 
+def listed(image, *options):
+    """What blz_lines tells of an image; None where that program is not there."""
+    path = program("blz_lines")
+    return written_by(path, *options, image) if os.path.exists(path) else None
+
+
 def plain_path(directory, path):
     """Where scripts/plain_debug puts the copy of an image."""
     return os.path.join(os.path.abspath(directory), os.path.realpath(path).lstrip("/"))
