@@ -1,5 +1,6 @@
 """What the scripts for users share: their words, inputs and errors, and asking the programs of this repository."""
 import argparse
+import functools
 import os
 import re
 import subprocess
@@ -79,9 +80,17 @@ def written_by(tool, *given):
     return run.stdout
 
 
+def built_at(name):
+    return os.path.join(TOP, "crates", f"{name}_main", "out", f"{name}_main")
+
+
+@functools.cache
 def program(name):
-    """A program of this repository; BLZ_TOOL, BLZ_ROWS, .. name another one."""
-    return os.environ.get(name.upper()) or os.path.join(TOP, name)
+    """A program of this repository, which is built when it is first asked; BLZ_TOOL, BLZ_ROWS, .. name another one."""
+    path = os.environ.get(name.upper()) or os.path.join(TOP, name)
+    if path == os.path.join(TOP, name) and os.path.exists(path) and not os.path.exists(built_at(name)):
+        told(f"{name} is proved and built first, which may take an hour; {name.upper()} names another one")
+    return path
 
 
 def listed(image, *options):

@@ -5,11 +5,11 @@ import shutil
 import subprocess
 import typing
 
-from flow_parts import TOP, program
+from flow_parts import TOP, built_at, program
 
 SCRIPTS = os.path.join(TOP, "scripts")
 PROGRAMS = tuple(name for name in ("blz_tool", "blz_fold", "blz_rows", "blz_cover", "blz_lines")
-                 if os.path.exists(program(name)))
+                 if os.path.exists(os.path.join(TOP, name)))
 LISTING = tuple(name for name in PROGRAMS if name == "blz_lines")  # asked where it is there
 
 
@@ -47,7 +47,7 @@ def missing(tool, is_built):
     """Why a tool or program can't be asked; empty where it can. A program that is not built would be proved first."""
     if tool not in PROGRAMS:
         return "" if shutil.which(tool) else f"{tool} is not there"
-    path = os.path.join(TOP, "crates", f"{tool}_main", "out", f"{tool}_main")
+    path = built_at(tool)
     if is_built and not os.environ.get(tool.upper()) and not (os.path.exists(path) and os.path.getmtime(path) > newest_source()):
         return f"{tool} is not built"
     return ""
