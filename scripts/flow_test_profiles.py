@@ -88,6 +88,52 @@ def perf_stacks_by_frame_pointers(folder):
     return f"{total} samples of {names} functions as in perf report, {leaf} of leaf"
 
 
+SORTING = """#include <algorithm>
+#include <cstdio>
+#include <functional>
+#include <vector>
+struct Heavy {
+    std::vector<int> items;
+    __attribute__((noinline)) Heavy(int count) {
+        for (int index = 0; index < count; index++)
+            items.push_back(index * 7919 % 10007);
+    }
+};
+static __attribute__((noinline)) int fold(const std::function<int(int)> &step, int count) {
+    int sum = 0;
+    for (int index = 0; index < count; index++)
+        sum += step(index);
+    return sum;
+}
+int main() {
+    long sum = 0;
+    for (int round = 0; round < 100; round++) {
+        Heavy heavy(20000);
+        std::sort(heavy.items.begin(), heavy.items.end(), [](int one, int other) { return one % 5000 < other % 5000; });
+        sum += heavy.items[round] + fold([round](int index) { return (index ^ round) % 7; }, 20000);
+    }
+    std::printf("%ld\\n", sum);
+}
+"""
+
+
+@needs("perf", "g++")
+def perf_samples_of_templates(folder):
+    path = built(folder, "program", SORTING, "-O2", compiler="g++")
+    data = recorded(folder, path, "--call-graph", "dwarf")
+    plain, inlined = script_of(data, "--no-inline"), script_of(data)
+    hits = script("hits_of_perf", path, text=plain).out
+    equal("hits without and with inlined lines", script("hits_of_perf", path, text=inlined).out, hits)
+    samples = sum(int(line.split()[1]) for line in hits.splitlines())
+    equal("samples in the program", samples, reported(data, "dso")["program"])
+    stacks, others = (collections.Counter({stack: int(count) for count, stack in map(str.split, script(
+        "stacks_of_perf", path, text=text).out.splitlines())}) for text in (plain, inlined))
+    differ = (stacks - others).total()
+    holds(f"{differ} of {stacks.total()} stacks differ", stacks.total() == others.total() and differ * 20 <= samples)
+    return f"{samples} samples in the program as in perf report, {differ} of {stacks.total()} stacks not the same with " \
+           f"{inlined.count('(inlined)')} inlined lines"
+
+
 def as_addresses(text):
     """A text of perf whose call graphs have addresses of the process in place of places in the files."""
     mapped, out = collections.defaultdict(list), []

@@ -60,7 +60,13 @@ prog 41 1.000002: PERF_RECORD_MMAP2 41/41: [0x7f0000001000(0x1000) @ 0x2000 08:0
 prog 41 1.000003:     250000 cycles:u: 
 \t          4c6010 square+0x10 (inlined)
 \t          4c6010 leaf+0x10 (/p/prog)
+\t          4c6010 square+0x10 (inlined)
+\t          4c6010 leaf+0x10 (/p/prog)
 \t          4c6080 clone+0x40 (inlined)
+\t          4c60c0 part.0+0x40 (/p/prog)
+\t          4c60c0 step+0x40 (inlined)
+\t          4c60c0 part+0x40 (inlined)
+\t          4c6100 main+0x20 (/p/prog)
 \t          4c6100 main+0x20 (/p/prog)
 
 My prog 7 41/42 [002] 1.000004: 1 cpu-clock:pppH:  7f0000001010 operator()(int)+0x10 (/p/lib.so (deleted))
@@ -72,13 +78,14 @@ def lines_of_perf_script(folder):
     profile = Profile(PERF.splitlines(True))
     places = Places(profile)
     first, second = profile.samples
-    equal("frames", [(frame.addr, frame.symbol, frame.inlined) for frame in first.frames],
-          [(0x4c6010, "leaf", ("square",)), (0x4c6080, "clone", ()), (0x4c6100, "main", ())])
-    equal("files", [frame.module for frame in first.frames], ["/p/prog", NOT_NAMED, "/p/prog"])
-    equal("places where both kinds can be", [places.place(first, frame) for frame in first.frames], [0x4c6010, 0x4c607f, 0x4c60ff])
+    frames = [("4c6010", "leaf", "/p/prog", ("square",))] * 2 + [("4c6080", "clone", NOT_NAMED, ()), (
+        "4c60c0", "part", "/p/prog", ("step",))] + [("4c6100", "main", "/p/prog", ())] * 2
+    equal("frames", [(f"{frame.addr:x}", frame.symbol, frame.module, frame.inlined) for frame in first.frames], frames)
+    equal("places where both kinds can be", [places.place(first, frame) for frame in first.frames],
+          [int(frame[0], 16) - (depth > 0) for depth, frame in enumerate(frames)])
     equal("a sample without call graph", (second.process, second.event, second.has_stack, places.place(second, second.frames[0])),
           ("41", "cpu-clock:pppH", False, 0x2010))
-    return "2 samples, 4 frames"
+    return f"2 samples, {len(frames) + 1} frames"
 
 
 BACKTRACES = """Thread 1 (LWP 7):

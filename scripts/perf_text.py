@@ -51,7 +51,7 @@ class Profile:
     """The mappings and the samples of a text."""
 
     def __init__(self, lines):
-        self.mappings, self.samples, self.lines, self.inlined = {}, [], 0, []
+        self.mappings, self.samples, self.lines, self.inlined, self.run = {}, [], 0, 0, []
         sample = None
         for line in lines:
             line, self.lines = line.rstrip("\n"), self.lines + 1
@@ -73,25 +73,26 @@ class Profile:
         self.samples.append(Sample(process, event, [frame] if frame else [], not rest))
         return None if rest else self.samples[-1]
 
-    def add(self, sample, frame):
-        if self.inlined and self.inlined[0].addr != frame.addr:
+    def add(self, sample, line):
+        if self.run and self.run[0].addr != line.addr:
             self.end(sample)
-        if frame.module == INLINED:
-            self.inlined.append(frame)
-        else:
-            self.keep(sample, frame)
-
-    def keep(self, sample, frame):
-        inlined = tuple(call.symbol for call in self.inlined)
-        sample.frames.append(frame._replace(depth=len(sample.frames), inlined=inlined))
-        self.inlined = []
+        self.run.append(line)
 
     def end(self, sample):
-        """Where the debug information names a function in another way than its symbol does, as that of `leaf.constprop.0`,
-        perf says of the function itself that it is inlined, and names no file: then it is the last line of its address."""
-        if self.inlined:
-            function = self.inlined.pop()
-            self.keep(sample, function)
+        """Makes frames of the lines of one address. With inlined calls a frame has several, and so have more frames of that
+        address, of a function that calls itself. Its last line is the function itself, which perf says is inlined too where
+        the debug information has another name for it, as for `leaf.constprop.0`; another line may name the file then."""
+        run, self.run = self.run, []
+        size = 1
+        if any(line.module == INLINED for line in run):
+            said = [(line.symbol, line.module) for line in run]
+            size = next(size for size in range(1, len(run) + 1) if said == said[:size] * (len(run) // size))
+            self.inlined += len(run)
+        for at in range(0, len(run), size):
+            *calls, function = run[at:at + size]
+            module = next((line.module for line in run[at:at + size] if line.module != INLINED), INLINED)
+            sample.frames.append(function._replace(module=module, depth=len(sample.frames), inlined=tuple(
+                call.symbol for call in calls if call.module == INLINED)))
 
 
 def profile_of(path, event):
@@ -99,6 +100,8 @@ def profile_of(path, event):
     profile = Profile(lines_of(path))
     if not profile.samples:
         raise Refused(f"{name_of(path)}: no sample of perf script in {profile.lines} lines")
+    if profile.inlined:
+        told("perf added inlined calls, which may hide or double a frame: perf script --no-inline adds none")
     events = collections.Counter(sample.event for sample in profile.samples)
     listed = ", ".join(f"{name} {count}" for name, count in events.most_common())
     if event:
