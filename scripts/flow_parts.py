@@ -122,6 +122,8 @@ def answered(image, addresses, *options, plain=None):
     made a copy of the image below a directory, the copy is asked."""
     found, left = {}, sorted(set(addresses))
     if plain and os.path.exists(copy := plain_path(plain, image)):
+        if os.path.getmtime(copy) < os.path.getmtime(image):
+            raise Refused(f"{image}: newer than its copy {copy}, which scripts/plain_debug makes anew")
         image, options = copy, [*options, "--debug-dirs", plain]
     for begin in range(0, len(left), ASKED_AT_ONCE):
         asked = [f"{addr:x}" for addr in left[begin:begin + ASKED_AT_ONCE]]
