@@ -177,6 +177,47 @@ def perf_stacks_over_all_images(folder):
     return f"{sum(everything.values())} samples, of them " + ", ".join(f"{name} {count}" for name, count in sorted(ours.items()))
 
 
+LIBRARY = """static inline __attribute__((always_inline)) unsigned mix(unsigned number) {
+    for (unsigned index = 0; index < 40; index++)
+        number = number * 31 + (number >> 3) + index;
+    return number;
+}
+__attribute__((noinline)) unsigned NAME(unsigned count, unsigned (*next)(unsigned)) {
+    unsigned sum = 0;
+    for (unsigned index = 0; index < count; index++)
+        sum += mix(index ^ sum);
+    return sum + (next ? next(count) : 0);
+}
+"""
+MAIN = """unsigned inner(unsigned count, unsigned (*next)(unsigned));
+static unsigned back(unsigned count) {
+    return outer(count, 0);
+}
+int main(void) {
+    unsigned sum = 0;
+    for (unsigned round = 0; round < 1500; round++)
+        sum += inner(1000 + round % 7, back);
+    return sum == 1;
+}
+"""
+
+
+@needs("perf", "gcc", "nm", "blz_tool")
+def perf_stacks_of_two_images(folder):
+    library = built(folder, "libinner.so", LIBRARY.replace("NAME", "inner"), "-O2", "-shared", "-fPIC")
+    told = []
+    for options in ((), ("-no-pie",)):
+        path = built(folder, "program", LIBRARY.replace("NAME", "outer") + MAIN, "-O2", *options, "-Wl,--no-as-needed", library)
+        data = recorded(folder, path, "--call-graph", "dwarf")
+        folded = counts_of(script("folded_of_perf", path, library, text=script_of(data, "--no-inline")).out)
+        theirs = {name: reported(data, "sym")[f"[.] {name}"] for name in ("inner", "outer")}
+        ours = {name: sum(count for stack, count in folded.items() if re.search(f"(^|;){name}(;mix)?$", stack)) for name in theirs}
+        equal("samples by function", ours, theirs)
+        holds("calls are inlined in both", all(any(stack.endswith(f"{name};mix") for stack in folded) for name in theirs))
+        told.append(" and ".join(map(str, theirs.values())))
+    return f"{'; '.join(told)} samples in a library and in a program, loaded anywhere and fixed, as perf report"
+
+
 @needs("perf", "gcc")
 def perf_samples_that_are_lost_are_said(folder):
     path, other = built(folder, "program", SOURCE, "-O2"), built(folder, "other", SOURCE, "-O1")
