@@ -10,7 +10,7 @@ HOW = "run valgrind --tool=callgrind with --dump-instr=yes"
 
 
 class Counted:
-    """The counts by image and address of the files that were read. A name stands beside its number where it comes first; an
+    """The counts by image and address of the files that were read. A name is beside its number where it comes first; an
     address may be told by its difference to the one before, or by `*` where it is the same; the line behind `calls=` has what
     the callee cost, and the one behind a jump has no cost."""
 

@@ -34,7 +34,7 @@ def told(message):
 
 
 def words(description):
-    """The parser of a script's words, whose help is what stands at its head."""
+    """The parser of a script's words, whose help is the text at its head."""
     return argparse.ArgumentParser(prog=NAME, description=description, formatter_class=argparse.RawDescriptionHelpFormatter)
 
 

@@ -115,7 +115,7 @@ def holds(what, condition):
 
 
 def counts_of(text):
-    """Folded stacks or other lines that end in a count, by what stands before it."""
+    """Folded stacks or other lines that end in a count, by what is before it."""
     found = {}
     for line in text.splitlines():
         name, _, count = line.rpartition(" ")

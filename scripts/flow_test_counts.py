@@ -264,7 +264,7 @@ def lcov_of_a_program(folder):
     text = script("lcov_of_cover", path, text=asked("blz_cover", path, hits)).out
     ours, info = records_of(text), write(folder, "ours.info", text)
     same = "SF:/a/c.c\nDA:3,9\nLF:1\nLH:1\nend_of_record\n"
-    holds("paths stand without ..", same in script("lcov_of_cover", text="/a/b/../c.c:3 4\n/a/c.c:3 5\nrest 0\ntotal 9\n").out)
+    holds("paths have no ..", same in script("lcov_of_cover", text="/a/b/../c.c:3 4\n/a/c.c:3 5\nrest 0\ntotal 9\n").out)
     summary = run("lcov", "--summary", info).out + run("lcov", "--list", info).out
     gcov_lines(folder, "program.c", "gcc", "other.c")
     run("lcov", "--capture", "--directory", folder, "--output-file", os.path.join(folder, "theirs.info"), folder=folder)

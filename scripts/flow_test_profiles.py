@@ -63,7 +63,7 @@ def compared_with_report(folder, path, data):
     alone = counts_of(asked("blz_fold", path, write(folder, "stacks", stacks.out)))
     in_image = sum(count for stack, count in folded.items() if any(name in known for name in stack.split(";")))
     equal("samples with a frame of the image", sum(alone.values()), in_image)
-    holds("the loop of square stands apart", sum(count for stack, count in alone.items() if stack.endswith("leaf;square")))
+    holds("the loop of square is a frame of its own", sum(count for stack, count in alone.items() if stack.endswith("leaf;square")))
     return sum(theirs.values()), len(theirs.keys() & known), theirs["leaf"]
 
 
