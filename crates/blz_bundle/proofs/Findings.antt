@@ -85,7 +85,7 @@ refused_by view (Err y) failed P e is refusal = subst (IsRefusal P failed) (sym 
 -- a refusal of one step is one of another
 pub refusal_on : {A B : Type 0} (P : Opened A → Type 0) (Q : Opened B → Type 0) (F G : Type 0) (e : Fault) → (F → G) → ((k : ErrorKind) (v : Option (Bytes × Bytes)) → P (Refused k v) → Q (Refused k v)) → IsRefusal P F e → IsRefusal Q G e
 refusal_on P Q F G e rose on (inl memory) = inl memory
-refusal_on P Q F G e rose on (inr (inl fault)) = inr (inl (record { kind = fault.kind; counted = rose fault.counted }))
+refusal_on P Q F G e rose on (inr (inl fault)) = inr (inl (record { kind = fault.kind; counted = rose fault.counted; no_values = fault.no_values }))
 refusal_on P Q F G e rose on (inr (inr tells)) = inr (inr (record { values = tells.values; is_found = on e.kind tells.values tells.is_found; kept = tells.kept }))
 
 -- a call that ends as another does
@@ -95,22 +95,22 @@ concludes_on view wider (Ok x) F G P Q rose on refused is = on (view x) is
 concludes_on view wider (Err e) F G P Q rose on refused is = refusal_on P Q F G e rose refused is
 
 -- what is found is refused, without values
-pub refusal_tells : {A : Type 0} (P : Opened A → Type 0) (failed : Type 0) (e : Fault) → P (Refused e.kind None) → IsRefusal P failed e
-refusal_tells P failed e is = inr (inr (record { values = None; is_found = is; kept = tt }))
+pub refusal_tells : {A : Type 0} (P : Opened A → Type 0) (failed : Type 0) (e : Fault) → P (Refused e.kind None) → (e.kind ≡ kind.NotFound → e.mismatch ≡ None) → IsRefusal P failed e
+refusal_tells P failed e is kept = inr (inr (record { values = None; is_found = is; kept = kept }))
 
 -- a failed read
 pub read_refuses : {A Z : Type 0} (contents : Option Contents) (asked path : Bytes) (fault : FilesFault) (before now : ℕ) (step : Answers → Opened A) → asked ≡ path → ReadTells {Z = Z} contents asked (Err fault) → HasFilesCause {T = Vec ℕ Z} before now (Err fault)
     → ((a : Answers) → a.held path ≡ None → step a ≡ Refused kind.NotFound None) → IsRefusal (Finds contents step) (Rose before now) (error_from fault)
-read_refuses {Z = Z} contents asked path NotFound before now step at tells cause is = refusal_tells _ _ (error_from NotFound) (read_lacks Z contents asked path NotFound step _ at refl tells is)
-read_refuses contents asked path Denied before now step at tells cause is = inr (inl (record { kind = tt; counted = cause.counted }))
-read_refuses contents asked path Failed before now step at tells cause is = inr (inl (record { kind = tt; counted = cause.counted }))
+read_refuses {Z = Z} contents asked path NotFound before now step at tells cause is = refusal_tells _ _ (error_from NotFound) (read_lacks Z contents asked path NotFound step _ at refl tells is) (λ missing. refl)
+read_refuses contents asked path Denied before now step at tells cause is = inr (inl (record { kind = tt; counted = cause.counted; no_values = refl }))
+read_refuses contents asked path Failed before now step at tells cause is = inr (inl (record { kind = tt; counted = cause.counted; no_values = refl }))
 read_refuses contents asked path Memory before now step at tells cause is = inl refl
 
 -- a failed call that never finds that nothing is there
 pub fault_refuses : {A T : Type 0} (P : Opened A → Type 0) (fault : FilesFault) (before now : ℕ) → fault ≢ NotFound → HasFilesCause {T = T} before now (Err fault) → IsRefusal P (Rose before now) (error_from fault)
 fault_refuses P NotFound before now never cause = absurd (never refl)
-fault_refuses P Denied before now never cause = inr (inl (record { kind = tt; counted = cause.counted }))
-fault_refuses P Failed before now never cause = inr (inl (record { kind = tt; counted = cause.counted }))
+fault_refuses P Denied before now never cause = inr (inl (record { kind = tt; counted = cause.counted; no_values = refl }))
+fault_refuses P Failed before now never cause = inr (inl (record { kind = tt; counted = cause.counted; no_values = refl }))
 fault_refuses P Memory before now never cause = inl refl
 
 -- the same, from an earlier count on

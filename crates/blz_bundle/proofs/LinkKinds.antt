@@ -1,5 +1,5 @@
 -- A link section breaks as invalid data, or is compressed.
-use Rattle.std.proofs.Common.{◌≡◌, ℕ, ◌+◌, ◌-◌, ◌<◌, ◌≤◌, Bool, true, false, cond, List, [], ◌∷◌, length, get_or, drop, map, Option, Some, None, Ok, Err, refl, sym, ap, arith}
+use Rattle.std.proofs.Common.{◌≡◌, ◌≢◌, ℕ, ◌+◌, ◌-◌, ◌<◌, ◌≤◌, Bool, true, false, cond, List, [], ◌∷◌, length, get_or, drop, map, Option, Some, None, Ok, Err, refl, sym, ap, subst, arith}
 use Rattle.std.specs.Prelude.{◌==◌, ⊤, codes, not, slice_get, nat_lt, if◌then◌else◌}
 use Rattle.std.specs.List.{position_from}
 use Rattle.std.specs.Str.{bytes_eq, is_utf8}
@@ -8,7 +8,7 @@ use Rattle.std.proofs.lemmas.Option.{slice_get-get_or}
 use Rattle.blz_error.specs.Texts.{Bytes}
 use Rattle.blz_error.specs.Reports.{fault_of}
 use Rattle.blz_error.specs.declared.kind.ErrorKind.{ErrorKind}
-use Rattle.blz_error.specs.declared.kind.ErrorKind.TheVariants.{InvalidData, Unsupported}
+use Rattle.blz_error.specs.declared.kind.ErrorKind.TheVariants.{InvalidData, NotFound, Unsupported}
 use Rattle.blz_model.specs.declared.byte_order.ByteOrder.{ByteOrder}
 use Rattle.blz_model.specs.Part.{Part, Good, Broken, ◌>>=◌, all_good}
 use Rattle.blz_model.specs.LebNumbers.{uleb}
@@ -25,7 +25,7 @@ use Rattle.blz_image.specs.Images.{Elf, elf_of, name_table, names_of, section_na
 use Rattle.blz_links.specs.LinkChecks as checks
 use Rattle.blz_links.specs.LinkChecks.{Checked, as_part, debug_link_of, debug_altlink_of, debug_sup_of, or_text, must, target, is_empty, debug_link_checks, debug_altlink_checks, flag_of, sup_path, sup_checksum, sup_rest, debug_sup_checks}
 use Rattle.blz_links.specs.LinkReads.{found, if_found, ordered_data, linked_data, said, link_in, debug_link_in, debug_altlink_in, debug_sup_in}
-use Rattle.blz_bundle.proofs.Marks.{Marks, marks_good, marks_broken, marks_check, marks_bind, marks_if}
+use Rattle.blz_bundle.proofs.Marks.{Marks, OnMark, marks_good, marks_broken, marks_check, marks_bind, marks_if}
 
 -- ---- the data of a section
 
@@ -214,3 +214,20 @@ marks_altlink K invalid form image = marks_link K invalid form image _ (λ order
 
 pub marks_sup : (K : ErrorKind → Type 0) → K InvalidData → K Unsupported → (image : Bytes) → Marks K (debug_sup_in image)
 marks_sup K invalid form image = marks_link K invalid form image _ debug_sup_of (λ order bytes. marks_checked K _ (errs_sup K invalid order bytes))
+
+-- ---- a link section that breaks is no file that is not there
+
+abbrev pub IsThere : ErrorKind → Type 0
+IsThere k = k ≢ NotFound
+
+never_missing : {A : Type 0} (p : Part A) (k : ErrorKind) → Marks IsThere p → p ≡ Broken k → IsThere k
+never_missing {A = A} p k marks broken = let P : Part A → Type 0 = OnMark IsThere in subst P broken marks.kind
+
+pub link_never_missing : (image : Bytes) (k : ErrorKind) → debug_link_in image ≡ Broken k → IsThere k
+link_never_missing image k broken = never_missing _ k (marks_debug_link IsThere (λ same. cc) (λ same. cc) image) broken
+
+pub altlink_never_missing : (image : Bytes) (k : ErrorKind) → debug_altlink_in image ≡ Broken k → IsThere k
+altlink_never_missing image k broken = never_missing _ k (marks_altlink IsThere (λ same. cc) (λ same. cc) image) broken
+
+pub sup_never_missing : (image : Bytes) (k : ErrorKind) → debug_sup_in image ≡ Broken k → IsThere k
+sup_never_missing image k broken = never_missing _ k (marks_sup IsThere (λ same. cc) (λ same. cc) image) broken

@@ -97,14 +97,14 @@ opens_part (Some c) path dirs found is = ap part_of is
 opening_cause : (contents : Option Contents) (path : Bytes) (dirs : List Bytes) (failed : Type 0) (r : Result ImageSet Fault) → Concludes (λ b. b) r failed (OpensTo contents path dirs)
     → IfErr r (λ e. (e.kind ≡ kind.OutOfMemory) ⊎ HasKindCause e.kind failed (Opens contents path dirs (Broken e.kind)))
 opening_cause contents path dirs failed (Ok b) is = tt
-opening_cause contents path dirs failed (Err e) (inl memory) = inl memory
+opening_cause contents path dirs failed (Err e) (inl memory) = inl (ap (λ e. e.kind) memory)
 opening_cause contents path dirs failed (Err e) (inr (inl fault)) = inr (fault_cause e.kind _ _ fault.kind fault.counted)
 opening_cause contents path dirs failed (Err e) (inr (inr tells)) =
     inr (mark_cause e.kind _ _ (opens_marks contents path dirs e.kind tells.values tells.is_found) (opens_part contents path dirs (Refused e.kind tells.values) tells.is_found))
 
 opening_kinds : (contents : Option Contents) (path : Bytes) (dirs : List Bytes) (failed : Type 0) (r : Result ImageSet Fault) → Concludes (λ b. b) r failed (OpensTo contents path dirs) → IfErr r (λ e. IsOpeningKind e.kind)
 opening_kinds contents path dirs failed (Ok b) is = tt
-opening_kinds contents path dirs failed (Err e) (inl memory) = let P : ErrorKind → Type 0 = λ k. IsOpeningKind k in subst P (sym memory) tt
+opening_kinds contents path dirs failed (Err e) (inl memory) = let P : ErrorKind → Type 0 = λ k. IsOpeningKind k in subst P (sym (ap (λ e. e.kind) memory)) tt
 opening_kinds contents path dirs failed (Err e) (inr (inl fault)) = opening_fault e.kind fault.kind
 opening_kinds contents path dirs failed (Err e) (inr (inr tells)) = opening_mark e.kind (opens_marks contents path dirs e.kind tells.values tells.is_found)
 
@@ -115,7 +115,7 @@ lacks (Some c) path dirs v is = opened_lacks c path dirs v is
 opening_lacks : (contents : Option Contents) (path : Bytes) (dirs : List Bytes) (failed : Type 0) (r : Result ImageSet Fault) → Concludes (λ b. b) r failed (OpensTo contents path dirs)
     → IfErr r (λ e. e.kind ≡ kind.NotFound → Lacks contents path)
 opening_lacks contents path dirs failed (Ok b) is = tt
-opening_lacks contents path dirs failed (Err e) (inl memory) = λ not_found. absurd cc
+opening_lacks contents path dirs failed (Err e) (inl memory) = λ not_found. absurd (let wants : e.kind ≡ kind.OutOfMemory = ap (λ e. e.kind) memory in cc)
 opening_lacks contents path dirs failed (Err e) (inr (inl fault)) = λ not_found. let P : ErrorKind → Type 0 = λ k. IsFaultKind k in absurd (subst P not_found fault.kind)
 opening_lacks contents path dirs failed (Err e) (inr (inr tells)) = λ not_found. let P : ErrorKind → Type 0 = λ k. OpensTo contents path dirs (Refused k tells.values) in lacks contents path dirs tells.values (subst P not_found tells.is_found)
 
