@@ -1,16 +1,15 @@
 #!/usr/bin/env python3
-"""Writes crates/blz_cover_main/data/a.elf, the image of the stored run of blz_cover: an ELF64 executable in little-endian
+"""Makes the image of the stored run of blz_cover, crates/blz_cover_main/data/a.elf: an ELF64 executable in little-endian
 order with one unit of DWARF 4 in /p. Its root announces [0x1000, 0x1020), which one function covers; its line program has
 rows of line 2 of `a.c` at 0x1004 and 0x1015, in a sequence that ends at 0x1018. What the program prints for data/hits is in
 crates/blz_cover_main/stdout, written by hand."""
-import os
 import struct
 
 from image_parts import DW_AT_COMP_DIR, DW_AT_NAME, DW_AT_STMT_LIST, DW_FORM_SEC_OFFSET, DW_FORM_STRING
 from image_parts import DW_TAG_COMPILE_UNIT, DW_TAG_SUBPROGRAM, RANGE
 from image_parts import COPY, END_SEQUENCE, Abbreviation, Section, abbreviations, advance, entry, image, set_address, with_length
+from stored_image import write_or_check
 
-TOP = os.path.dirname(os.path.dirname(os.path.abspath(__file__)))
 UNIT, FUNCTION = 1, 2
 SHAPES = {
     UNIT: Abbreviation(DW_TAG_COMPILE_UNIT, 1, [(DW_AT_COMP_DIR, DW_FORM_STRING), (DW_AT_STMT_LIST, DW_FORM_SEC_OFFSET)] + RANGE),
@@ -33,10 +32,10 @@ def lines():
     return with_length(struct.pack("<HI", 4, len(head)) + head + opcodes)
 
 
-def main():
+def contents():
     sections = [Section(".debug_abbrev", abbreviations(SHAPES)), Section(".debug_info", units()), Section(".debug_line", lines())]
-    with open(os.path.join(TOP, "crates", "blz_cover_main", "data", "a.elf"), "wb") as out:
-        out.write(image(sections))
+    return image(sections)
 
 
-main()
+if __name__ == "__main__":
+    write_or_check(__doc__, contents())

@@ -1,14 +1,13 @@
 #!/usr/bin/env python3
-"""Writes crates/blz_rows_main/data/a.elf, the image of that program's stored run: an ELF64 executable in little-endian
+"""Makes the image of the stored run of blz_rows, crates/blz_rows_main/data/a.elf: an ELF64 executable in little-endian
 order with one unit of DWARF 4, `a.c` in /p. Its line program has one sequence, [0x1004, 0x1018), with rows of line 2 at
 0x1004 and 0x1015. What the program prints of it is in crates/blz_rows_main/stdout, written by hand."""
-import os
 import struct
 
 from image_parts import DW_AT_COMP_DIR, DW_AT_NAME, DW_AT_STMT_LIST, DW_FORM_SEC_OFFSET, DW_FORM_STRING, DW_TAG_COMPILE_UNIT
 from image_parts import COPY, END_SEQUENCE, Abbreviation, Section, abbreviations, advance, entry, image, set_address, with_length
+from stored_image import write_or_check
 
-TOP = os.path.dirname(os.path.dirname(os.path.abspath(__file__)))
 UNIT = {1: Abbreviation(DW_TAG_COMPILE_UNIT, 0, [(DW_AT_NAME, DW_FORM_STRING), (DW_AT_COMP_DIR, DW_FORM_STRING),
                                                  (DW_AT_STMT_LIST, DW_FORM_SEC_OFFSET)])}
 
@@ -26,10 +25,10 @@ def line_program():
     return with_length(struct.pack("<HI", 4, len(head)) + head + opcodes)
 
 
-def main():
+def contents():
     sections = [Section(".debug_abbrev", abbreviations(UNIT)), Section(".debug_info", unit()), Section(".debug_line", line_program())]
-    with open(os.path.join(TOP, "crates", "blz_rows_main", "data", "a.elf"), "wb") as out:
-        out.write(image(sections))
+    return image(sections)
 
 
-main()
+if __name__ == "__main__":
+    write_or_check(__doc__, contents())
