@@ -1,5 +1,5 @@
 -- What was made is what the words and files give.
-use Rattle.std.proofs.Common.{◌≡◌, ℕ, ◌⊎◌, inl, inr, Option, Some, None, Result, Ok, Err, Vec, refl, sym, ap, ◌∙◌}
+use Rattle.std.proofs.Common.{◌≡◌, ℕ, ◌⊎◌, inl, inr, Option, Some, None, Result, Ok, Err, Vec, refl, sym, ap, subst, ◌∙◌}
 use Rattle.std.specs.FinMap as map
 use Rattle.blz_error.specs.Texts.{Bytes}
 use Rattle.blz_error.specs.declared.kind.ErrorKind.{ErrorKind}
@@ -78,6 +78,12 @@ known_cover contents paths found finds = finds.same ∙ ap (λ p. found_opened p
 pub known : (contents : Contents) (paths : Option (Bytes × Bytes)) (found : Found) → FindsFor paths (Some contents) found → found ≡ found_for contents paths
 known contents None found is = is
 known contents (Some paths) found is = known_cover contents paths found is
+
+-- the same, where the contents are known by another name
+pub found_known : (contents : Option Contents) (c : Contents) (paths : Option (Bytes × Bytes)) (found : Found) → contents ≡ Some c → FindsFor paths contents found → found ≡ found_for c paths
+found_known contents c paths found told finds =
+    let P : Option Contents → Type 0 = λ contents. FindsFor paths contents found in
+    known c paths found (subst P told finds)
 
 -- an error of opening is for want of memory, or has its cause
 pub opening_cause : (contents : Option Contents) (image hits : Bytes) (k : ErrorKind) (F : Type 0) → (k ≡ kind.OutOfMemory) ⊎ HasKindCause k F (Opens contents image default_dirs (Broken k))

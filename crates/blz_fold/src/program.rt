@@ -1,7 +1,7 @@
 //! The top call.
-ghost use Rattle.std.specs.Prelude.{◌≡◌, ◌<◌, ◌≤◌, ◌^◌, map, string_bytes};
+ghost use Rattle.std.specs.Prelude.{◌≡◌, ◌<◌, ◌≤◌, ◌^◌, None, map, string_bytes};
 ghost use Rattle.blz_program.specs.Programs.{texts_of};
-ghost use Rattle.blz_program.specs.Runs.{IsAnswered, IsKnown, IsMade};
+ghost use Rattle.blz_program.specs.Runs.{FilesFail, IsAnswered, IsKnown, IsMade};
 ghost use Rattle.blz_resolver.specs.BundleViews.{bundle_view};
 ghost use Rattle.blz_resolver.specs.Counts.{Rose};
 ghost use Rattle.blz_resolver.specs.Outcomes.{FilesStay};
@@ -46,7 +46,8 @@ pub fn run_fold<F: Files, O: Orders, S: Sink, E: Sink>(
     // Each status has its outcome, with the cause, the bytes on `out` and the line on `err`.
     ensures caused { IsAnswered fold_texts result
         (Finds (map string_bytes words.now) (F.contents files.old))
-        (Rose (F.faults files.old) (F.faults files.new))
+        (FilesFail (asked (map string_bytes words.now))
+        (Rose (F.faults files.old) (F.faults files.new)))
         S.taken S.faults out.old out.new E.taken E.faults err.old err.new }
 
     // Where the contents are told and nothing counted a fault, what is found decides, or there was no memory.
@@ -54,6 +55,10 @@ pub fn run_fold<F: Files, O: Orders, S: Sink, E: Sink>(
         (λ c. found_for c (asked (map string_bytes words.now)))
         (Rose (F.faults files.old) (F.faults files.new))
         (Rose (S.faults out.old) (S.faults out.new)) result }
+
+    // Words that are not of their form give 2, and no file is asked.
+    ensures malformed { asked (map string_bytes words.now) ≡ None → result ≡ 2 }
+    ensures unasked { asked (map string_bytes words.now) ≡ None → files.new ≡ files.old }
 
     ensures stay { FilesStay F.contents F.stamps F.faults files.old files.new }
     ensures out_count { S.faults out.old ≤ S.faults out.new }
@@ -100,7 +105,10 @@ fn made_of_words<F: Files, O: Orders>(
     orders: &mut O,
 ) -> Result<Vec<u8>, Outcome>
     ensures made { IsMade (Finds (map string_bytes words.now) (F.contents files.old))
-        (Rose (F.faults files.old) (F.faults files.new)) result }
+        (FilesFail (asked (map string_bytes words.now))
+        (Rose (F.faults files.old) (F.faults files.new))) result }
+    ensures malformed { asked (map string_bytes words.now) ≡ None → result ≡ Err Outcome.Usage }
+    ensures unasked { asked (map string_bytes words.now) ≡ None → files.new ≡ files.old }
     ensures stay { FilesStay F.contents F.stamps F.faults files.old files.new }
 {
     match Question::from_words(words) {

@@ -1,5 +1,5 @@
 -- How a run ends, from what was made to what it found.
-use Rattle.std.proofs.Common.{◌≡◌, ◌⊎◌, ℕ, ◌≤◌, Option, Result, Ok, Err, Vec, refl, ap, subst, inl, inr, arith}
+use Rattle.std.proofs.Common.{◌≡◌, ◌⊎◌, ℕ, ◌≤◌, Option, Some, None, Result, Ok, Err, Vec, refl, ap, subst, inl, inr, arith}
 use Rattle.blz_error.specs.Texts.{Bytes}
 use Rattle.blz_error.specs.declared.kind.ErrorKind.{ErrorKind}
 use Rattle.blz_error.specs.declared.kind.ErrorKind.TheVariants as kind
@@ -7,7 +7,7 @@ use Rattle.blz_resolver.specs.Counts.{Rose}
 use Rattle.blz_resolver.specs.FormatKinds.{IsFormatKind}
 use Rattle.blz_resolver.specs.Outcomes.{HasKindCause}
 use Rattle.blz_program.specs.Outcomes.{ProgramTexts, line_for, refusal_of, status_of}
-use Rattle.blz_program.specs.Runs.{EndsBy, Found, HasOutcome, IsCaused, IsMade, IsText, TellsLine, Mark, status_for}
+use Rattle.blz_program.specs.Runs.{EndsBy, FilesFail, Found, HasOutcome, IsCaused, IsMade, IsText, TellsLine, Mark, status_for}
 use Rattle.blz_program.specs.declared.outcome.Outcome.{Outcome}
 use Rattle.blz_program.specs.declared.outcome.Outcome.TheVariants.{Done, Refused, Usage, BadLine, WriteFailed, OutOfMemory}
 
@@ -145,3 +145,8 @@ pub HasOutcome-known : (status : ℕ) (Finds : Found → Type 0) (found : Found)
     → HasOutcome status (λ o. IsCaused o Finds old new F S × Tells o) → ((f : Found) → Finds f → f ≡ found) → ¬ F → (S → ¬ (IsText found))
     → (status ≡ 4) ⊎ (status ≡ status_for found)
 HasOutcome-known status Finds found old new F S Tells (o, same, both) known no_f no_s = rw same (status_when_known o Finds found old new F S both.0 known no_f no_s)
+
+-- where no failure was counted, the files failed for nothing that was asked
+pub nothing_failed : {A : Type 0} (asking : Option A) (failed : Type 0) → ¬ failed → ¬ (FilesFail asking failed)
+nothing_failed None failed not = λ h. h
+nothing_failed (Some question) failed not = not

@@ -1,5 +1,5 @@
 -- What a run does, and the cause of each status.
-use Rattle.std.specs.Prelude.{◌≡◌, ◌⊎◌, ◌<◌, ℕ, ⊤, ◌++◌, length, Option, Some, Result, Ok, Err}
+use Rattle.std.specs.Prelude.{◌≡◌, ◌⊎◌, ◌<◌, ℕ, ⊤, ◌++◌, length, Option, Some, None, Result, Ok, Err}
 use Rattle.std.specs.Io.KnownBytes.{Appends, Keeps}
 use Rattle.std.specs.declared.vec.Vec.{Vec}
 use Rattle.blz_error.specs.Texts.{Bytes}
@@ -32,6 +32,11 @@ IsText (Text text) = ⊤
 IsText (Mark k) = ⊥
 IsText Malformed = ⊥
 IsText (Line line fault) = ⊥
+
+-- The words ask for something, and a failure of the files was counted. Words that ask for nothing read no files.
+abbrev pub FilesFail : {A : Type 0} → Option A → Type 0 → Type 0
+FilesFail None failed = ⊥
+FilesFail (Some question) failed = failed
 
 -- a front of the text was written, and not the whole
 pub record AppendsFront (old new : Option Bytes) (text : Bytes) : Type 0 where

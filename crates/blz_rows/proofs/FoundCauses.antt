@@ -11,7 +11,7 @@ use Rattle.blz_resolver.specs.FormatKinds.{IsFormatKind, IsMemoryOrFormat}
 use Rattle.blz_resolver.specs.Images.{ImageSet}
 use Rattle.blz_resolver.specs.Opening.{Opens, default_dirs}
 use Rattle.blz_resolver.specs.Outcomes.{HasKindCause}
-use Rattle.blz_rows.specs.Runs.{FilesFail, Finds, Prints, found_for, found_in, printed, text_for}
+use Rattle.blz_rows.specs.Runs.{Finds, Prints, found_for, found_in, printed, text_for}
 use Rattle.blz_rows.specs.Words.{Question}
 
 -- opening is refused, so nothing is printed
@@ -47,7 +47,3 @@ pub found_known : (contents : Option Contents) (c : Contents) (asking : Option Q
 found_known contents c asking found told finds =
     let P : Option Contents → Type 0 = λ contents. Finds asking contents found in
     known_told c asking found (subst P told finds)
-
-pub nothing_failed : (asking : Option Question) (failed : Type 0) → ¬ failed → ¬ (FilesFail asking failed)
-nothing_failed None failed not = λ h. h
-nothing_failed (Some question) failed not = not

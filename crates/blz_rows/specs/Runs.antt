@@ -56,11 +56,6 @@ abbrev pub Finds : Option Question → Option Contents → Found → Type 0
 Finds None contents found = found ≡ ending.Malformed
 Finds (Some question) contents found = Gives contents question found
 
--- the words ask for an image, and a failure of the files was counted
-abbrev pub FilesFail : Option Question → Type 0 → Type 0
-FilesFail None failed = ⊥
-FilesFail (Some question) failed = failed
-
 -- what is found, where the files tell their contents
 abbrev pub found_for : Contents → Option Question → Found
 found_for contents None = ending.Malformed

@@ -2,13 +2,13 @@
 ghost use Rattle.std.specs.Prelude.{◌≡◌, ◌⊎◌, ◌<◌, ◌≤◌, None, IfOk, IfErr, length, map, string_bytes};
 ghost use Rattle.blz_model.specs.Part.{Gives, Good, Broken};
 ghost use Rattle.blz_program.specs.Programs.{texts_of};
-ghost use Rattle.blz_program.specs.Runs.{IsAnswered, IsKnown, IsMade};
+ghost use Rattle.blz_program.specs.Runs.{FilesFail, IsAnswered, IsKnown, IsMade};
 ghost use Rattle.blz_resolver.specs.Counts.{Rose};
 ghost use Rattle.blz_resolver.specs.FormatKinds.{IsMemoryOrFormat};
 ghost use Rattle.blz_resolver.specs.Outcomes.{FilesStay, HasKindCause};
 ghost use Rattle.blz_rows.specs.QuestionViews.{question_view};
 ghost use Rattle.blz_rows.specs.Runs as rows;
-ghost use Rattle.blz_rows.specs.Runs.{FilesFail, Finds, Prints, found_for, rows_texts, text_for};
+ghost use Rattle.blz_rows.specs.Runs.{Finds, Prints, found_for, rows_texts, text_for};
 ghost use Rattle.blz_rows.specs.Words.{asked};
 
 use crate::questions::{next_line, rows_of};
@@ -58,8 +58,9 @@ pub fn run_rows<F: Files, O: Orders, S: Sink, E: Sink>(
         (Rose (F.faults files.old) (F.faults files.new))
         (Rose (S.faults out.old) (S.faults out.new)) result }
 
-    // Words that are not of their form give 2.
+    // Words that are not of their form give 2, and no file is asked.
     ensures malformed { asked (map string_bytes words.now) ≡ None → result ≡ 2 }
+    ensures unasked { asked (map string_bytes words.now) ≡ None → files.new ≡ files.old }
 
     ensures stay { FilesStay F.contents F.stamps F.faults files.old files.new }
     ensures out_count { S.faults out.old ≤ S.faults out.new }
@@ -79,6 +80,7 @@ fn made_of_words<F: Files, O: Orders>(
         (FilesFail (asked (map string_bytes words.now))
         (Rose (F.faults files.old) (F.faults files.new))) result }
     ensures malformed { asked (map string_bytes words.now) ≡ None → result ≡ Err Outcome.Usage }
+    ensures unasked { asked (map string_bytes words.now) ≡ None → files.new ≡ files.old }
     ensures stay { FilesStay F.contents F.stamps F.faults files.old files.new }
 {
     match Question::from_words(words) {

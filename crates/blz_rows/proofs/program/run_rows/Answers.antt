@@ -1,5 +1,5 @@
-use Rattle.blz_program.proofs.Ends.{HasOutcome-known, HasOutcome-made}
-use Rattle.blz_rows.proofs.FoundCauses.{found_known, nothing_failed}
+use Rattle.blz_program.proofs.Ends.{HasOutcome-known, HasOutcome-made, nothing_failed}
+use Rattle.blz_rows.proofs.FoundCauses.{found_known}
 use Rattle.blz_rows.proofs.program.run_rows.Goals as goal
 
 pub returns-clause-complete : goal.returns-clause-complete
