@@ -4,3 +4,4 @@ pub mod Tallied
 pub mod Found
 pub mod Known
 pub mod PlainWalk
+pub mod PlainTaken

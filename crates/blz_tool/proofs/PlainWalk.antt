@@ -14,10 +14,10 @@ use Rattle.blz_elf.specs.declared.opts.FindSymOpts.TheVariants.{CodeInfoAndInlin
 use Rattle.blz_tool.specs.CommandLine.{Lookup, form_of, tool_app}
 use Rattle.blz_tool.specs.PlainWords.{is_plain}
 
-abbrev rules : List Rule
+abbrev pub rules : List Rule
 rules = (built tool_app).top.rules
 
-abbrev names : Names
+abbrev pub names : Names
 names = names_of (built tool_app)
 
 -- ---- a word that names no option is a value
@@ -34,19 +34,19 @@ not_end : (word : Text) → is_plain word ≡ true → bytes_eq word (45 ∷ 45 
 not_end [] plain = refl
 not_end (b ∷ bs) plain = ap (λ (t : Bool). t && bytes_eq bs (45 ∷ [])) (is_false (b == 45) plain)
 
-no_long : (word : Text) → is_plain word ≡ true → long_of word ≡ None
+pub no_long : (word : Text) → is_plain word ≡ true → long_of word ≡ None
 no_long word plain = ap (λ (o : Option Text). option_and_then long_of_rest (option_and_then (strip_byte 45) o)) (no_strip word plain)
 
-no_short : (word : Text) → is_plain word ≡ true → short_of word ≡ None
+pub no_short : (word : Text) → is_plain word ≡ true → short_of word ≡ None
 no_short word plain = ap (λ (o : Option Text). option_and_then short_of_rest o) (no_strip word plain)
 
-met_idle : (position : ℕ) (word : Text) (h : Held) → is_plain word ≡ true → word_met rules names false idle position word h ≡ (h, value)
+pub met_idle : (position : ℕ) (word : Text) (h : Held) → is_plain word ≡ true → word_met rules names false idle position word h ≡ (h, value)
 met_idle position word h plain =
     ap (λ (b : Bool). if b then (h, trailing position) else long_or_other rules idle word (long_of word) h) (not_end word plain)
     ∙ ap (λ (o : Option (Text × Option Text)). long_or_other rules idle word o h) (no_long word plain)
     ∙ ap (λ (o : Option Text). short_or_plain rules idle word o h) (no_short word plain)
 
-met_positional : (position : ℕ) (word : Text) (h : Held) → is_plain word ≡ true → word_met rules names false positional position word h ≡ (h, value)
+pub met_positional : (position : ℕ) (word : Text) (h : Held) → is_plain word ≡ true → word_met rules names false positional position word h ≡ (h, value)
 met_positional position word h plain =
     ap (λ (b : Bool). if b then (h, trailing position) else long_or_other rules positional word (long_of word) h) (not_end word plain)
     ∙ ap (λ (o : Option (Text × Option Text)). long_or_other rules positional word o h) (no_long word plain)
@@ -55,7 +55,7 @@ met_positional position word h plain =
 -- ---- the walk
 
 -- the first word is the path, and waits to be used
-abbrev after_path : Text → Walk
+abbrev pub after_path : Text → Walk
 after_path path = record {
   held = record { rows = []; pending = Some (codes "path", path ∷ []); skip = 0 };
   waiting = idle;
@@ -65,7 +65,7 @@ after_path path = record {
 }
 
 -- the path is used, and the words after it wait as addresses
-abbrev after_addrs : Text → List Text → Walk
+abbrev pub after_addrs : Text → List Text → Walk
 after_addrs path words = record {
   held = record (settled rules (after_path path).held) { pending = Some (codes "addrs", words) };
   waiting = positional;
@@ -74,19 +74,19 @@ after_addrs path words = record {
   stopped = None;
 }
 
-step_path : (path : Text) → is_plain path ≡ true → walked rules names (walk_from nothing_held) path ≡ after_path path
+pub step_path : (path : Text) → is_plain path ≡ true → walked rules names (walk_from nothing_held) path ≡ after_path path
 unfolding walked
 step_path path plain = ap (λ (met : Held × Step). after_step rules path (walk_from nothing_held) met.0 met.1) (met_idle 1 path nothing_held plain)
 
-step_first : (path word : Text) → is_plain word ≡ true → walked rules names (after_path path) word ≡ after_addrs path (word ∷ [])
+pub step_first : (path word : Text) → is_plain word ≡ true → walked rules names (after_path path) word ≡ after_addrs path (word ∷ [])
 unfolding walked
 step_first path word plain = ap (λ (met : Held × Step). after_step rules word (after_path path) met.0 met.1) (met_idle 2 word (after_path path).held plain)
 
-step_more : (path : Text) (words : List Text) (word : Text) → is_plain word ≡ true → walked rules names (after_addrs path words) word ≡ after_addrs path (words ++ word ∷ [])
+pub step_more : (path : Text) (words : List Text) (word : Text) → is_plain word ≡ true → walked rules names (after_addrs path words) word ≡ after_addrs path (words ++ word ∷ [])
 unfolding walked
 step_more path words word plain = ap (λ (met : Held × Step). after_step rules word (after_addrs path words) met.0 met.1) (met_positional 2 word (after_addrs path words).held plain)
 
-both : (a b : Bool) → (a && b) ≡ true → (a ≡ true) × (b ≡ true)
+pub both : (a b : Bool) → (a && b) ≡ true → (a ≡ true) × (b ≡ true)
 both true true e = (refl, refl)
 both true false e = absurd cc
 both false b e = absurd cc
@@ -99,14 +99,18 @@ all_more path words (word ∷ rest) plain =
     ∙ all_more path (words ++ word ∷ []) rest each.1
     ∙ ap (λ (ws : List Text). after_addrs path ws) (append_assoc words (word ∷ []) rest)
 
+-- the whole walk, over a path and at least one address
+pub walk_more : (path word : Text) (rest : List Text) → is_plain path ≡ true → is_plain word ≡ true → list_all is_plain rest ≡ true → walk rules names nothing_held (path ∷ word ∷ rest) ≡ after_addrs path (word ∷ rest)
+walk_more path word rest path_plain word_plain rest_plain =
+    ap (λ (w : Walk). fold (walked rules names) w (word ∷ rest)) (step_path path path_plain)
+    ∙ ap (λ (w : Walk). fold (walked rules names) w rest) (step_first path word word_plain)
+    ∙ all_more path (word ∷ []) rest rest_plain
+
 plain_words : (path : Text) (rest : List Text) → is_plain path ≡ true → list_all is_plain rest ≡ true → form_of (finished rules (walk rules names nothing_held (path ∷ rest)).held) ≡ Lookup CodeInfoAndInlined None path rest
 plain_words path [] plain all = ap (λ (w : Walk). form_of (finished rules w.held)) (step_path path plain)
 plain_words path (word ∷ rest) plain all =
     let each = both (is_plain word) (list_all is_plain rest) all in
-    ap (λ (w : Walk). form_of (finished rules w.held))
-    (ap (λ (w : Walk). fold (walked rules names) w (word ∷ rest)) (step_path path plain)
-    ∙ ap (λ (w : Walk). fold (walked rules names) w rest) (step_first path word each.0)
-    ∙ all_more path (word ∷ []) rest each.1)
+    ap (λ (w : Walk). form_of (finished rules w.held)) (walk_more path word rest plain each.0 each.1)
 
 -- the program's name, a path and addresses
 pub plain_given : (given : List (Bor Bytes)) (d : Bor Bytes) → 2 ≤ length given → is_plain (slice_index_or given 1 d).now ≡ true

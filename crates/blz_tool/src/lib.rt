@@ -5,6 +5,7 @@ mod command_line;
 mod demo;
 mod demo_file;
 mod fields;
+pub mod laws;
 mod plain_words;
 mod program;
 mod request;
