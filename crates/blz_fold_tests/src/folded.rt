@@ -34,6 +34,25 @@ fn folded(alloc: Global) -> blz_error::Result<Folded> {
     fold(alloc, &mut ByStdSort, &lone(&image), &stacks)
 }
 
+// The 64-bit hash FNV-1a.
+fn hash_of(bytes: &[u8]) -> u64 {
+    let mut hash: u64 = 0xcbf2_9ce4_8422_2325;
+    for byte in bytes {
+        hash = (hash ^ u64::from(*byte)).wrapping_mul(0x100_0000_01b3);
+    }
+    hash
+}
+
+// The file of the stored run is crates/blz_fold_main/data/prog, which scripts/make_fold_image.py makes.
+#[test]
+fn the_image_is_that_of_the_stored_run(rt: HostRuntime) -> Result<(), Fail> {
+    let mut checks = Checks::new();
+    let image = realistic_walk(rt.alloc(), ByteOrder::Little).expect(&rt, "refused");
+    checks.same(image.len(), 1769);
+    checks.same(hash_of(&image), 0x44e0_c6bd_7a9b_c0f5);
+    checks.result()
+}
+
 #[test]
 fn lines_have_the_sum_of_equal_stacks(rt: HostRuntime) -> Result<(), Fail> {
     let mut checks = Checks::new();
