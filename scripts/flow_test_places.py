@@ -15,6 +15,44 @@ from flow_test_profiles import RECURSIVE, SOURCE
 
 
 GCC = ("gcc", "g++")
+VIRTUAL = """#include <cstdio>
+struct Base {
+    int kept;
+    Base(int number) : kept(number) { std::puts("made"); }
+    virtual ~Base() { kept = 0; }
+    virtual int get() const { return kept; }
+};
+struct Left : virtual Base { Left() : Base(1) { kept += 1; } };
+struct Right : virtual Base { Right() : Base(2) { kept += 2; } };
+struct Both : Left, Right {
+    Both() : Base(7) {
+        kept += 3;
+    }
+    ~Both() override {
+        std::puts("gone");
+    }
+};
+static int global = std::puts("begun");
+static Both both;
+static int risky(int number) {
+    try {
+        if (number > 2)
+            throw number;
+        return number;
+    } catch (int caught) {
+        return -caught;
+    }
+}
+int main(int argc, char **argv) {
+    auto add = [&](int one) {
+        int sum = one + argc;
+        return sum + both.get();
+    };
+    Base *made = new Both();
+    delete made;
+    return add(risky(argc)) + risky(9) == global;
+}
+"""
 
 
 def rows_by_line(path, names):
@@ -63,6 +101,7 @@ def programs(folder, compilers, *options):
     yield built(folder, "deep", RECURSIVE, *options, compiler=c), {"deep.c"}
     yield built(folder, "sorted", SOURCE, *options, compiler=c), {"sorted.c"}
     yield built(folder, "templates", TEMPLATES, *options, compiler=cpp), {"templates.cc"}
+    yield built(folder, "virtual", VIRTUAL, *options, compiler=cpp), {"virtual.cc"}
 
 
 @needs("gdb", "gcc", "g++", "readelf", "blz_rows", "blz_tool")
