@@ -58,6 +58,7 @@ def flame_graph_of_both_forms(folder):
 PERF = """prog 41 1.000001: PERF_RECORD_MMAP2 41/41: [0x400000(0x600000) @ 0 08:01 17 0]: r-xp /p/prog
 prog 41 1.000002: PERF_RECORD_MMAP2 41/41: [0x7f0000001000(0x1000) @ 0x2000 08:01 18 0]: r-xp /p/lib.so (deleted)
 prog 41 1.000003:     250000 cycles:u: 
+\tffffffff81000130 asm_exc_page_fault+0x76 ([kernel.kallsyms])
 \t          4c6010 square+0x10 (inlined)
 \t          4c6010 leaf+0x10 (/p/prog)
 \t          4c6010 square+0x10 (inlined)
@@ -78,11 +79,11 @@ def lines_of_perf_script(folder):
     profile = Profile(PERF.splitlines(True))
     places = Places(profile)
     first, second = profile.samples
-    frames = [("4c6010", "leaf", "/p/prog", ("square",))] * 2 + [("4c6080", "clone", NOT_NAMED, ()), (
+    frames = [("ffffffff81000130", "asm_exc_page_fault", "[kernel.kallsyms]", ())] + [("4c6010", "leaf", "/p/prog", ("square",))] * 2 + [("4c6080", "clone", NOT_NAMED, ()), (
         "4c60c0", "part", "/p/prog", ("step",))] + [("4c6100", "main", "/p/prog", ())] * 2
     equal("frames", [(f"{frame.addr:x}", frame.symbol, frame.module, frame.inlined) for frame in first.frames], frames)
     equal("places where both kinds can be", [places.place(first, frame) for frame in first.frames],
-          [int(frame[0], 16) - (depth > 0) for depth, frame in enumerate(frames)])
+          [int(frame[0], 16) - (depth > 1) for depth, frame in enumerate(frames)])
     equal("a sample without call graph", (second.process, second.event, second.has_stack, places.place(second, second.frames[0])),
           ("41", "cpu-clock:pppH", False, 0x2010))
     return f"2 samples, {len(frames) + 1} frames"

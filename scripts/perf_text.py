@@ -10,17 +10,19 @@ MMAP = re.compile(r"^\s*\S.*PERF_RECORD_MMAP2? (-?\d+)/\S+ \[0x([0-9a-f]+)\(0x([
 RECORD = re.compile(r"PERF_RECORD_[A-Z_0-9]+")
 SAMPLE = re.compile(r"^\s*\S.*?\s+(\d+)(?:/\d+)?\s+(?:\[\d+\]\s+)?[\d.]+:\s+(?:\d+\s+)?(\S+):(?:\s+(.*))?$")
 FRAME = re.compile(r"^\s*([0-9a-f]+) (.*?)(?:\+0x([0-9a-f]+))?\s*\(([^()]*(?:\([^()]*\))?)\)$")
+KERNEL = 1 << 63  # its addresses begin here
 INLINED, NOT_NAMED = "inlined", "[no file without --no-inline]"
 
 
 class Frame(typing.NamedTuple):
-    """The innermost has depth 0. The module is what perf names in brackets, and begin where the symbol begins. The calls
-    inlined into it, the innermost first, have lines of their own before it, with its address and the module `inlined`."""
+    """The module is what perf names in brackets, and begin where the symbol begins. The calls inlined into it, the innermost
+    first, have lines of their own before it, with its address and the module `inlined`. Frames but the innermost and the one
+    that the kernel interrupted are places behind a call."""
     addr: int
     symbol: str
     begin: int
     module: str
-    depth: int = 0
+    is_behind: bool = False
     inlined: tuple = ()
 
 
@@ -91,8 +93,9 @@ class Profile:
         for at in range(0, len(run), size):
             *calls, function = run[at:at + size]
             module = next((line.module for line in run[at:at + size] if line.module != INLINED), INLINED)
-            sample.frames.append(function._replace(module=module, depth=len(sample.frames), inlined=tuple(
-                call.symbol for call in calls if call.module == INLINED)))
+            inlined = tuple(call.symbol for call in calls if call.module == INLINED)
+            is_behind = bool(sample.frames) and sample.frames[-1].addr < KERNEL
+            sample.frames.append(function._replace(module=module, is_behind=is_behind, inlined=inlined))
 
 
 def profile_of(path, event):
@@ -126,9 +129,9 @@ class Places:
         self.mappings, self.images, self.known = profile.mappings, Images(), {}
         self.are_places = {has_stack: self.decided(profile, has_stack) for has_stack in (True, False)}
         for sample in profile.samples:
-            for depth, frame in enumerate(sample.frames):
+            for at, frame in enumerate(sample.frames):
                 if frame.module == INLINED:
-                    sample.frames[depth] = frame._replace(module=self.module_of(frame))
+                    sample.frames[at] = frame._replace(module=self.module_of(frame))
 
     def decided(self, profile, has_stack):
         place, address = 0, 0
@@ -158,9 +161,9 @@ class Places:
         return symbol and any(word in symbol[0] for word in re.findall(r"\w{3,}", frame.symbol.partition("(")[0]))
 
     def place(self, sample, frame):
-        """The place in the file that the frame names; None where no mapping has it. Frames but the innermost are places
-        behind a call, which 1 is taken from, so that they lie in it."""
-        addr = frame.addr - (1 if frame.depth else 0)
+        """The place in the file that the frame names; None where no mapping has it. From places behind a call 1 is taken, so
+        that they lie in it."""
+        addr = frame.addr - frame.is_behind
         if self.are_places[sample.has_stack]:
             return addr
         mapped = [each for each in self.mappings.get(real(frame.module), ()) if each.begin <= addr < each.end]
