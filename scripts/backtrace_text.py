@@ -15,17 +15,25 @@ class Line(typing.NamedTuple):
 
 def backtraces(lines):
     """The lines of each backtrace."""
-    stack = []
+    stacks, headed, is_headed = [], [], False
     for line in lines:
+        is_headed |= line.startswith(("Thread ", "TID "))
         if numbered := NUMBERED.match(line):
             number, addr, rest = numbered.groups()
-            if number == "0" and stack:
-                yield stack
-                stack = []
+            if number == "0" or not stacks:
+                stacks.append([])
+                headed.append(is_headed)
+                is_headed = False
             name = SIGNAL if rest.startswith(SIGNAL) else rest.split(" ", 1)[0]
-            stack.append(Line(int(number), int(addr, 16) if addr else None, name))
-    if stack:
-        yield stack
+            stacks[-1].append(Line(int(number), int(addr, 16) if addr else None, name))
+    return [stack for stack, has_head, following in zip(stacks, headed, stacks[1:] + [[]])
+            if has_head or not opens(stack, following)]
+
+
+def opens(stack, following):
+    """Whether a line is what gdb prints where it opens a core: the innermost frame, ahead of the backtrace that has it."""
+    return (len(stack) == 1 < len(following) and stack[0].name == following[0].name
+            and stack[0].addr in (None, following[0].addr))
 
 
 def addresses(stack):

@@ -294,13 +294,15 @@ def trace_of_a_core(folder):
     run("gdb", "-nx", "-batch", "-ex", "break touch", "-ex", "run", "-ex", f"generate-core-file {core}", "-ex", "kill", path)
     text = run("gdb", "-nx", "-batch", "-ex", "info proc mappings", "-ex", "bt -frame-info location-and-address", path, core).out
     said = write(folder, "mappings", text)
-    frames = re.findall(r"^#\d+\s+(0x[0-9a-f]+) in (\S+) \(.* at \S*?(\w+\.c):(\d+)$", text, re.M)
-    ran = script("trace", "--maps", said, text=f"{frames[0][0]}\n").out + script("trace", "--maps", said, "--returns", text="".join(
-        f"{addr}\n" for addr in dict.fromkeys(addr for addr, *_ in frames[2:]))).out
-    ours = [(name, os.path.basename(file), line) for found in ran.splitlines() for name, file, line in frames_of(found)]
-    theirs = [frame[1:] for number, frame in enumerate(frames) if number < 2 or frame != frames[number - 1]]
-    equal("frames", ours, theirs)
-    return f"{len(theirs)} names and lines as gdb's"
+    named = script("trace", "--maps", said, "--returns", said).out
+    equal("lines without a frame", *[[line for line in each.splitlines() if line[:1] != "#"] for each in (named, text)])
+    ours, theirs = collections.defaultdict(set), collections.defaultdict(set)
+    frame = re.compile(r"^#\d+\s+(.*) in (\S+) \(.* at \S*?(\w+\.c:\d+)$", re.M)
+    for found, (addr, name, place) in zip(frame.findall(named), frame.findall(text), strict=True):
+        theirs[addr].add((name, place))
+        ours[addr] |= {(name, f"{os.path.basename(file)}:{line}") for name, file, line in frames_of(found[0])}
+    equal("frames by address", ours, theirs)
+    return f"{sum(map(len, theirs.values()))} names and lines of {len(theirs)} addresses as gdb's"
 
 
 MOST = 120  # of the installed files

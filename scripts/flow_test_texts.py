@@ -109,6 +109,8 @@ TID 9:
 def lines_of_backtraces(folder):
     found = [addresses(stack) for stack in backtraces(BACKTRACES.splitlines(True))]
     equal("addresses", found, [[0x401136, 0x4011ff, 0x4011ff, 0x401300], None, [0x7f0000001000, 0x4011ff]])
+    opened = "#0  0x401136 in square (number=3) at a.c:4\n4\treturn number;\n\n" + BACKTRACES.partition("\n")[2].partition("Thread")[0]
+    equal("a core", [addresses(stack) for stack in backtraces(opened.splitlines(True))], found[:1])
     text = write(folder, "text", BACKTRACES)
     maps = write(folder, "maps", f"00400000-00402000 r-xp 00000000 08:01 1 {os.path.realpath('/bin/true')}\n")
     stacks = os.path.join(SCRIPTS, "stacks_of_perf")

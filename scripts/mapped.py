@@ -28,18 +28,18 @@ def real(path, known={}):
     return known[path]
 
 
+def mapping_in(line):
+    """The mapping that a line of /proc/PID/maps or of gdb's `info proc mappings` tells; None where it tells no file."""
+    if mapped := PROC.match(line):
+        begin, end, _, place, file = mapped.groups()
+    elif mapped := GDB.match(line):
+        begin, end, place, file = mapped.groups()
+    return Mapping(int(begin, 16), int(end, 16), int(place, 16), real(file)) if mapped and file else None
+
+
 def mappings_of(path):
     """The mappings of a copy of /proc/PID/maps, or of what gdb prints for `info proc mappings`."""
-    found = []
-    for line in lines_of(path):
-        if mapped := PROC.match(line.rstrip("\n")):
-            begin, end, _, place, file = mapped.groups()
-        elif mapped := GDB.match(line.rstrip("\n")):
-            begin, end, place, file = mapped.groups()
-        else:
-            continue
-        if file:
-            found.append(Mapping(int(begin, 16), int(end, 16), int(place, 16), real(file)))
+    found = [mapped for line in lines_of(path) if (mapped := mapping_in(line.rstrip("\n")))]
     if not found:
         raise Refused(f"{path}: no mapping of a file, as /proc/PID/maps has them")
     return found
