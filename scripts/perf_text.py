@@ -158,7 +158,7 @@ class Places:
         """Symbols have the words of the name that perf prints, which is demangled."""
         image = self.images.of(path)
         symbol = image.functions().named.get(image.address_of(frame.begin)) if image else None
-        return symbol and any(word in symbol[0] for word in re.findall(r"\w{3,}", frame.symbol.partition("(")[0]))
+        return symbol and any(word in symbol[0] for word in re.findall(r"\w+", frame.symbol.partition("(")[0]))
 
     def place(self, sample, frame):
         """The place in the file that the frame names; None where no mapping has it. From places behind a call 1 is taken, so
