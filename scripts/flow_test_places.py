@@ -8,7 +8,7 @@ import random
 import re
 
 from elf_view import Elf
-from flow_parts import Refused, program
+from flow_parts import Refused, answered
 from flow_test import SCRIPTS, Skipped, asked, built, equal, functions, holds, needs, run, script, tried, write
 from flow_test_counts import HEADER, OTHER, PRIMES, TEMPLATES
 from flow_test_profiles import RECURSIVE, SOURCE
@@ -367,17 +367,22 @@ def shared_debug_files(folder, paths):
     return sum(Elf(debug).link(".gnu_debugaltlink") is not None for debug in debugs)
 
 
-@needs("objcopy", "dwz", "gcc", "strip", "blz_tool")
+def answers(copy, folder, addresses):
+    """What blz_tool answers for a copy, as llvm-symbolizer tells it."""
+    found = answered(copy, addresses, "--debug-dirs", folder)
+    return [[(frame.name, frame.path or "??", str(frame.line)) for frame in reversed(found[addr])] for addr in addresses]
+
+
+@needs("objcopy", "dwz", "gcc", "strip", "llvm-symbolizer", "blz_tool")
 def plain_debug_of_a_shared_file(folder):
     write(folder, "clamp.h", HEADER)
     other = write(folder, "more.c", OTHER)
     paths = [built(folder, "one", PRIMES, "-O1", other), built(folder, "two", PRIMES, "-O1", other), built(folder, "three", SOURCE, "-O1")]
-    addresses = {path: [f"{addr:x}" for addr in addresses_of(path, 40)] for path in paths}
-    before = {path: asked("blz_tool", path, *addresses[path]) for path in paths}
+    addresses = {path: addresses_of(path, 40) for path in paths}
+    theirs = {path: symbolized(path, addresses[path]) for path in paths}
     linked = shared_debug_files(folder, paths)
-    for path in paths:
-        holds("the programs themselves have no lines", tried(program("blz_tool"), path, *addresses[path]).out != before[path])
     to = os.path.join(folder, "plain")
     for path, copy in zip(paths, script("plain_debug", "--to", to, *paths).out.splitlines()):
-        equal(f"answers of {copy}", asked("blz_tool", "--debug-dirs", to, copy, *addresses[path]), before[path])
-    return f"3 programs, {sum(map(len, addresses.values()))} addresses as before, {linked} debug files with a shared one"
+        equal(f"answers of {copy}", answers(copy, to, addresses[path]), theirs[path])
+    names = sum(map(len, sum(theirs.values(), [])))
+    return f"3 programs, {names} names and lines as llvm-symbolizer told before, {linked} debug files with a shared one"
