@@ -79,8 +79,9 @@ def lines_of_perf_script(folder):
     profile = Profile(PERF.splitlines(True))
     places = Places(profile)
     first, second = profile.samples
-    frames = [("ffffffff81000130", "asm_exc_page_fault", "[kernel.kallsyms]", ())] + [("4c6010", "leaf", "/p/prog", ("square",))] * 2 + [("4c6080", "clone", NOT_NAMED, ()), (
-        "4c60c0", "part", "/p/prog", ("step",))] + [("4c6100", "main", "/p/prog", ())] * 2
+    leaf, main = ("4c6010", "leaf", "/p/prog", ("square",)), ("4c6100", "main", "/p/prog", ())
+    frames = [("ffffffff81000130", "asm_exc_page_fault", "[kernel.kallsyms]", ()), leaf, leaf,
+              ("4c6080", "clone", NOT_NAMED, ()), ("4c60c0", "part", "/p/prog", ("step",)), main, main]
     equal("frames", [(f"{frame.addr:x}", frame.symbol, frame.module, frame.inlined) for frame in first.frames], frames)
     equal("places where both kinds can be", [places.place(first, frame) for frame in first.frames],
           [int(frame[0], 16) - (depth > 1) for depth, frame in enumerate(frames)])
@@ -109,7 +110,8 @@ TID 9:
 def lines_of_backtraces(folder):
     found = [addresses(stack) for stack in backtraces(BACKTRACES.splitlines(True))]
     equal("addresses", found, [[0x401136, 0x4011ff, 0x4011ff, 0x401300], None, [0x7f0000001000, 0x4011ff]])
-    opened = "#0  0x401136 in square (number=3) at a.c:4\n4\treturn number;\n\n" + BACKTRACES.partition("\n")[2].partition("Thread")[0]
+    alone = BACKTRACES.partition("\n")[2].partition("Thread")[0]
+    opened = "#0  0x401136 in square (number=3) at a.c:4\n4\treturn number;\n\n" + alone
     equal("a core", [addresses(stack) for stack in backtraces(opened.splitlines(True))], found[:1])
     text = write(folder, "text", BACKTRACES)
     maps = write(folder, "maps", f"00400000-00402000 r-xp 00000000 08:01 1 {os.path.realpath('/bin/true')}\n")
