@@ -1,4 +1,4 @@
-//! Tests of packages, and of the functions and inlined calls of small units. No crate of the product stands on it.
+//! Tests of the functions, inlined calls and lines of small units. No crate of the product stands on it.
 #![tactic(auto)]
 
 #[cfg(test)]

@@ -1,13 +1,17 @@
 //! Functions and inlined calls of a small unit, whose places and ranges were counted by hand.
-use super::questions::{chain_at, functions_at};
+ghost use Rattle.std.specs.Prelude.{◌≡◌, ◌<◌};
+ghost use Rattle.blz_units.specs.BuiltUnits.{IsReadable};
+
 use super::small::{Parts, file_of, only_unit, refusal};
-use blz_bytes::ByStdSort;
+use blz_bytes::{ByStdSort, Steps};
 use blz_checks::Checks;
 use blz_entry::{StrPart, StrPlace};
 use blz_error::{ErrorKind, Result};
-use blz_index::{Functions, InlinedFunctions};
+use blz_index::{Dwarf, Function, InlinedFunction, InlinedFunctions};
 use blz_moves::RelocationMap;
-use std::alloc::{AllocError, Global};
+use std::alloc::Global;
+use std::marker::Brand;
+use std::sync::ledger::{Blank, Ledger};
 use std::test::Fail;
 
 // 1 a unit, 2 a function with name, low and high address, 3 an inlined call with those and its file, line and column,
@@ -17,32 +21,27 @@ const ABBREV: &[u8] =
 
 // f at 12 has a block with the call g at 25, which has the call h at 40, and the function n at 57, which has the call i
 // at 69; d at 88 has no range, and the entry at 91 refers to f
-const INFO: &[u8] =
+const CLOSED: &[u8] =
     b"\x5d\0\0\0\x04\0\0\0\0\0\x08\x01\x02f\0\0\x10\0\0\0\0\0\0\x20\x04\x03g\0\x04\x10\0\0\0\0\0\0\x08\x01\x05\x03\x03h\0\x06\x10\0\0\0\0\0\0\x02\x00\x07\x00\0\0\x02n\0\x10\x10\0\0\0\0\0\0\x04\x03i\0\x11\x10\0\0\0\0\0\0\x01\x01\x09\x00\0\0\0\0\x05d\0\x06\x0c\0\0\0\0";
 
 // the same up to before the zero that closes f
-const CUT: &[u8] =
+const OPEN: &[u8] =
     b"\x53\0\0\0\x04\0\0\0\0\0\x08\x01\x02f\0\0\x10\0\0\0\0\0\0\x20\x04\x03g\0\x04\x10\0\0\0\0\0\0\x08\x01\x05\x03\x03h\0\x06\x10\0\0\0\0\0\0\x02\x00\x07\x00\0\0\x02n\0\x10\x10\0\0\0\0\0\0\x04\x03i\0\x11\x10\0\0\0\0\0\0\x01\x01\x09\x00\0\0\0";
 
-// of the unit at 0 the addresses [0x1000, 0x1040)
-const ARANGES: &[u8] =
-    b",\0\0\0\x02\0\0\0\0\0\x08\0\0\0\0\0\0\x10\0\0\0\0\0\0\x40\0\0\0\0\0\0\0\0\0\0\0\0\0\0\0\0\0\0\0\0\0\0\0";
+// a function with the call [0, 10), in which are the calls [0, 2) and [6, 8)
+const NESTED: &[u8] =
+    b"\x46\0\0\0\x04\0\0\0\0\0\x08\x01\x02f\0\0\0\0\0\0\0\0\0\x0a\x03g\0\0\0\0\0\0\0\0\0\x0a\x01\x01\x00\x03h\0\0\0\0\0\0\0\0\0\x02\x01\x01\x00\0\x03i\0\x06\0\0\0\0\0\0\0\x02\x01\x01\x00\0\0\0\0";
 
-/// The closed unit.
-pub const CLOSED: Parts<'static> = Parts {
-    info: INFO,
-    abbrev: ABBREV,
-    aranges: ARANGES,
-    rnglists: &[],
-};
+fn parts_of<'b>(info: &'b [u8]) -> Parts<'b> {
+    Parts {
+        info,
+        abbrev: ABBREV,
+        line: &[],
+    }
+}
 
-// the one that ends in f
-const OPEN: Parts<'static> = Parts {
-    info: CUT,
-    abbrev: ABBREV,
-    aranges: ARANGES,
-    rnglists: &[],
-};
+/// The place of an entry, and where its name of one byte begins.
+type Named = (usize, usize);
 
 // a name of one byte
 fn name_at(start: usize) -> Option<StrPlace> {
@@ -53,115 +52,150 @@ fn name_at(start: usize) -> Option<StrPlace> {
     })
 }
 
-// the places and the names of functions
-fn listed(
-    alloc: Global,
-    functions: &Functions,
-) -> std::result::Result<Vec<(usize, Option<StrPlace>)>, AllocError> {
-    let mut list = Vec::new(alloc);
-    for function in functions.functions() {
-        list.push((function.place, function.name))?;
+fn are_named(functions: &[Function], wanted: &[Named]) -> bool {
+    for (function, (place, name)) in functions.iter().zip(wanted) {
+        if function.place != *place || function.name != name_at(*name) {
+            return false;
+        }
     }
-    Ok(list)
+    functions.len() == wanted.len()
 }
 
-// those of a unit
-fn functions_of(alloc: Global, parts: Parts<'_>) -> Result<Vec<(usize, Option<StrPlace>)>> {
+// whether the functions of the only unit are these
+fn unit_has(alloc: Global, dwarf: &Dwarf<'_, '_>, wanted: &[Named]) -> Result<bool>
+    requires { IsReadable dwarf.now }
+{
+    let mut units = only_unit(alloc, &mut ByStdSort, dwarf)?;
+    let functions = units.parse_functions(alloc, &mut ByStdSort, dwarf, 0)?;
+    Ok(are_named(functions.functions(), wanted))
+}
+
+fn has_functions(alloc: Global, info: &[u8], wanted: &[Named]) -> Result<bool> {
     let none = RelocationMap::new(alloc);
-    let dwarf = file_of(parts, &none);
-    let mut units = only_unit(alloc, &mut ByStdSort, &dwarf)?;
-    let functions = units.parse_functions(alloc, &mut ByStdSort, &dwarf, 0)?;
-    Ok(listed(alloc, functions)?)
+    let dwarf = file_of(&parts_of(info), &none);
+    unit_has(alloc, &dwarf, wanted)
 }
 
 #[test]
 fn the_functions_with_a_range_are_listed(rt: HostRuntime) -> std::result::Result<(), Fail> {
     let mut checks = Checks::new();
-    let list = functions_of(rt.alloc(), CLOSED).expect(&rt, "refused");
-    let wanted = [(12, name_at(13)), (57, name_at(58))];
-    checks.same(list.as_slice(), wanted.as_slice());
-    checks.result()
-}
-
-#[test]
-fn the_innermost_function_of_an_address_is_found(rt: HostRuntime) -> std::result::Result<(), Fail> {
-    let mut checks = Checks::new();
-    checks.gives(
-        functions_at(rt.alloc(), CLOSED, [0x1012, 0x1014, 0x1020]),
-        [Ok(Some((0, 1))), Ok(Some((0, 0))), Ok(None)],
-    );
-    checks.result()
-}
-
-/// The name of a call, and the file, line and column from which it is made.
-type Call = (Option<StrPlace>, Option<u64>, u32, u32);
-
-fn listed_calls(
-    alloc: Global,
-    calls: &InlinedFunctions,
-) -> std::result::Result<Vec<Call>, AllocError> {
-    let mut list = Vec::new(alloc);
-    for call in calls.calls() {
-        list.push((call.name, call.call_file, call.call_line, call.call_column))?;
+    for info in [CLOSED, OPEN] {
+        checks.gives(has_functions(rt.alloc(), info, &[(12, 13), (57, 58)]), true);
     }
-    Ok(list)
+    checks.result()
 }
 
-// the calls below a function
-fn calls_of(alloc: Global, parts: Parts<'_>, function: usize) -> Result<Vec<Call>> {
+/// Where the name of a call begins, and the file, line and column from which it is made.
+type Call = (usize, Option<u64>, u32, u32);
+
+fn is_call(call: &InlinedFunction, wanted: &Call) -> bool {
+    call.name == name_at(wanted.0)
+        && call.call_file == wanted.1
+        && call.call_line == wanted.2
+        && call.call_column == wanted.3
+}
+
+fn are_calls(calls: &[InlinedFunction], wanted: &[Call]) -> bool {
+    for (call, wanted) in calls.iter().zip(wanted) {
+        if !is_call(call, wanted) {
+            return false;
+        }
+    }
+    calls.len() == wanted.len()
+}
+
+// whether the calls below a function of the only unit are these
+fn function_has(
+    alloc: Global,
+    dwarf: &Dwarf<'_, '_>,
+    function: usize,
+    wanted: &[Call],
+) -> Result<bool>
+    requires { IsReadable dwarf.now }
+{
+    let mut units = only_unit(alloc, &mut ByStdSort, dwarf)?;
+    let calls = units.parse_inlined_functions(alloc, &mut ByStdSort, dwarf, 0, function)?;
+    Ok(are_calls(calls.calls(), wanted))
+}
+
+fn has_calls(alloc: Global, info: &[u8], function: usize, wanted: &[Call]) -> Result<bool> {
     let none = RelocationMap::new(alloc);
-    let dwarf = file_of(parts, &none);
-    let orders = &mut ByStdSort;
-    let mut units = only_unit(alloc, orders, &dwarf)?;
-    let calls = units.parse_inlined_functions(alloc, orders, &dwarf, 0, function)?;
-    Ok(listed_calls(alloc, calls)?)
+    let dwarf = file_of(&parts_of(info), &none);
+    function_has(alloc, &dwarf, function, wanted)
 }
 
 #[test]
 fn the_calls_below_a_function_are_its_own(rt: HostRuntime) -> std::result::Result<(), Fail> {
     let mut checks = Checks::new();
-    let list = calls_of(rt.alloc(), CLOSED, 0).expect(&rt, "refused");
-    let wanted = [(name_at(26), Some(1), 5, 3), (name_at(41), None, 7, 0)];
-    checks.same(list.as_slice(), wanted.as_slice());
-    // of an address the outermost first
-    let deep = chain_at(rt.alloc(), CLOSED, 0x1006).expect(&rt, "refused");
-    checks.same(deep.as_slice(), [0, 1].as_slice());
-    let shallow = chain_at(rt.alloc(), CLOSED, 0x1005).expect(&rt, "refused");
-    checks.same(shallow.as_slice(), [0].as_slice());
-    let none = chain_at(rt.alloc(), CLOSED, 0x1011).expect(&rt, "refused");
-    checks.same(none.len(), 0);
-    checks.result()
-}
-
-#[test]
-fn a_function_below_another_has_calls_of_its_own(rt: HostRuntime) -> std::result::Result<(), Fail> {
-    let mut checks = Checks::new();
+    let outer = [(26, Some(1), 5, 3), (41, None, 7, 0)];
+    checks.gives(has_calls(rt.alloc(), CLOSED, 0, &outer), true);
     // closed or not, f is around n
-    for parts in [CLOSED, OPEN] {
-        let inner = calls_of(rt.alloc(), parts, 1).expect(&rt, "refused");
-        let wanted = [(name_at(70), Some(1), 9, 0)];
-        checks.same(inner.as_slice(), wanted.as_slice());
+    for info in [CLOSED, OPEN] {
+        checks.gives(has_calls(rt.alloc(), info, 1, &[(70, Some(1), 9, 0)]), true);
     }
     checks.result()
 }
 
-// the function at 0x1014, and why the calls at 0x1006 are refused
-fn asked_where_it_is_open(alloc: Global) -> Result<(Option<(usize, usize)>, Option<ErrorKind>)> {
+#[test]
+fn an_open_function_and_one_that_is_not_there_have_no_calls(
+    rt: HostRuntime,
+) -> std::result::Result<(), Fail> {
+    let mut checks = Checks::new();
+    for (info, function) in [(OPEN, 0), (CLOSED, 2)] {
+        let refused = refusal(has_calls(rt.alloc(), info, function, &[]));
+        checks.same(
+            (function, refused),
+            (function, Some(ErrorKind::InvalidDwarf)),
+        );
+    }
+    checks.result()
+}
+
+// the numbers of the calls of the first three depths that cover an address
+fn by_depth<L: Ledger>(calls: &InlinedFunctions, addr: u64, blank: Blank) -> [Option<usize>; 3]
+    requires name { blank.name ≡ L.name }
+    requires parts { blank.parts ≡ L.parts }
+    requires some { 0 < blank.parts }
+{
+    let mut steps: Steps<L> = Steps::new(blank);
+    let outer = calls.at_depth(addr, 0, &mut steps);
+    let inner = calls.at_depth(addr, 1, &mut steps);
+    let innermost = calls.at_depth(addr, 2, &mut steps);
+    [outer, inner, innermost]
+}
+
+// whether the chain of an address, the outermost call first, is that of its depths
+fn is_chain_of(
+    alloc: Global,
+    calls: &InlinedFunctions,
+    addr: u64,
+    wanted: &[usize],
+) -> Result<bool> {
+    let chain = calls.find_inlined_functions(alloc, addr)?;
+    let depths = by_depth::<Brand>(calls, addr, Blank::new(1));
+    let wanted_depths = [wanted.get(0).copied(), wanted.get(1).copied(), None];
+    Ok(chain.as_slice() == wanted && depths == wanted_depths)
+}
+
+fn nested_chain(alloc: Global, dwarf: &Dwarf<'_, '_>, addr: u64, wanted: &[usize]) -> Result<bool>
+    requires { IsReadable dwarf.now }
+{
+    let mut units = only_unit(alloc, &mut ByStdSort, dwarf)?;
+    let calls = units.parse_inlined_functions(alloc, &mut ByStdSort, dwarf, 0, 0)?;
+    is_chain_of(alloc, calls, addr, wanted)
+}
+
+fn has_chain(alloc: Global, addr: u64, wanted: &[usize]) -> Result<bool> {
     let none = RelocationMap::new(alloc);
-    let dwarf = file_of(OPEN, &none);
-    let orders = &mut ByStdSort;
-    let mut units = only_unit(alloc, orders, &dwarf)?;
-    let function = units.find_function(alloc, orders, &dwarf, 0x1014)?;
-    let calls = units.find_inlined_functions(alloc, orders, &dwarf, 0x1006, 0, 0);
-    Ok((function, refusal(calls)))
+    let dwarf = file_of(&parts_of(NESTED), &none);
+    nested_chain(alloc, &dwarf, addr, wanted)
 }
 
 #[test]
-fn an_open_function_is_listed_and_has_no_calls(rt: HostRuntime) -> std::result::Result<(), Fail> {
+fn a_chain_goes_down_by_depth(rt: HostRuntime) -> std::result::Result<(), Fail> {
     let mut checks = Checks::new();
-    checks.gives(
-        asked_where_it_is_open(rt.alloc()),
-        (Some((0, 0)), Some(ErrorKind::InvalidDwarf)),
-    );
+    checks.gives(has_chain(rt.alloc(), 7, &[0, 2]), true);
+    checks.gives(has_chain(rt.alloc(), 3, &[0]), true);
+    checks.gives(has_chain(rt.alloc(), 10, &[]), true);
     checks.result()
 }

@@ -1,11 +1,12 @@
-//! Functions of several units by a name, and all of them one after the other.
-ghost use Rattle.std.specs.Prelude.{None};
+//! Functions of several units, one after the other.
+ghost use Rattle.std.specs.Prelude.{◌≡◌, None, false};
+ghost use Rattle.blz_units.specs.BuiltUnits.{IsReadable};
 
 use super::small::{Parts, file_of, refusal};
 use blz_bytes::AsTheyStand;
 use blz_checks::Checks;
 use blz_error::{ErrorKind, Result};
-use blz_index::{Function, Units, VisitFunction};
+use blz_index::{Dwarf, Function, Units, VisitFunction};
 use blz_moves::{Flow, RelocationMap};
 use std::alloc::Global;
 use std::test::Fail;
@@ -22,30 +23,6 @@ const THREE: &[u8] = b"\x36\0\0\0\x04\0\0\0\0\0\x08\x01\
 // the first unit has m, and the second an entry whose code no abbreviation has
 const BROKEN: &[u8] = b"\x18\0\0\0\x04\0\0\0\0\0\x08\x01\x02m\0\x40\0\0\0\0\0\0\0\x10\0\0\0\0\
       \x0a\0\0\0\x04\0\0\0\0\0\x08\x01\x09\0";
-
-// the units of the functions of a name, and their numbers there
-fn named(alloc: Global, name: &str) -> Result<Vec<(usize, usize)>> {
-    let none = RelocationMap::new(alloc);
-    let parts = Parts {
-        info: THREE,
-        abbrev: ABBREV,
-        aranges: &[],
-        rnglists: &[],
-    };
-    let dwarf = file_of(parts, &none);
-    let mut units = Units::parse(alloc, &mut AsTheyStand, &dwarf)?;
-    units.find_name(alloc, &mut AsTheyStand, &dwarf, name)
-}
-
-#[test]
-fn each_unit_gives_its_first_function_of_a_name(rt: HostRuntime) -> std::result::Result<(), Fail> {
-    let mut checks = Checks::new();
-    let found = named(rt.alloc(), "n").expect(&rt, "refused");
-    checks.same(found.as_slice(), [(0, 1), (2, 0)].as_slice());
-    let found = named(rt.alloc(), "").expect(&rt, "refused");
-    checks.same(found.len(), 0);
-    checks.result()
-}
 
 /// Counts what it is shown, and breaks at a number.
 #[derive(Clone, Copy)]
@@ -72,30 +49,30 @@ impl VisitFunction for Count {
     }
 }
 
+fn show(alloc: Global, dwarf: &Dwarf<'_, '_>, count: &mut Count) -> Result<()>
+    requires readable { IsReadable dwarf.now }
+    requires goes_on { count.old.stopped ≡ false }
+{
+    let mut units = Units::parse(alloc, &mut AsTheyStand, dwarf)?;
+    units.for_each_function(alloc, &mut AsTheyStand, dwarf, count)
+}
+
 // how many functions of a file are shown and the unit of the last, and why no further one is
-fn counted(
-    alloc: Global,
-    info: &'static [u8],
-    end: usize,
-) -> Result<(usize, usize, Option<ErrorKind>)> {
+fn counted(alloc: Global, info: &[u8], end: usize) -> (usize, usize, Option<ErrorKind>) {
     let none = RelocationMap::new(alloc);
     let parts = Parts {
         info,
         abbrev: ABBREV,
-        aranges: &[],
-        rnglists: &[],
+        line: &[],
     };
-    let dwarf = file_of(parts, &none);
-    let orders = &mut AsTheyStand;
-    let mut units = Units::parse(alloc, orders, &dwarf)?;
     let mut count = Count {
         end,
         shown: 0,
         unit: 0,
         stopped: false,
     };
-    let fault = refusal(units.for_each_function(alloc, orders, &dwarf, &mut count));
-    Ok((count.shown, count.unit, fault))
+    let fault = refusal(show(alloc, &file_of(&parts, &none), &mut count));
+    (count.shown, count.unit, fault)
 }
 
 #[test]
@@ -103,9 +80,14 @@ fn all_functions_are_shown_until_a_break_or_a_mark(
     rt: HostRuntime,
 ) -> std::result::Result<(), Fail> {
     let mut checks = Checks::new();
-    checks.gives(counted(rt.alloc(), THREE, 9), (5, 2, None));
-    checks.gives(counted(rt.alloc(), THREE, 4), (4, 1, None));
     let broken = Some(ErrorKind::InvalidDwarf);
-    checks.gives(counted(rt.alloc(), BROKEN, 9), (1, 0, broken));
+    let cases = [
+        (THREE, 9, (5, 2, None)),
+        (THREE, 4, (4, 1, None)),
+        (BROKEN, 9, (1, 0, broken)),
+    ];
+    for (info, end, wanted) in cases {
+        checks.same(counted(rt.alloc(), info, end), wanted);
+    }
     checks.result()
 }

@@ -20,31 +20,31 @@ fn section<'s, 'b>(bytes: &'b [u8], none: &'s RelocationMap) -> Section<'s, 'b> 
     }
 }
 
-/// The sections of a file of units: the units, their abbreviations, their sets of address ranges and their lists of ranges.
+/// The sections of a file of units: the units, their abbreviations and their line programs.
 #[derive(Clone, Copy)]
 pub struct Parts<'b> {
     pub info: &'b [u8],
     pub abbrev: &'b [u8],
-    pub aranges: &'b [u8],
-    pub rnglists: &'b [u8],
+    pub line: &'b [u8],
 }
 
 /// A file of these sections.
-pub fn file_of<'s, 'b>(parts: Parts<'b>, none: &'s RelocationMap) -> Dwarf<'s, 'b>
+pub fn file_of<'s, 'b>(parts: &Parts<'b>, none: &'s RelocationMap) -> Dwarf<'s, 'b>
     requires { none.now ≡ map.empty }
     ensures { IsReadable result }
 {
+    let empty = section(&[], none);
     let main = Sections {
         abbrev: section(parts.abbrev, none),
-        addr: section(&[], none),
-        aranges: section(parts.aranges, none),
+        addr: empty,
+        aranges: empty,
         info: section(parts.info, none),
-        line: section(&[], none),
-        line_str: section(&[], none),
-        ranges: section(&[], none),
-        rnglists: section(parts.rnglists, none),
-        strings: section(&[], none),
-        str_offsets: section(&[], none),
+        line: section(parts.line, none),
+        line_str: empty,
+        ranges: empty,
+        rnglists: empty,
+        strings: empty,
+        str_offsets: empty,
         sup_strings: None,
         shift: 0,
         split: false,
@@ -79,14 +79,6 @@ pub fn only_unit<O: Orders>(alloc: Global, orders: &mut O, dwarf: &Dwarf<'_, '_>
     match units.len() {
         1 => Ok(units),
         _ => Err(Error::new(ErrorKind::InvalidData, Str::fixed("not one unit"))),
-    }
-}
-
-/// A value, or the kind of a refusal.
-pub fn kind<T: Drop>(outcome: Result<T>) -> std::result::Result<T, ErrorKind> {
-    match outcome {
-        Ok(value) => Ok(value),
-        Err(error) => Err(error.kind()),
     }
 }
 
