@@ -1,5 +1,0 @@
-//! Files that are inspected, over images whose answers are known by hand. No crate stands on it.
-#![tactic(auto)]
-
-#[cfg(test)]
-mod tests;

@@ -1,4 +1,0 @@
-//! Words, lines, printed texts and how a run ends.
-mod endings;
-mod texts;
-mod words;
