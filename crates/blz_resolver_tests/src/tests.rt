@@ -17,6 +17,7 @@ mod program;
 mod range_lists;
 mod references;
 mod refusals;
+mod resolvers;
 mod rows;
 mod shared_ranges;
 mod shown;

@@ -43,7 +43,11 @@ fn are_expected(answers: &[Answer<'_>]) -> bool {
     is_found(first, "function", "program") && is_found(second, "symbol", "program.debug")
 }
 
-fn beside_its_debug_file(alloc: Global, stripped: &[u8], debug_file: &[u8]) -> Result<bool> {
+fn beside_its_debug_file<'b>(
+    alloc: Global,
+    stripped: &'b [u8],
+    debug_file: &'b [u8],
+) -> Result<bool> {
     let bundle = Bundle {
         module: Some("program"),
         linkee: Some(Companion {

@@ -1,5 +1,5 @@
 //! Names that stand at other entries.
-use super::built::{Built, FORMATS, Format, LITTLE4, Step, image_of};
+use super::built::{Built, FORMATS, Format, LITTLE4};
 use super::shown::{names_are, refusal_of};
 use blz_checks::Checks;
 use blz_error::ErrorKind;
@@ -68,14 +68,13 @@ fn a_name_is_followed_over_sixteen_entries(rt: HostRuntime) -> Result<(), Fail> 
 
 // a function whose name is that of the first of two entries, which lead to these places
 fn leading_to(alloc: Global, first: u32, second: u32) -> Built {
-    let steps = [
-        Step::Unit(0, 0x100),
-        Step::Entry(DW_TAG_SUBPROGRAM, &[origin(first)]),
-        Step::Entry(DW_TAG_SUBPROGRAM, &[origin(second)]),
-        Step::FunctionOf(origin(FIRST)),
-        Step::EndUnit,
-    ];
-    image_of(alloc, LITTLE4, &steps, &[])
+    let mut entries = DebugInfo::new(alloc, LITTLE4.0, LITTLE4.1);
+    entries.open_unit(0, 0x100)?;
+    entries.entry(DW_TAG_SUBPROGRAM, &[origin(first)])?;
+    entries.entry(DW_TAG_SUBPROGRAM, &[origin(second)])?;
+    entries.function_of(origin(FIRST), 0x10, 0x10)?;
+    entries.close_unit()?;
+    entries.image(alloc, &[])
 }
 
 #[test]
@@ -95,27 +94,21 @@ fn a_name_in_a_circle_is_empty(rt: HostRuntime) -> Result<(), Fail> {
     checks.result()
 }
 
-// the place in the second of three units of its first entry, and the offset in the section of its second one: the header
-// of a unit has 11 bytes, or 12, and its root 13; the first unit ends behind a zero, and the entry with the name has 6
-fn places(format: Format) -> (u32, u32) {
-    if format.1 >= 5 { (25, 57) } else { (24, 55) }
-}
-
 // a function of the third unit leads to an entry of the second, which leads on there
 fn chain_over_units(alloc: Global, format: Format) -> Built {
-    let (place, elsewhere) = places(format);
-    let steps = [
-        Step::Unit(0x200, 0x10),
-        Step::EndUnit,
-        Step::Unit(0x300, 0x10),
-        Step::Entry(DW_TAG_SUBPROGRAM, &[deep()]),
-        Step::Entry(DW_TAG_SUBPROGRAM, &[origin(place)]),
-        Step::EndUnit,
-        Step::Unit(0, 0x100),
-        Step::FunctionOf(Attribute::file_reference(DW_AT_ABSTRACT_ORIGIN, elsewhere)),
-        Step::EndUnit,
-    ];
-    image_of(alloc, format, &steps, &[])
+    let mut entries = DebugInfo::new(alloc, format.0, format.1);
+    entries.open_unit(0x200, 0x10)?;
+    entries.close_unit()?;
+    let second = entries.unit_offset();
+    entries.open_unit(0x300, 0x10)?;
+    let place = put_chain(&mut entries, 2)?;
+    entries.close_unit()?;
+    entries.open_unit(0, 0x100)?;
+    let elsewhere = second.saturating_add(place);
+    let origin = Attribute::file_reference(DW_AT_ABSTRACT_ORIGIN, elsewhere);
+    entries.function_of(origin, 0x10, 0x10)?;
+    entries.close_unit()?;
+    entries.image(alloc, &[])
 }
 
 #[test]

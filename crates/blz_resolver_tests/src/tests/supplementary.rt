@@ -4,7 +4,7 @@ use super::shown::{is_named, names, names_are};
 use blz_checks::Checks;
 use blz_error::{ErrorKind, Result};
 use blz_images::codes::*;
-use blz_images::{Attribute, ByteOrder, with_section};
+use blz_images::{Attribute, ByteOrder, DebugInfo, with_section};
 use blz_resolver::{Bundle, Companion};
 use blz_runs::{lone, refusal};
 use std::alloc::Global;
@@ -32,15 +32,14 @@ fn place(format: Format, entry: Entry) -> u32 {
 }
 
 fn supplementary(alloc: Global, format: Format) -> Built {
+    let mut entries = DebugInfo::new(alloc, format.0, format.1);
+    entries.open(DW_TAG_COMPILE_UNIT, &[])?;
+    entries.entry(DW_TAG_SUBPROGRAM, &[Attribute::text(DW_AT_NAME, "shared")])?;
+    entries.entry(DW_TAG_SUBPROGRAM, &[Attribute::text(DW_AT_NAME, "deep")])?;
     let deep = Attribute::file_reference(DW_AT_ABSTRACT_ORIGIN, place(format, Entry::Deep));
-    let steps = [
-        Step::Open(DW_TAG_COMPILE_UNIT, &[]),
-        Step::Entry(DW_TAG_SUBPROGRAM, &[Attribute::text(DW_AT_NAME, "shared")]),
-        Step::Entry(DW_TAG_SUBPROGRAM, &[Attribute::text(DW_AT_NAME, "deep")]),
-        Step::Entry(DW_TAG_SUBPROGRAM, &[deep]),
-        Step::EndUnit,
-    ];
-    image_of(alloc, format, &steps, &[])
+    entries.entry(DW_TAG_SUBPROGRAM, &[deep])?;
+    entries.close_unit()?;
+    entries.image(alloc, &[])
 }
 
 // a function at [0x10, 0x20), whose name stands at an offset in the supplementary file
