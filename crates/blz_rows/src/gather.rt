@@ -15,11 +15,18 @@ use crate::found::FoundRow;
 use crate::judged::JudgedFiles;
 use crate::places::Place;
 use crate::verdict::Verdict;
-use blz_bytes::Orders;
+use blz_bytes::{Orders, Room};
 use blz_error::{Error, ErrorKind, Result, Str};
 use blz_line::{LineRow, LineSequence};
 use blz_resolver::{Bundle, ElfResolver, UnitRows};
 use std::alloc::Global;
+
+// Units may share a line program, whose rows are looked at for each of them: how many for a word.
+const ROWS_A_WORD: u64 = 8;
+
+// The words of a row that was found: its own, and those of its addresses in what is answered, in vectors that may have
+// grown to twice their length.
+const FOUND_WORDS: u64 = 8;
 
 /// The rows that are asked, in the order of the units, their sequences and their rows. Refused by the first mark: those of
 /// the frame; then InvalidDwarf for lines without a value, and for a row whose file is not there, asked or not.
@@ -44,9 +51,18 @@ fn gathered<O: Orders>(
     ensures { Gives (λ v. v.items) result (found_for (bundle_view bundle.now) asked.entry.file.now asked.entry.lines) }
 {
     let mut resolver = ElfResolver::from_bundle(alloc, orders, bundle)?;
+    let mut room = Room::of(bundle.debug_file().image.len() as u64);
     let mut found = Vec::new(alloc);
     for unit in 0..resolver.unit_count() {
-        push_unit(alloc, orders, &mut resolver, unit, asked, &mut found)?;
+        push_unit(
+            alloc,
+            orders,
+            &mut resolver,
+            unit,
+            asked,
+            &mut room,
+            &mut found,
+        )?;
     }
     Ok(found)
 }
@@ -58,6 +74,7 @@ fn push_unit<O: Orders>(
     resolver: &mut ElfResolver<'_>,
     unit: usize,
     asked: Asked<'_>,
+    room: &mut Room,
     found: &mut Vec<FoundRow>,
 ) -> Result<()>
     requires { unit < unit_count_of resolver.old.images (has_debug resolver.old) }
@@ -68,7 +85,7 @@ fn push_unit<O: Orders>(
 {
     resolver.fill_unit_rows(alloc, orders, unit)?;
     match resolver.filled_unit_rows(unit)? {
-        Some(rows) => push_sequences(alloc, rows, asked, found),
+        Some(rows) => push_sequences(alloc, rows, asked, room, found),
         None => Ok(()),
     }
 }
@@ -78,6 +95,7 @@ fn push_sequences(
     alloc: Global,
     rows: UnitRows<'_, '_>,
     asked: Asked<'_>,
+    room: &mut Room,
     found: &mut Vec<FoundRow>,
 ) -> Result<()>
     ensures { Gives (λ _. found.new.items) result (behind found.old.items asked.entry.file.now asked.entry.lines
@@ -85,7 +103,7 @@ fn push_sequences(
 {
     let mut files = JudgedFiles::new(alloc, rows, asked.file)?;
     for sequence in rows.sequences() {
-        push_rows(&mut files, asked.lines, sequence, found)?;
+        push_rows(&mut files, asked.lines, sequence, room, found)?;
     }
     Ok(())
 }
@@ -95,6 +113,7 @@ fn push_rows(
     files: &mut JudgedFiles<'_, '_, '_>,
     lines: AskedLines,
     sequence: &LineSequence,
+    room: &mut Room,
     found: &mut Vec<FoundRow>,
 ) -> Result<()>
     ensures value { Gives (λ _. found.new.items) result (behind found.old.items files.old.name lines
@@ -102,9 +121,10 @@ fn push_rows(
     ensures same { files.new ≡ files.old }
 {
     let rows = sequence.rows();
+    room.take(rows.len() as u64 / ROWS_A_WORD)?;
     for (index, row) in rows.iter().enumerate() {
         let end = end_of(rows, index, sequence.end);
-        push_row(files, lines, *row, end, found)?;
+        push_row(files, lines, *row, end, room, found)?;
     }
     Ok(())
 }
@@ -115,6 +135,7 @@ fn push_row(
     lines: AskedLines,
     row: LineRow,
     end: u64,
+    room: &mut Room,
     found: &mut Vec<FoundRow>,
 ) -> Result<()>
     ensures value { Gives (λ _. found.new.items) result (behind found.old.items files.old.name lines (row_entry files.old.files row end)) }
@@ -125,6 +146,7 @@ fn push_row(
         Verdict::Other => {}
         Verdict::Meant => {
             if lines.has(row.line) {
+                room.take(FOUND_WORDS)?;
                 found.push(found_row(row, end))?;
             }
         }

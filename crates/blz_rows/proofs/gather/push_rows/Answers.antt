@@ -13,7 +13,7 @@ loop-index-preserved c = record {
 
 pub returns-in_err-push_row-clause-value : goal.returns-in_err-push_row-clause-value
 returns-in_err-push_row-clause-value c =
-    let p = err_from_is_err_and c.from_residual.result c.from_residual.ensures.1 in
+    let p = err_from_is_err_and c.from_residual-in_err-push_row.result c.from_residual-in_err-push_row.ensures.1 in
     rw (p.1, p.2, ← c.rows-rows.ensures) (row_break _ c.loop-index.found.items c.args.lines c.loop-index.files c.args.files.now c.args.sequence.now.end c.end_of-end.result c.rows-rows.result.now c.loop-index.index _ _ c.loop-index.invariant.same (omega arith) (ends_till _ (drop (c.loop-index.index + 1) c.rows-rows.result.now) c.sequence.view_is c.end_of-end.ensures) c.in_err-push_row.ensures.value c.loop-index.invariant.so_far)
 
 pub returns-clause-value : goal.returns-clause-value
