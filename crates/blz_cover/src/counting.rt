@@ -11,7 +11,7 @@ use crate::cover::Cover;
 use crate::fault::CoverFault;
 use crate::hit::hit_in;
 use crate::text::text;
-use blz_bytes::Steps;
+use blz_bytes::{Room, Steps};
 use blz_program::{LineFault, Outcome, first_line};
 use blz_resolver::ElfResolver;
 use std::alloc::Global;
@@ -63,6 +63,7 @@ fn add_lines<L: Ledger>(
 fn counted_with<L: Ledger>(
     alloc: Global,
     resolver: &ElfResolver<'_>,
+    room: Room,
     hits: &[u8],
     blank: Blank,
 ) -> Result<Vec<u8>, Outcome>
@@ -74,7 +75,7 @@ fn counted_with<L: Ledger>(
     ensures { IsCounted result (counted_from resolver.now.images [] 1 (lines_of hits.now)) }
 {
     let mut steps: Steps<L> = Steps::new(blank);
-    let mut cover = Cover::new(alloc, resolver);
+    let mut cover = Cover::within(alloc, resolver, room);
     add_lines(&mut cover, hits, &mut steps)?;
     match text(alloc, &cover) {
         Ok(text) => Ok(text),
@@ -82,11 +83,16 @@ fn counted_with<L: Ledger>(
     }
 }
 
-/// The text of the counts of a file of hits, or why there is none.
-pub fn counted(alloc: Global, resolver: &ElfResolver<'_>, hits: &[u8]) -> Result<Vec<u8>, Outcome>
+/// The text of the counts of a file of hits, or why there is none. Their lines take of the room.
+pub fn counted(
+    alloc: Global,
+    resolver: &ElfResolver<'_>,
+    room: Room,
+    hits: &[u8],
+) -> Result<Vec<u8>, Outcome>
     requires has_debug { has_debug resolver.now ≡ true }
     requires is_prepared { resolver.now.prepared ≡ true }
     ensures { IsCounted result (counted_from resolver.now.images [] 1 (lines_of hits.now)) }
 {
-    counted_with::<Brand>(alloc, resolver, hits, Blank::new(1))
+    counted_with::<Brand>(alloc, resolver, room, hits, Blank::new(1))
 }

@@ -16,7 +16,7 @@ use crate::homes::{add_at, home_of, take_at};
 use crate::line_table::LineTable;
 use crate::source_line::{SourceLine, line_in};
 use crate::tally::{Home, Tally};
-use blz_bytes::Steps;
+use blz_bytes::{Room, Steps};
 use blz_elf::FindSymOpts;
 use blz_resolver::ElfResolver;
 use std::alloc::{AllocError, Global};
@@ -58,9 +58,19 @@ impl<'r, 'b> Cover<'r, 'b> {
         ensures images { result.images ≡ resolver.entry.now.images }
         ensures changes { result.changes ≡ [] }
     {
+        Cover::within(alloc, resolver, Room::endless())
+    }
+
+    /// The same, whose lines take of a room; where it has no more, `hit` is refused with Memory.
+    pub(crate) fn within(alloc: Global, resolver: &'r ElfResolver<'b>, room: Room) -> Cover<'r, 'b>
+        requires has_debug { has_debug resolver.now ≡ true }
+        requires is_prepared { resolver.now.prepared ≡ true }
+        ensures images { result.images ≡ resolver.entry.now.images }
+        ensures changes { result.changes ≡ [] }
+    {
         let changes = ChangeList::new();
         let tallies = HashMap::new(alloc);
-        let lines = LineTable::new(alloc);
+        let lines = LineTable::new(alloc, room);
         Cover {
             alloc,
             resolver,

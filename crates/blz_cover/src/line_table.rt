@@ -4,15 +4,26 @@ ghost use Rattle.std.specs.Option.{option_map};
 ghost use Rattle.blz_cover.specs.LineEntries.{LineEntry, first_and_count, recount, met, found_or_last};
 ghost use Rattle.blz_cover.specs.LineKeys.{count_view};
 
+use blz_bytes::Room;
 use indexmap::IndexMap;
 use std::alloc::{AllocError, Global};
 use std::marker::Model;
+
+// The words of a line beside its path: its place, its count and its hash in a map that may have grown to twice its length.
+const LINE_WORDS: u64 = 16;
 
 /// The place of a line: the path of the file, and the line in it.
 #[derive(PartialEq, Eq, Hash, Drop)]
 pub struct LineKey {
     pub path: Vec<u8>,
     pub line: u32,
+}
+
+impl LineKey {
+    // The words that a new line takes; the path may lie in twice its length.
+    fn words(&self) -> u64 {
+        self.path.len() as u64 / 4 + LINE_WORDS
+    }
 }
 
 /// What is counted at a line, and the address that it was first met at.
@@ -26,6 +37,8 @@ pub struct LineCount {
 #[derive(Drop)]
 pub struct LineTable {
     entries: IndexMap<LineKey, LineCount>,
+    // what further lines may take
+    room: Room,
 }
 
 impl Model for LineTable {
@@ -40,12 +53,13 @@ impl Model for LineTable {
 }
 
 impl LineTable {
-    /// No lines; takes no memory.
-    pub fn new(alloc: Global) -> LineTable
+    /// No lines; takes no memory. Each new line takes words of the room.
+    pub fn new(alloc: Global, room: Room) -> LineTable
         ensures { result ≡ [] }
     {
         LineTable {
             entries: IndexMap::new(alloc),
+            room,
         }
     }
 
@@ -74,6 +88,7 @@ impl LineTable {
         match self.entries.get_index_of(&key) {
             Some(index) => Ok(index),
             None => {
+                self.room.take(key.words())?;
                 let index = self.entries.len();
                 self.entries.insert(key, LineCount { addr, count: 0 })?;
                 Ok(index)

@@ -12,7 +12,7 @@ ghost use Rattle.blz_resolver.specs.Resolver.{has_debug};
 ghost use Rattle.blz_cover.specs.Counting.{Finds, FindsCover, FindsHits, FindsInBundle, cover_texts, found_for, paths_in};
 
 use crate::counting::counted;
-use blz_bytes::Orders;
+use blz_bytes::{Orders, Room};
 use blz_program::{Outcome, Program, finish, read_file};
 use blz_resolver::files::Files;
 use blz_resolver::outside::Sink;
@@ -114,8 +114,10 @@ fn made_of_bundle<F: Files, O: Orders>(
         (Rose (F.faults files.old) (F.faults files.new)) result }
     ensures stay { FilesStay F.contents F.stamps F.faults files.old files.new }
 {
-    match prepared(alloc, orders, &bundle.bundle()) {
-        Ok(resolver) => made_of_hits(alloc, &resolver, hits, files),
+    let bundle = bundle.bundle();
+    let room = Room::of(bundle.debug_file().image.len() as u64);
+    match prepared(alloc, orders, &bundle) {
+        Ok(resolver) => made_of_hits(alloc, &resolver, room, hits, files),
         Err(error) => Err(Outcome::refusal(error.kind())),
     }
 }
@@ -123,6 +125,7 @@ fn made_of_bundle<F: Files, O: Orders>(
 fn made_of_hits<F: Files>(
     alloc: Global,
     resolver: &ElfResolver<'_>,
+    room: Room,
     hits: &str,
     files: &mut F,
 ) -> Result<Vec<u8>, Outcome>
@@ -133,7 +136,7 @@ fn made_of_hits<F: Files>(
     ensures stay { FilesStay F.contents F.stamps F.faults files.old files.new }
 {
     match read_file(alloc, files, hits) {
-        Ok(text) => counted(alloc, resolver, &text),
+        Ok(text) => counted(alloc, resolver, room, &text),
         Err(error) => Err(Outcome::refusal(error.kind())),
     }
 }
