@@ -8,7 +8,7 @@ pub struct CoverLine<'b> {
     pub dir: DirPath<'b>,
     /// The file, likewise.
     pub file: &'b [u8],
-    /// The line, counted from 1; 0 where the line program knows none.
+    /// The line, counted from 1: counts of addresses without a line are in the rest.
     pub line: u32,
     /// What is left of the counts.
     pub count: u64,
