@@ -5,7 +5,7 @@ ghost use Rattle.blz_info.specs.Sizes.{address_len, size_of, over, behind_form, 
 
 use crate::abbreviations::AttrSpec;
 use crate::encoding::Encoding;
-use crate::field::{field_at, offset_len};
+use crate::field::{field_at, offset_len, skip};
 use crate::form::{Field, Form, Width, form_of};
 use crate::section::Section;
 use blz_bytes::{sleb_at, uleb_at, zero_ended_at};
@@ -71,6 +71,8 @@ pub(crate) fn over(size: usize, bytes: &[u8], at: usize) -> Option<usize>
     Some(at + size)
 }
 
+/// The place behind what a field reads.
+#[tactic(auto, unfolding(crate::specs::Contents::field_at, crate::specs::Contents::block))]
 fn behind_field(
     field: Field,
     encoding: Encoding,
@@ -82,6 +84,12 @@ fn behind_field(
 {
     if let Some(size) = size_of(field, encoding) {
         return over(size, section.bytes, at);
+    }
+    // most of those whose bytes tell their size are expressions
+    if let Field::UlebBlock = field {
+        let (count, start) = uleb_at(section.bytes, at)?;
+        let (_, next) = skip(count, section.bytes, start)?;
+        return Some(next);
     }
     let (_, next) = field_at(field, encoding, section, at)?;
     Some(next)

@@ -82,7 +82,7 @@ pub fn offset_at(wide: bool, section: &Section<'_, '_>, at: usize) -> Option<(u6
 /// So many bytes that are passed over.
 #[inline(always)]
 #[tactic(auto, unfolding(crate::specs::Contents::skipped))]
-fn skip(count: u64, bytes: &[u8], at: usize) -> Option<(u64, usize)>
+pub(crate) fn skip(count: u64, bytes: &[u8], at: usize) -> Option<(u64, usize)>
     ensures value { result ≡ skipped count bytes.now at }
     ensures within { IfSome result (λ r. (at ≤ r.1) × (r.1 ≤ length bytes.now)) }
 {
