@@ -26,6 +26,9 @@ const ABBREVIATION_WORDS: u64 = 24;
 
 const ATTRIBUTE_WORDS: u64 = 16;
 
+/// As many attributes as most abbreviations have at most.
+const USUAL_ATTRIBUTES: usize = 8;
+
 /// An attribute of an abbreviation: its name, its form, and the value of `DW_FORM_implicit_const`, else 0.
 #[derive(Clone, Copy)]
 pub struct AttrSpec {
@@ -270,7 +273,7 @@ fn specs_at(
 ) -> Result<(Vec<AttrSpec>, usize)>
     ensures { Gives (λ x. (x.0.items, x.1)) result (or_invalid (specs_in (length bytes.now) [] bytes.now at)) }
 {
-    let mut specs = Vec::new(alloc);
+    let mut specs = Vec::with_capacity(alloc, USUAL_ATTRIBUTES)?;
     let mut place = at;
     for _ in 0..bytes.len() {
         let Some((spec, next)) = spec_at(bytes, place) else {
