@@ -1,5 +1,6 @@
 -- The calls of a resolver, and the replies to them.
-use Rattle.std.specs.Prelude.{◌≡◌, Bool, List, [], ◌∷◌, string_bytes, ⊤}
+use Rattle.std.specs.Prelude.{◌≡◌, Bool, List, [], ◌∷◌, string_bytes, ⊤, IfErr}
+use Rattle.blz_error.specs.declared.kind.ErrorKind.TheVariants.{OutOfMemory}
 use Rattle.blz_model.specs.Part.{Gives, Exactly}
 use Rattle.blz_elf.specs.AnswerView.{answer_view}
 use Rattle.blz_image.specs.Segments.{image_address_of}
@@ -34,7 +35,7 @@ IsReply images has_debug command.UnitCount (reply.Symbol r) = ⊥
 IsReply images has_debug command.UnitCount (reply.Addresses r) = ⊥
 IsReply images has_debug command.UnitCount (reply.Place r) = ⊥
 IsReply images has_debug command.UnitCount (reply.Prepared r) = ⊥
-IsReply images has_debug command.Prepare (reply.Prepared r) = ⊤
+IsReply images has_debug command.Prepare (reply.Prepared r) = IfErr r (λ e. e.kind ≡ OutOfMemory)
 IsReply images has_debug command.Prepare (reply.Symbol r) = ⊥
 IsReply images has_debug command.Prepare (reply.Addresses r) = ⊥
 IsReply images has_debug command.Prepare (reply.Place r) = ⊥
