@@ -16,6 +16,7 @@ use crate::inlined_functions::{InlinedFunction, InlinedFunctions};
 use crate::levels::Levels;
 use crate::links::Links;
 use crate::open_unit::OpenUnit;
+use crate::walking::walk_words;
 use blz_bytes::{Orders, Room};
 use blz_constants::dwarf;
 use blz_entry::{Entries, Entry, Passing, Span, invalid};
@@ -26,9 +27,6 @@ use std::marker::Model;
 
 /// What a call that is kept takes of a file's room.
 const CALL_WORDS: u64 = 6;
-
-/// The bytes that take a word of a file's room where entries are passed over below a function.
-const BYTES_A_WORD: usize = 8;
 
 /// Inlined calls, and their ranges in groups by depth, each with the number of its call.
 #[derive(Drop)]
@@ -63,12 +61,6 @@ fn group(
         ranges.push(Grouped { group, span: *span })?;
     }
     Ok(())
-}
-
-/// What walking from an entry to another one below the same function takes of a file's room: functions can stand within
-/// one another, and what they have in common is walked over for each.
-fn walk_words(before: usize, place: usize) -> u64 {
-    1 + (place.saturating_sub(before) / BYTES_A_WORD) as u64
 }
 
 fn call_by(description: &Description) -> InlinedFunction

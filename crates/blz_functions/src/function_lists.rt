@@ -13,6 +13,7 @@ use crate::description::Description;
 use crate::functions::{Function, Functions};
 use crate::links::Links;
 use crate::open_unit::OpenUnit;
+use crate::walking::walk_words;
 use blz_bytes::{Orders, Room};
 use blz_constants::dwarf;
 use blz_entry::{Entries, Entry, Passing, Span};
@@ -150,7 +151,7 @@ impl FunctionLists {
     }
 
     /// The functions of a unit. InvalidDwarf exactly where one of its entries, or the name or the ranges of one of its
-    /// functions, has no value.
+    /// functions, has no value. What is walked over takes of the room.
     pub fn read<F: Links>(
         alloc: Global,
         room: &mut Room,
@@ -161,6 +162,7 @@ impl FunctionLists {
         ensures value { Gives (λ l. l) result (or_invalid (unit_lists (F.refer (F.linkage links.old)) (open_view unit.now))) }
         ensures same { F.linkage links.new ≡ F.linkage links.old }
     {
+        room.take(walk_words(unit.header.entries, unit.header.end))?;
         let mut entries = unit.entries(unit.header.entries)?;
         let mut lists = FunctionLists::new(alloc);
         loop {

@@ -11,6 +11,7 @@ mod levels;
 mod links;
 mod open_unit;
 mod referred;
+mod walking;
 
 pub use call_lists::CallLists;
 pub use function_lists::FunctionLists;

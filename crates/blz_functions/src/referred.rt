@@ -7,6 +7,7 @@ ghost use Rattle.blz_functions.specs.Naming.{is_linkage_name, is_name, is_refere
 ghost use Rattle.blz_functions.specs.Opened.{open_view, CanBeOpened};
 
 use crate::open_unit::OpenUnit;
+use crate::walking::walk_words;
 use blz_bytes::Room;
 use blz_constants::dwarf;
 use blz_entry::{AttrValue, Entries, StrPlace, invalid};
@@ -112,12 +113,19 @@ fn visit_attributes(
     let mut name = None;
     let mut link = None;
     loop {
+        let before = entries.place();
         let (attribute, value) = match entries.next_wanted() {
             Ok(Some(found)) => found,
-            Ok(None) => return Ok(visit_end(name, link)),
-            Err(fault) => return Err(fault),
+            Ok(None) => {
+                room.take(walk_words(before, entries.place()))?;
+                return Ok(visit_end(name, link));
+            }
+            Err(fault) => {
+                room.take(walk_words(before, unit.header.end))?;
+                return Err(fault);
+            }
         };
-        room.take(1)?;
+        room.take(walk_words(before, entries.place()))?;
         match linkage_of(room, unit, attribute, value)? {
             Some(linkage) => return Ok(Visited::Named(linkage)),
             None => {
@@ -130,8 +138,8 @@ fn visit_attributes(
 
 /// What the entry at a place of a unit tells of a name: its first linkage name, else its last name, else where its last
 /// reference leads. InvalidDwarf exactly where no entry of the unit stands there, or one of its attributes up to its
-/// linkage name has no value. The entry, each of its attributes and what was searched for the ends of its names take of
-/// the room.
+/// linkage name has no value. The entry, each of its attributes, the bytes that they take and what was searched for the
+/// ends of its names take of the room.
 #[tactic(auto, unfolding(crate::specs::Naming::visited, blz_info::specs::Walks::opened))]
 pub fn visit(room: &mut Room, unit: &OpenUnit<'_, '_>, place: usize) -> Result<Visited>
     requires { CanBeOpened unit.now }

@@ -244,6 +244,13 @@ impl<'s, 'b> Entries<'s, 'b> {
         }))
     }
 
+    /// Where what is read next begins, from the section's first byte.
+    pub fn place(&self) -> usize
+        ensures { result ≡ self.now.place }
+    {
+        self.place
+    }
+
     /// The attributes of the last entry that were not read.
     pub fn pending(&self) -> &'s [AttrSpec]
         ensures { result.now ≡ self.now.pending }

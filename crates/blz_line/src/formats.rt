@@ -6,9 +6,9 @@ ghost use Rattle.blz_info.specs.Contents.{section_view};
 ghost use Rattle.blz_line.specs.Formats.{format_at, formats_in, formats_at, with_content, entry_at, entries_in, path_count, formatted_at, formatted_paths};
 
 use crate::broken::broken;
-use crate::paths::{FileEntry, Paths};
+use crate::paths::{ENTRY_WORDS, FileEntry, Paths};
 use crate::table::Table;
-use blz_bytes::{u8_at, uleb_at};
+use blz_bytes::{Room, u8_at, uleb_at};
 use blz_constants::dwarf;
 use blz_entry::{AttrValue, Encoding, Section, StrPart, form_value};
 use blz_error::Result;
@@ -109,9 +109,15 @@ fn entry_at(
     Some((entry, offset))
 }
 
+/// What an entry takes of a file's room: it is kept, and each of its values is read.
+fn entry_words(formats: &[EntryFormat]) -> u64 {
+    ENTRY_WORDS.saturating_add(formats.len() as u64)
+}
+
 /// So many entries, and the offset behind them.
 fn entries_at(
     alloc: Global,
+    room: &mut Room,
     encoding: Encoding,
     section: &Section<'_, '_>,
     formats: &[EntryFormat],
@@ -123,6 +129,7 @@ fn entries_at(
     let mut table = Table::new(alloc);
     let mut offset = at;
     for _ in 0..count {
+        room.take(entry_words(formats))?;
         let Some((entry, next)) = entry_at(encoding, section, formats, offset) else {
             return Err(broken());
         };
@@ -136,6 +143,7 @@ fn entries_at(
 /// number is then one that no byte backs, so they are not read one by one.
 fn some_entries_at(
     alloc: Global,
+    room: &mut Room,
     encoding: Encoding,
     section: &Section<'_, '_>,
     formats: &[EntryFormat],
@@ -151,7 +159,7 @@ fn some_entries_at(
     if next == at {
         return Ok((Table::of_equal(alloc, count, first), at));
     }
-    entries_at(alloc, encoding, section, formats, count, at)
+    entries_at(alloc, room, encoding, section, formats, count, at)
 }
 
 fn path_count(formats: &[EntryFormat]) -> usize
@@ -167,6 +175,7 @@ fn path_count(formats: &[EntryFormat]) -> usize
 #[tactic(auto, unfolding(crate::specs::Formats::formatted_at, crate::specs::Formats::entries_in))]
 fn formatted_at(
     alloc: Global,
+    room: &mut Room,
     encoding: Encoding,
     section: &Section<'_, '_>,
     at: usize,
@@ -183,20 +192,29 @@ fn formatted_at(
     if path_count(formats.as_slice()) != 1 {
         return Err(broken());
     }
-    some_entries_at(alloc, encoding, section, formats.as_slice(), count, start)
+    some_entries_at(
+        alloc,
+        room,
+        encoding,
+        section,
+        formats.as_slice(),
+        count,
+        start,
+    )
 }
 
 /// The tables of version 5.
 #[tactic(auto, unfolding(crate::specs::Formats::formatted_paths))]
 pub fn formatted_paths(
     alloc: Global,
+    room: &mut Room,
     encoding: Encoding,
     section: &Section<'_, '_>,
     at: usize,
 ) -> Result<Paths>
     ensures { Gives (λ r. r) result (or_mark (formatted_paths encoding (section_view section.now) at) InvalidDwarf) }
 {
-    let (directories, next) = formatted_at(alloc, encoding, section, at)?;
-    let (files, _) = formatted_at(alloc, encoding, section, next)?;
+    let (directories, next) = formatted_at(alloc, room, encoding, section, at)?;
+    let (files, _) = formatted_at(alloc, room, encoding, section, next)?;
     Ok(Paths { directories, files })
 }

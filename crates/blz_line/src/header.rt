@@ -12,7 +12,7 @@ use crate::formats::formatted_paths;
 use crate::paths::{FileEntry, Paths, listed_paths};
 use crate::rules::Rules;
 use crate::table::Table;
-use blz_bytes::{piece_at, u8_at, u16_at};
+use blz_bytes::{Room, piece_at, u8_at, u16_at};
 use blz_entry::{Encoding, Section, Sections, Width, cut, extent_at, fixed_at};
 use blz_error::Result;
 use std::alloc::Global;
@@ -184,6 +184,7 @@ fn usable_rules_at(
 /// The tables of directories and files.
 fn paths_at(
     alloc: Global,
+    room: &mut Room,
     encoding: Encoding,
     section: &Section<'_, '_>,
     at: usize,
@@ -191,9 +192,9 @@ fn paths_at(
     ensures { Gives (λ p. p) result (or_mark (paths_at encoding (section_view section.now) at) InvalidDwarf) }
 {
     if encoding.version == 5 {
-        formatted_paths(alloc, encoding, section, at)
+        formatted_paths(alloc, room, encoding, section, at)
     } else {
-        listed_paths(alloc, section.bytes, at)
+        listed_paths(alloc, room, section.bytes, at)
     }
 }
 
@@ -201,6 +202,7 @@ fn paths_at(
 #[tactic(auto, unfolding(crate::specs::Headers::fields_at, blz_model::specs::Reads::passed_over))]
 fn fields_at(
     alloc: Global,
+    room: &mut Room,
     encoding: Encoding,
     program: usize,
     end: usize,
@@ -218,7 +220,7 @@ fn fields_at(
     else {
         return Err(broken());
     };
-    let paths = paths_at(alloc, encoding, section, behind)?;
+    let paths = paths_at(alloc, room, encoding, section, behind)?;
     Ok(LineHeader {
         version: rules.version,
         address_size: rules.address_size,
@@ -234,10 +236,11 @@ fn fields_at(
     })
 }
 
-/// The header at an offset of `.debug_line`.
+/// The header at an offset of `.debug_line`. Its bytes and its entries take of the room.
 #[tactic(auto, unfolding(crate::specs::Headers::header_at))]
 pub(crate) fn header_at(
     alloc: Global,
+    room: &mut Room,
     section: &Section<'_, '_>,
     at: usize,
     address_size: u8,
@@ -256,18 +259,9 @@ pub(crate) fn header_at(
     let Some((program, next)) = program_at(extent.wide, &whole, next) else {
         return Err(broken());
     };
+    room.take(program.saturating_sub(at) as u64)?;
     let header = cut(section, program);
-    fields_at(alloc, encoding, program, extent.end, &header, next)
-}
-
-/// The bytes of the line table at an offset of `.debug_line`, its program and its length among them; 0 where there is
-/// none. So much is read where the program is run.
-pub fn program_bytes(sections: &Sections<'_, '_>, at: u64) -> u64 {
-    let at = at as usize;
-    match extent_at(&sections.line, at) {
-        Some((extent, _)) => (extent.end - at) as u64,
-        None => 0,
-    }
+    fields_at(alloc, room, encoding, program, extent.end, &header, next)
 }
 
 impl LineHeader {
@@ -281,7 +275,20 @@ impl LineHeader {
     ) -> Result<LineHeader>
         ensures { Gives (λ h. h) result (or_mark (header_at (section_view sections.now.line) at address_size) InvalidDwarf) }
     {
-        header_at(alloc, &sections.line, at as usize, address_size)
+        LineHeader::parse_within(alloc, &mut Room::endless(), sections, at, address_size)
+    }
+
+    /// The same, which takes what it reads and keeps of a file's room.
+    pub fn parse_within(
+        alloc: Global,
+        room: &mut Room,
+        sections: &Sections<'_, '_>,
+        at: u64,
+        address_size: u8,
+    ) -> Result<LineHeader>
+        ensures { Gives (λ h. h) result (or_mark (header_at (section_view sections.now.line) at address_size) InvalidDwarf) }
+    {
+        header_at(alloc, room, &sections.line, at as usize, address_size)
     }
 
     pub(crate) fn rules(&self) -> Rules
@@ -297,6 +304,7 @@ impl LineHeader {
             opcode_base: self.opcode_base,
         }
     }
+
     /// The numbers of operands of the standard opcodes.
     pub(crate) fn counts<'b>(&self, section: &Section<'_, 'b>) -> &'b [u8]
         requires ready { IsReady (rules_of self.now) }

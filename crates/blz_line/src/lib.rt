@@ -18,7 +18,7 @@ mod row;
 mod rules;
 mod table;
 
-pub use header::{LineHeader, program_bytes};
+pub use header::LineHeader;
 pub use lines::{Lines, Location};
 pub use program_lines::ProgramLines;
 pub use row::{LineRow, LineSequence};

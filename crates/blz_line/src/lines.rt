@@ -13,7 +13,7 @@ use crate::broken::broken;
 use crate::files::{UnitNames, file_text};
 use crate::program_lines::ProgramLines;
 use crate::row::{LineRow, LineSequence};
-use blz_bytes::{DirPath, Orders};
+use blz_bytes::{DirPath, Orders, Room};
 use blz_entry::{Sections, Texts, UnitHeader, UnitRoot};
 use blz_error::Result;
 use std::alloc::Global;
@@ -75,7 +75,8 @@ impl Lines {
         let Some(at) = root.line else {
             return Ok(None);
         };
-        let program = ProgramLines::parse(alloc, orders, sections, header, root, at)?;
+        let mut room = Room::endless();
+        let program = ProgramLines::parse(alloc, &mut room, orders, sections, header, root, at)?;
         Ok(Some(Lines::of_unit(program, root)))
     }
 
@@ -91,11 +92,6 @@ impl Lines {
         ensures { result.now ≡ self.now.table.sequences }
     {
         self.program.sequences()
-    }
-
-    /// How many rows all sequences have.
-    pub fn rows_count(&self) -> u64 {
-        self.program.rows_count()
     }
 
     /// The directory and the name of the file of a number, counted from 0; None exactly where the table has no such file.

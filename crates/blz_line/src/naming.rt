@@ -12,10 +12,14 @@ use crate::broken::broken;
 use crate::files::{FilePlaces, FirstFile, ProgramFiles};
 use crate::paths::FileEntry;
 use crate::table::Table;
-use blz_entry::{AttrValue, Sections, StrPlace, UnitHeader, UnitRoot, attr_string};
+use blz_bytes::Room;
+use blz_entry::{AttrValue, Sections, StrPlace, UnitHeader, UnitRoot, attr_string, search_words};
 use blz_error::Result;
-use std::alloc::Global;
+use std::alloc::{AllocError, Global};
 use std::sync::Arc;
+
+/// What a file that is kept takes of a file's room.
+const FILE_WORDS: u64 = 12;
 
 /// What the names of a table's files go by.
 #[derive(Clone, Copy)]
@@ -45,32 +49,54 @@ impl Namer<'_, '_, '_> {
         }
     }
 
-    fn string_at(&self, value: AttrValue) -> Option<StrPlace>
-        ensures { result ≡ (naming_view self.now).string_at value }
+    /// The string of a value, where it has one. What was searched for its end takes of the room.
+    fn string_at(
+        &self,
+        room: &mut Room,
+        value: AttrValue,
+    ) -> std::result::Result<Option<StrPlace>, AllocError>
+        ensures { IfOk result (λ s. s ≡ (naming_view self.now).string_at value) }
     {
-        attr_string(self.sections, self.unit, self.root, value)
+        let found = attr_string(self.sections, self.unit, self.root, value);
+        room.take(search_words(self.sections, value, found))?;
+        Ok(found)
     }
 
+    /// The file of an entry, where its path and its directory can be read.
     #[tactic(auto, unfolding(crate::specs::FileNames::file_of, crate::specs::FileNames::file_in))]
-    fn file_of(&self, entry: FileEntry) -> Option<FilePlaces>
-        ensures { result ≡ file_of (naming_view self.now) entry }
+    fn file_of(
+        &self,
+        room: &mut Room,
+        entry: FileEntry,
+    ) -> std::result::Result<Option<FilePlaces>, AllocError>
+        ensures { IfOk result (λ f. f ≡ file_of (naming_view self.now) entry) }
     {
-        let name = self.string_at(entry.path)?;
-        let directory = match self.directory_path(entry.directory) {
-            Some(path) => Some(self.string_at(path)?),
-            None => None,
+        room.take(FILE_WORDS)?;
+        let Some(name) = self.string_at(room, entry.path)? else {
+            return Ok(None);
         };
-        Some(FilePlaces {
+        let Some(path) = self.directory_path(entry.directory) else {
+            return Ok(Some(FilePlaces {
+                comp_dir: None,
+                directory: None,
+                name: Some(name),
+            }));
+        };
+        let Some(directory) = self.string_at(room, path)? else {
+            return Ok(None);
+        };
+        Ok(Some(FilePlaces {
             comp_dir: None,
-            directory,
+            directory: Some(directory),
             name: Some(name),
-        })
+        }))
     }
 
     /// The file of each of some equal entries.
     fn equal_files(
         &self,
         alloc: Global,
+        room: &mut Room,
         repeated: Option<(u64, FileEntry)>,
     ) -> Result<Table<FilePlaces>>
         ensures { Gives (λ t. t) result (or_mark (all_files (naming_view self.now) (copies repeated)) InvalidDwarf) }
@@ -81,20 +107,25 @@ impl Namer<'_, '_, '_> {
         if count == 0 {
             return Ok(Table::new(alloc));
         }
-        let Some(file) = self.file_of(entry) else {
+        let Some(file) = self.file_of(room, entry)? else {
             return Err(broken());
         };
         Ok(Table::of_equal(alloc, count, file))
     }
 
     /// The file of each entry.
-    fn all_files(&self, alloc: Global, entries: &Table<FileEntry>) -> Result<Table<FilePlaces>>
+    fn all_files(
+        &self,
+        alloc: Global,
+        room: &mut Room,
+        entries: &Table<FileEntry>,
+    ) -> Result<Table<FilePlaces>>
         ensures { Gives (λ t. t) result (or_mark (all_files (naming_view self.now) entries.now) InvalidDwarf) }
     {
         let (repeated, listed) = entries.parts();
-        let mut files = self.equal_files(alloc, repeated)?;
+        let mut files = self.equal_files(alloc, room, repeated)?;
         for entry in listed {
-            let Some(file) = self.file_of(*entry) else {
+            let Some(file) = self.file_of(room, *entry)? else {
                 return Err(broken());
             };
             files.push(file)?;
@@ -115,12 +146,18 @@ impl Namer<'_, '_, '_> {
         }
     }
 
-    /// The files of the program; InvalidDwarf where a path or a directory cannot be read.
-    pub fn files_of(&self, alloc: Global, entries: &Table<FileEntry>) -> Result<ProgramFiles>
+    /// The files of the program; InvalidDwarf where a path or a directory cannot be read. Each file takes of the room, and
+    /// what is searched for the ends of its names.
+    pub fn files_of(
+        &self,
+        alloc: Global,
+        room: &mut Room,
+        entries: &Table<FileEntry>,
+    ) -> Result<ProgramFiles>
         ensures table { Gives (λ f. arc_value f.table) result (or_mark (all_files (naming_view self.now) entries.now) InvalidDwarf) }
         ensures first { IfOk result (λ f. f.first ≡ first_of self.now.version (length entries.now)) }
     {
-        let files = self.all_files(alloc, entries)?;
+        let files = self.all_files(alloc, room, entries)?;
         let table = Arc::new(alloc, files)?;
         let first = self.first_of(entries);
         Ok(ProgramFiles { first, table })

@@ -6,10 +6,13 @@ ghost use Rattle.blz_line.specs.PathTables.{text_place, file_numbers, file_at, e
 
 use crate::broken::broken;
 use crate::table::Table;
-use blz_bytes::{uleb_at, zero_ended_at};
+use blz_bytes::{Room, uleb_at, zero_ended_at};
 use blz_entry::{AttrValue, StrPart, StrPlace};
 use blz_error::Result;
 use std::alloc::Global;
+
+/// What an entry that is kept takes of a file's room.
+pub const ENTRY_WORDS: u64 = 6;
 
 /// A directory or a file as its table spells it (DWARF 5 section 6.2.4.1).
 #[derive(Clone, Copy)]
@@ -79,6 +82,7 @@ fn entry_behind(kind: Kind, path: AttrValue, bytes: &[u8], at: usize) -> Option<
 /// The entries up to an empty path, and the offset behind it.
 fn listed_at(
     alloc: Global,
+    room: &mut Room,
     kind: Kind,
     bytes: &[u8],
     at: usize,
@@ -97,6 +101,7 @@ fn listed_at(
         let Some((entry, next)) = entry_behind(kind, text_place(offset, path), bytes, behind) else {
             return Err(broken());
         };
+        room.take(ENTRY_WORDS)?;
         table.push(entry)?;
         offset = next;
     }
@@ -105,10 +110,10 @@ fn listed_at(
 
 /// The tables of versions 2 to 4.
 #[tactic(auto, unfolding(crate::specs::PathTables::listed_paths))]
-pub fn listed_paths(alloc: Global, bytes: &[u8], at: usize) -> Result<Paths>
+pub fn listed_paths(alloc: Global, room: &mut Room, bytes: &[u8], at: usize) -> Result<Paths>
     ensures { Gives (λ r. r) result (or_mark (listed_paths bytes.now at) InvalidDwarf) }
 {
-    let (directories, next) = listed_at(alloc, Kind::Directories, bytes, at)?;
-    let (files, _) = listed_at(alloc, Kind::Files, bytes, next)?;
+    let (directories, next) = listed_at(alloc, room, Kind::Directories, bytes, at)?;
+    let (files, _) = listed_at(alloc, room, Kind::Files, bytes, next)?;
     Ok(Paths { directories, files })
 }

@@ -20,13 +20,16 @@ use crate::lookup::{row_at, spans_of};
 use crate::naming::Namer;
 use crate::program::run;
 use crate::row::{LineRow, LineSequence};
-use blz_bytes::{Key, Orders, check_pairs};
+use blz_bytes::{Key, Orders, Room, check_pairs};
 use blz_entry::{Sections, UnitHeader, UnitRoot, cut};
 use blz_error::Result;
 use blz_ranges::{RangeIndex, Span};
 use std::alloc::{AllocError, Global};
 use std::marker::Model;
 use std::sync::Arc;
+
+/// What a row takes of a file's room.
+const ROW_WORDS: u64 = 3;
 
 /// The sequences of a line program, and its files as a unit without names has them.
 #[derive(Drop)]
@@ -55,10 +58,20 @@ struct Unordered {
     files: ProgramFiles,
 }
 
-/// Reads the table of a header and runs its program.
+/// What the rows of some sequences take of a file's room.
+fn rows_words(sequences: &[LineSequence]) -> u64 {
+    let mut rows: u64 = 0;
+    for sequence in sequences {
+        rows = rows.saturating_add(sequence.rows().len() as u64);
+    }
+    rows.saturating_mul(ROW_WORDS)
+}
+
+/// Reads the table of a header and runs its program. The bytes of the program, its rows and its files take of the room.
 #[tactic(auto, unfolding(crate::specs::ProgramTables::program_table, crate::specs::UnitLines::program_of))]
 fn table_of(
     alloc: Global,
+    room: &mut Room,
     sections: &Sections<'_, '_>,
     unit: &UnitHeader,
     root: &UnitRoot,
@@ -73,9 +86,11 @@ fn table_of(
     let program = header.program;
     let line = cut(&sections.line, header.end);
     let counts = header.counts(&sections.line);
+    room.take(header.end.saturating_sub(program) as u64)?;
     let (directories, files) = header.into_paths();
     let given = run(alloc, rules, counts, &line, program, files)?;
     let (sequences, entries) = given.into_parts();
+    room.take(rows_words(sequences.as_slice()))?;
     let namer = Namer {
         sections,
         unit,
@@ -83,7 +98,7 @@ fn table_of(
         version: rules.version,
         directories: &directories,
     };
-    let files = namer.files_of(alloc, &entries)?;
+    let files = namer.files_of(alloc, room, &entries)?;
     Ok(Unordered { sequences, files })
 }
 
@@ -91,6 +106,7 @@ fn table_of(
 #[tactic(auto, unfolding(crate::specs::ProgramTables::program_at))]
 fn table_at(
     alloc: Global,
+    room: &mut Room,
     sections: &Sections<'_, '_>,
     unit: &UnitHeader,
     root: &UnitRoot,
@@ -99,8 +115,8 @@ fn table_at(
     ensures value { Gives table_view result (or_mark (program_at sections.now unit.now root.now at) InvalidDwarf) }
     ensures rising { IfOk result (λ t. AreRising (table_view t).sequences) }
 {
-    let header = header_at(alloc, &sections.line, at as usize, unit.address_size)?;
-    table_of(alloc, sections, unit, root, header)
+    let header = header_at(alloc, room, &sections.line, at as usize, unit.address_size)?;
+    table_of(alloc, room, sections, unit, root, header)
 }
 
 /// The keys of ranges by their begins.
@@ -165,9 +181,10 @@ impl ProgramLines {
     }
 
     /// The table of the line program at an offset, as a unit reads it; InvalidDwarf exactly where that, or the string of a
-    /// file, has no value.
+    /// file, has no value. What is read and kept takes of the room.
     pub fn parse<O: Orders>(
         alloc: Global,
+        room: &mut Room,
         orders: &mut O,
         sections: &Sections<'_, '_>,
         header: &UnitHeader,
@@ -177,7 +194,7 @@ impl ProgramLines {
         ensures value { Gives (λ p. p.table) result (or_mark (program_at sections.now header.now root.now at) InvalidDwarf) }
         ensures accepted { IfOk result (λ p. IsAccepted O.pair_places (map begin_key (spans_of p.table.sequences)) p.ordered) }
     {
-        let table = table_at(alloc, sections, header, root, at)?;
+        let table = table_at(alloc, room, sections, header, root, at)?;
         Ok(ProgramLines::new(alloc, orders, table)?)
     }
 
@@ -232,15 +249,6 @@ impl ProgramLines {
         ensures { result.now ≡ self.now.table.sequences }
     {
         self.sequences.as_slice()
-    }
-
-    /// How many rows all sequences have.
-    pub fn rows_count(&self) -> u64 {
-        let mut count: u64 = 0;
-        for sequence in self.sequences() {
-            count = count.saturating_add(sequence.rows().len() as u64);
-        }
-        count
     }
 
     /// The file of a number, counted from 0, in a unit with some names.

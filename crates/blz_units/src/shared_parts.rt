@@ -17,7 +17,7 @@ use crate::shared_programs::SharedPrograms;
 use blz_bytes::{Orders, Room};
 use blz_entry::{Abbreviations, Sections, UnitHeader, UnitRoot};
 use blz_error::Result;
-use blz_line::{LineHeader, Lines, program_bytes};
+use blz_line::{LineHeader, Lines};
 use std::alloc::{AllocError, Global};
 use std::collections::BTreeMap;
 use std::sync::Arc;
@@ -65,7 +65,7 @@ fn read_table(
     Ok(Arc::new(alloc, table)?)
 }
 
-/// Asks for the header of the line program at an offset. Its bytes take of the room.
+/// Asks for the header of the line program at an offset.
 fn read_header(
     alloc: Global,
     room: &mut Room,
@@ -75,16 +75,8 @@ fn read_header(
 ) -> Result<()>
     ensures { Gives (λ _. tt) result (or_invalid (line_header (sections_view sections.now) at address_size)) }
 {
-    match LineHeader::parse(alloc, sections, at, address_size) {
-        Ok(header) => {
-            room.take((header.program as u64).saturating_sub(at))?;
-            Ok(())
-        },
-        Err(fault) => {
-            room.take(program_bytes(sections, at))?;
-            Err(fault)
-        },
-    }
+    LineHeader::parse_within(alloc, room, sections, at, address_size)?;
+    Ok(())
 }
 
 impl SharedParts {

@@ -10,11 +10,10 @@ ghost use Rattle.blz_ranges.specs.Keyed.{IsAccepted, begin_key};
 ghost use Rattle.blz_units.specs.SharedPrograms.{ArePrograms, IsProgramAt};
 
 use crate::program_key::{ProgramKey, program_key};
-use crate::words::ROW_WORDS;
 use blz_bytes::{Orders, Room};
 use blz_entry::{Sections, UnitHeader, UnitRoot, invalid};
 use blz_error::{Error, ErrorKind, Result};
-use blz_line::{Lines, ProgramLines, program_bytes};
+use blz_line::{Lines, ProgramLines};
 use std::alloc::{AllocError, Global};
 use std::collections::BTreeMap;
 
@@ -72,11 +71,9 @@ impl SharedPrograms {
         ensures accepted { IfOk result (λ p. IsAccepted O.pair_places (map begin_key (spans_of p.table.sequences)) p.ordered) }
         ensures kept { ArePrograms (sections_view sections.now) self.new }
     {
-        room.take(program_bytes(sections, at))?;
         let key = program_key(header, root, at);
-        match ProgramLines::parse(alloc, orders, sections, header, root, at) {
+        match ProgramLines::parse(alloc, room, orders, sections, header, root, at) {
             Ok(program) => {
-                room.take(program.rows_count().saturating_mul(ROW_WORDS))?;
                 let kept = program.share()?;
                 self.keep(key, Some(kept))?;
                 Ok(program)

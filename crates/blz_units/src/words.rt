@@ -11,9 +11,6 @@ pub(crate) const HEADER_WORDS: u64 = 10;
 /// A range that is announced, with its owner and its place in the index.
 pub(crate) const RANGE_WORDS: u64 = 10;
 
-/// A row of a line program.
-pub(crate) const ROW_WORDS: u64 = 3;
-
 /// What reading the first entry of a unit takes: a word for each attribute.
 pub(crate) fn attribute_words(
     sections: &Sections<'_, '_>,

@@ -14,10 +14,10 @@ pub loop-entry-init : goal.loop-entry-init
 loop-entry-init c = files_start _ _ _ _ _ c.parts-repeated.ensures c.in_ok-files.ensures
 
 pub returns-in_default : goal.returns-in_default
-returns-in_default c = fails_none _ _ c.broken.ensures (sym c.loop-entry.invariant ∙ files_none _ _ c.loop-entry.entry-index _ _ (omega arith) (sym c.in_default.ensures))
+returns-in_default c = fails_none _ _ c.broken.ensures (sym c.loop-entry.invariant ∙ files_none _ _ c.loop-entry.entry-index _ _ (omega arith) (sym c.in_ok-file.ensures ∙ c.in_default.is))
 
 pub loop-entry-preserved : goal.loop-entry-preserved
-loop-entry-preserved c = rw c.in_ok-push.ensures.added (sym (files_more _ _ c.loop-entry.entry-index _ _ c.in-Some.file (omega arith) (sym c.in-Some.ensures)) ∙ c.loop-entry.invariant)
+loop-entry-preserved c = rw c.in_ok-push.ensures.added (sym (files_more _ _ c.loop-entry.entry-index _ _ c.in-Some.file (omega arith) (sym c.in_ok-file.ensures ∙ c.in-Some.is)) ∙ c.loop-entry.invariant)
 
 pub returns : goal.returns
 returns c = or_mark_some _ _ (sym c.loop-entry.invariant ∙ files_end _ _ c.loop-entry.entry-index _ (omega arith))
