@@ -20,6 +20,7 @@ same_build_id (Some actual) recorded = same_bytes actual recorded
 abbrev pub has_build_id : Bytes → FileAt → Opened (Unit {0})
 has_build_id recorded file = same_build_id (build_id_of file.image) recorded
 
+-- the link to the alternative file, which has to have the build id that was recorded
 abbrev pub altlink_lead : DebugAltlinkValue → Lead
 altlink_lead link = record { target = link.path; build_id = Some link.build_id; passes = has_build_id link.build_id }
 

@@ -4,9 +4,11 @@ use Rattle.blz_bundle.specs.Images.{NamedImage, ImageSet}
 use Rattle.blz_bundle.specs.declared.bundle.Companion.{Companion}
 use Rattle.blz_bundle.specs.declared.bundle.Bundle.{Bundle}
 
+-- a companion as its bytes and the name of its module
 abbrev pub companion_view : Companion → NamedImage
 companion_view c = record { image = c.image.now; module_name = option_map (λ m. m.now) c.«module» }
 
+-- an image and its companions as their bytes and the names of their modules
 abbrev pub bundle_view : Bundle → ImageSet
 bundle_view b = record {
   main = record { image = b.image.now; module_name = option_map (λ m. m.now) b.«module» };

@@ -29,6 +29,7 @@ pub record StepAnswers : Type 0 where
   pub alternative : Answers
   pub supplementary : Answers
 
+-- files whose contents are known answer by them in each step of opening
 abbrev pub told_steps : Contents → StepAnswers
 told_steps contents = record { main = told contents; linked = told contents; package_file = told contents; alternative = told contents; supplementary = told contents }
 

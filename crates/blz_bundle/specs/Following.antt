@@ -32,6 +32,7 @@ pub record Lead : Type 0 where
   pub build_id : Option Bytes
   pub passes : FileAt → Opened (Unit {0})
 
+-- a file that was found, which has to pass the check of its link
 abbrev pub checked : (FileAt → Opened (Unit {0})) → Option FileAt → Opened (Option FileAt)
 checked passes None = Found None
 checked passes (Some file) = do

@@ -14,6 +14,7 @@ pub record ImageSet : Type 0 where
   pub supplementary : Option NamedImage
   pub package_file : Option NamedImage
 
+-- what a link leads to, and without one the image itself
 abbrev pub linked_or : NamedImage → Option NamedImage → NamedImage
 linked_or main None = main
 linked_or main (Some linkee) = linkee

@@ -20,6 +20,7 @@ pub record FileSet : Type 0 where
   pub supplementary : Option FileAt
   pub package_file : Option FileAt
 
+-- the images of a file and its companions, each with its path as the name of its module
 abbrev pub images_in : FileSet → ImageSet
 images_in files = record {
   main = named files.main;

@@ -37,5 +37,6 @@ abbrev pub agreeing : Bool → Bytes → Bytes → Opened (Unit {0})
 agreeing true actual recorded = Found tt
 agreeing false actual recorded = Refused InvalidData (Some (actual, recorded))
 
+-- the bytes that were found have to be those that were recorded
 abbrev pub same_bytes : Bytes → Bytes → Opened (Unit {0})
 same_bytes actual recorded = agreeing (bytes_eq actual recorded) actual recorded

@@ -5,6 +5,7 @@ use Rattle.std.specs.Prelude.{ℕ, ◌==◌, ◌||◌, ◌-◌, Bool, false, Lis
 abbrev pub slash : ℕ
 slash = 0x2f
 
+-- whether a byte is there and is `/`
 abbrev pub is_slash : Option ℕ → Bool
 is_slash None = false
 is_slash (Some b) = b == slash

@@ -4,6 +4,7 @@ use Rattle.blz_elf.specs.declared.answer.CodeInfo.{CodeInfo}
 use Rattle.blz_elf.specs.declared.answer.InlinedFn.{InlinedFn}
 use Rattle.blz_model.specs.Answers as model
 
+-- a place that is returned, with the name of its file as bytes
 abbrev pub site_view : CodeInfo → model.Site
 site_view s = record { dir = s.dir; file = s.file.now; line = s.line; column = s.column }
 

@@ -14,9 +14,11 @@ use Rattle.blz_image.specs.Sections.{sections_of}
 use Rattle.blz_image.specs.Segments.{segments_of}
 use Rattle.blz_elf.specs.RecordLists.{records_in}
 
+-- the section headers of a table, of 40 bytes in class 32 and of 64 in class 64
 abbrev pub section_records : List ℕ → Rows → List (ElfN Elf64_Shdr Elf32_Shdr)
 section_records image rows = records_in shdr32 40 shdr64 64 image rows
 
+-- the program headers of a table, of 32 bytes in class 32 and of 56 in class 64
 abbrev pub segment_records : List ℕ → Rows → List (ElfN Elf64_Phdr Elf32_Phdr)
 segment_records image rows = records_in phdr32 32 phdr64 56 image rows
 
@@ -32,11 +34,13 @@ program_headers_of image h = do
   segments ← segments_of image h
   Good (segment_records image (record { format = h.format; at = h.phoff; count = length segments }))
 
+-- all section headers of an image, the first one too
 unfoldable pub image_section_headers : List ℕ → Part (List (ElfN Elf64_Shdr Elf32_Shdr))
 image_section_headers image = do
   header ← header_of image
   section_headers_of image header
 
+-- all program headers of an image
 unfoldable pub image_program_headers : List ℕ → Part (List (ElfN Elf64_Phdr Elf32_Phdr))
 image_program_headers image = do
   header ← header_of image

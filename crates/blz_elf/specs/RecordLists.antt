@@ -23,5 +23,6 @@ abbrev pub record_at : {N T : Type 0} → (ByteOrder → List ℕ → N) → ℕ
 record_at narrow narrow_size wide wide_size f image at =
     of_class (B32 (spelled narrow narrow_size f.order image at)) (B64 (spelled wide wide_size f.order image at)) f.class
 
+-- the records of a table, each as its bytes spell it in the class and the order of the image
 abbrev pub records_in : {N T : Type 0} → (ByteOrder → List ℕ → N) → ℕ → (ByteOrder → List ℕ → T) → ℕ → List ℕ → Rows → List (ElfN T N)
 records_in narrow narrow_size wide wide_size image r = rows_in (record_at narrow narrow_size wide wide_size) (of_class narrow_size wide_size) image r

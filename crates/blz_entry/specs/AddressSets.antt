@@ -63,6 +63,7 @@ range_pair size s at = do
   len ← length_at size s begin.1
   Some (kept size begin.0 len.0, len.1)
 
+-- the range of a pair, where it is kept, before those behind it; none where no pair could be read
 abbrev pub then_pairs : Read (Option Span) → (ℕ → List Span) → List Span
 then_pairs None rest = []
 then_pairs (Some x) rest = option_to_list x.0 ++ rest x.1
@@ -80,6 +81,7 @@ pairs_in (suc n) end size s at = then_pairs (next_pair end size s at) (λ next. 
 abbrev pub pairs_from : ℕ → ℕ → Contents → ℕ → List Span
 pairs_from end size s at = pairs_in (suc (end - at)) end size s at
 
+-- the ranges of a set
 abbrev pub pairs_of : Contents → ArangeSet → List Span
 pairs_of s set = pairs_from set.end set.address_size s set.at
 

@@ -9,6 +9,7 @@ use Rattle.blz_info.specs.declared.text.StrBase.{StrBase}
 use Rattle.blz_info.specs.declared.value.AttrValue.{AttrValue}
 use Rattle.blz_info.specs.Walks.{Walk}
 
+-- a step for each item, in their order; nothing where one of them fails
 abbrev pub fold_maybe : {S A : Type 0} → (S → A → Option S) → S → List A → Option S
 fold_maybe step s [] = Some s
 fold_maybe step s (x ∷ xs) = step s x >>= λ t. fold_maybe step t xs

@@ -41,15 +41,17 @@ abbrev pub answered_offset : Option ℕ → Option (Option ℕ)
 answered_offset None = Some None
 answered_offset (Some offset) = if nat_lt offset (2 ^ 64) then Some (Some offset) else None
 
--- an attribute DW_AT_low_pc or DW_AT_high_pc with its address, or else its number
+-- DW_AT_low_pc: the first address, where the value is one (DWARF 5 section 2.17.2)
 abbrev pub with_low : RangeAttributes → Option ℕ → RangeAttributes
 with_low r None = r
 with_low r (Some a) = record r { low_pc = Some a }
 
+-- DW_AT_high_pc as a constant: the number of bytes from DW_AT_low_pc on (DWARF 5 section 2.17.2)
 abbrev pub with_size : RangeAttributes → Option ℕ → RangeAttributes
 with_size r None = r
 with_size r (Some n) = record r { size = Some n }
 
+-- DW_AT_high_pc: the first address past the range, or else a number of bytes (DWARF 5 section 2.17.2)
 abbrev pub with_high : RangeAttributes → Option ℕ → Option ℕ → RangeAttributes
 with_high r None number = with_size r number
 with_high r (Some a) number = record r { high_pc = Some a }
@@ -92,6 +94,7 @@ base_behind base (Offsets begin end) = base
 base_behind base (Addresses begin end) = base
 base_behind base (Length begin len) = base
 
+-- whether an entry is the one that ends its list
 abbrev pub is_end : RangeEntry → Bool
 is_end End = true
 is_end (Base a) = false
@@ -103,19 +106,21 @@ is_end (Length begin len) = false
 abbrev pub pair_meaning : ℕ → ℕ → ℕ → RangeEntry
 pair_meaning address_size first second = if (first == 0) && (second == 0) then End else (if first == greatest address_size then Base second else Offsets first second)
 
+-- an entry of versions 2 to 4: two numbers of the size of an address (DWARF 4 section 2.17.3)
 unfoldable pub pair_at : ℕ → Contents → ℕ → Read RangeEntry
 pair_at address_size s at = do
   first ← address_at address_size s at
   second ← address_at address_size s first.1
   Some (pair_meaning address_size first.0 second.0, second.1)
 
--- version 5: a code and its operands
+-- DW_RLE_base_addressx: the base, by its index among the addresses of the unit (DWARF 5 section 2.17.3)
 unfoldable pub base_of_index : Sections → UnitHeader → UnitRoot → ℕ → Read RangeEntry
 base_of_index s h root at = do
   index ← uleb s.rnglists.bytes.now at
   a ← address_of s h root index.0
   Some (Base a, index.1)
 
+-- DW_RLE_startx_endx: the first address and the one past the last, each by its index
 unfoldable pub both_by_index : Sections → UnitHeader → UnitRoot → ℕ → Read RangeEntry
 both_by_index s h root at = do
   first ← uleb s.rnglists.bytes.now at
@@ -124,6 +129,7 @@ both_by_index s h root at = do
   end ← address_of s h root second.0
   Some (Addresses begin end, second.1)
 
+-- DW_RLE_startx_length: the first address by its index, and the number of bytes
 unfoldable pub begin_by_index : Sections → UnitHeader → UnitRoot → ℕ → Read RangeEntry
 begin_by_index s h root at = do
   index ← uleb s.rnglists.bytes.now at
@@ -131,23 +137,27 @@ begin_by_index s h root at = do
   begin ← address_of s h root index.0
   Some (Length begin len.0, len.1)
 
+-- DW_RLE_offset_pair: begin and end as offsets from the base
 unfoldable pub offset_pair : List ℕ → ℕ → Read RangeEntry
 offset_pair bytes at = do
   begin ← uleb bytes at
   end ← uleb bytes begin.1
   Some (Offsets begin.0 end.0, end.1)
 
+-- DW_RLE_base_address: the base, as an address
 unfoldable pub base_address : ℕ → Contents → ℕ → Read RangeEntry
 base_address address_size s at = do
   a ← address_at address_size s at
   Some (Base a.0, a.1)
 
+-- DW_RLE_start_end: the first address and the one past the last
 unfoldable pub begin_and_end : ℕ → Contents → ℕ → Read RangeEntry
 begin_and_end address_size s at = do
   begin ← address_at address_size s at
   end ← address_at address_size s begin.1
   Some (Addresses begin.0 end.0, end.1)
 
+-- DW_RLE_start_length: the first address and the number of bytes
 unfoldable pub begin_and_length : ℕ → Contents → ℕ → Read RangeEntry
 begin_and_length address_size s at = do
   begin ← address_at address_size s at
@@ -166,6 +176,7 @@ coded_entry s h root code at =
     if code == dwarf.DW_RLE_start_end then begin_and_end h.address_size (section_view s.rnglists) at else (
     if code == dwarf.DW_RLE_start_length then begin_and_length h.address_size (section_view s.rnglists) at else None)))))))
 
+-- an entry of version 5: its code in one byte, then its operands (DWARF 5 section 2.17.3)
 unfoldable pub coded_entry_at : Sections → UnitHeader → UnitRoot → ℕ → Read RangeEntry
 coded_entry_at s h root at = do
   code ← byte s.rnglists.bytes.now at
@@ -175,6 +186,7 @@ coded_entry_at s h root at = do
 unfoldable pub range_entry_at : Sections → UnitHeader → UnitRoot → ℕ → Read RangeEntry
 range_entry_at s h root at = if nat_lt h.version 5 then pair_at h.address_size (section_view s.ranges) at else coded_entry_at s h root at
 
+-- the size of the section that has the lists: `.debug_ranges` before version 5, then `.debug_rnglists`
 abbrev pub list_length : Sections → UnitHeader → ℕ
 list_length s h = if nat_lt h.version 5 then length s.ranges.bytes.now else length s.rnglists.bytes.now
 
@@ -190,6 +202,7 @@ spans_in s h root (suc n) base so_far at = if at == list_length s h then Some so
 unfoldable pub spans_from : List Span → Sections → UnitHeader → UnitRoot → ℕ → Option (List Span)
 spans_from front s h root offset = spans_in s h root (list_length s h + 1) root.low_pc front offset
 
+-- the ranges of the list at an offset of its section
 abbrev pub spans_at : Sections → UnitHeader → UnitRoot → ℕ → Option (List Span)
 spans_at s h root offset = spans_from [] s h root offset
 
@@ -200,10 +213,12 @@ abbrev pub sized : ℕ → Option ℕ → Option Span
 sized low None = None
 sized low (Some n) = if nat_lt (low + n) (2 ^ 64) then Some (record { begin = low; end = low + n }) else None
 
+-- the bounds from DW_AT_low_pc on, by DW_AT_high_pc as an address, else as a number of bytes
 abbrev pub bounds_from : ℕ → RangeAttributes → Option ℕ → Option Span
 bounds_from low r None = sized low r.size
 bounds_from low r (Some high) = Some (record { begin = low; end = high })
 
+-- the bounds by DW_AT_low_pc; without it there are none
 abbrev pub bounds_by : RangeAttributes → Option ℕ → Option Span
 bounds_by r None = None
 bounds_by r (Some low) = bounds_from low r r.high_pc
@@ -217,6 +232,7 @@ abbrev pub not_empty : Option Span → Option Span
 not_empty None = None
 not_empty (Some b) = if nat_lt b.begin b.end then Some b else None
 
+-- the ranges by the offset of a list; without one the bounds, where they hold an address
 abbrev pub ranges_by : Option ℕ → RangeAttributes → Sections → UnitHeader → UnitRoot → Option (List Span)
 ranges_by None r s h root = Some (option_to_list (not_empty (bounds_of r)))
 ranges_by (Some offset) r s h root = spans_at s h root offset

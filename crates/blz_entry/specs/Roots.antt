@@ -49,6 +49,7 @@ noted r a =
     if a.0 == dwarf.DW_AT_addr_base then record r { addr_base = last_offset r.addr_base a.1 } else (
     if a.0 == dwarf.DW_AT_rnglists_base then record r { rnglists_base = last_offset r.rnglists_base a.1 } else r))))))
 
+-- before the first attribute
 abbrev pub nothing_noted : RootValues
 nothing_noted = record { name = None; comp_dir = None; line = None; language = None; str_offsets_base = None; addr_base = None; rnglists_base = None }
 
@@ -56,6 +57,7 @@ nothing_noted = record { name = None; comp_dir = None; line = None; language = N
 abbrev pub base_behind_header : Sections → UnitHeader → ℕ → ℕ → ℕ
 base_behind_header s h narrow wide = if s.split && (h.version == 5) then (if h.wide then wide else narrow) else 0
 
+-- before any attribute that gives addresses
 abbrev pub no_ranges : RangeAttributes
 no_ranges = record { low_pc = None; high_pc = None; size = None; ranges_offset = None }
 
@@ -78,6 +80,7 @@ based s h r = record {
 abbrev pub with_names : Sections → UnitHeader → RootValues → UnitRoot → UnitRoot
 with_names s h r root = record root { name = option_and_then (string_of s h root) r.name; comp_dir = option_and_then (string_of s h root) r.comp_dir }
 
+-- a value that gives an address, itself or by an index
 abbrev pub is_address : AttrValue → Bool
 is_address (Addr a) = true
 is_address (AddrIndex index) = true
@@ -87,6 +90,7 @@ is_address _ = false
 abbrev pub low_behind : UnitRoot → RangeAttributes → ℕ × AttrValue → ℕ
 low_behind root ranges a = if a.0 == dwarf.DW_AT_low_pc then (if is_address a.1 then unwrap_or ranges.low_pc 0 else 0) else root.low_pc
 
+-- one attribute more of those that give the unit's addresses
 unfoldable pub root_step : Sections → UnitHeader → UnitRoot → ℕ × AttrValue → Option UnitRoot
 root_step s h root a = do
   ranges ← range_step s h root root.ranges a
@@ -102,6 +106,7 @@ root_from s h values noted_values =
     let root = with_names s h noted_values (based s h noted_values) in
     if s.split then Some root else fold_maybe (root_step s h) root values
 
+-- the root of a unit, whose first entry has to be there
 unfoldable pub root_of : Sections → UnitHeader → List Abbrev → Option UnitRoot
 root_of s h table = do
   values ← root_attributes (source_of s h table) h.entries

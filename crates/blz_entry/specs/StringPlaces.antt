@@ -23,6 +23,7 @@ text_in part s offset = do
 abbrev pub strings_part : Sections → StrPart
 strings_part s = if s.split then PackStrings else (if s.sup then SupStrings else Strings)
 
+-- where the strings of `.debug_line_str` are: in the main file, or in the supplementary file
 abbrev pub line_str_part : Sections → StrPart
 line_str_part s = if s.sup then SupLineStr else LineStr
 

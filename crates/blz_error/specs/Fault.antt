@@ -4,6 +4,7 @@ use Rattle.blz_error.specs.Texts.{Bytes}
 use Rattle.blz_error.specs.declared.kind.ErrorKind.{ErrorKind}
 use Rattle.blz_error.specs.declared.kind.ErrorKind.TheVariants as kind
 
+-- an error: its kind, its texts with the outermost first, and what a check found beside what it looked for
 pub record Fault : Type 0 where
   pub kind : ErrorKind
   pub texts : List Bytes

@@ -4,6 +4,7 @@ use Rattle.blz_error.specs.Texts.{Bytes}
 use Rattle.blz_error.specs.declared.kind.ErrorKind.{ErrorKind}
 use Rattle.blz_error.specs.declared.kind.ErrorKind.TheVariants as kind
 
+-- the text by which a kind is shown
 abbrev pub kind_text : ErrorKind → Bytes
 kind_text kind.NotFound = codes "entity not found"
 kind_text kind.PermissionDenied = codes "permission denied"

@@ -4,6 +4,7 @@ use Rattle.std.specs.String.{string_bytes}
 use Rattle.blz_error.specs.declared.text.Text.{Text}
 use Rattle.blz_error.specs.declared.text.Text.TheVariants.{Fixed, Owned}
 
+-- the bytes of a text, a path or an image, each as its number
 abbrev pub Bytes : Type 0
 Bytes = List ℕ
 

@@ -19,6 +19,7 @@ use Rattle.blz_ranges.specs.Owned.{Owned}
 abbrev pub is_call_tag : ℕ → Bool
 is_call_tag tag = tag == dwarf.DW_TAG_inlined_subroutine
 
+-- whether an entry is an inlined call
 abbrev pub is_call : Info → Bool
 is_call e = is_call_tag e.tag
 
@@ -50,6 +51,7 @@ all_closed (Node e closed children beside) = closed && (all_closed children && a
 
 -- ---- the trees below an entry
 
+-- no trees, closed, before a place: those of an entry without children
 abbrev pub no_trees : ℕ → Grown
 no_trees at = record { forest = Empty; closed = true; after = at }
 
@@ -57,6 +59,7 @@ no_trees at = record { forest = Empty; closed = true; after = at }
 abbrev pub children : (ℕ → Option Head) → ℕ → ℕ → Option Grown
 children head end at = grown head end (suc (end - at)) false at
 
+-- the trees below what is at a place, which has to be an entry and no zero
 abbrev pub below_head : (ℕ → Option Head) → ℕ → Option Head → Option Grown
 below_head head end None = None
 below_head head end (Some (Close next)) = None
@@ -80,9 +83,11 @@ pub record RangedCall : Type 0 where
   pub parent : Option ℕ
   pub ranges : List Span
 
+-- a call by its description: its name, and its call file, line and column
 abbrev pub call_by : Description → InlinedFunction
 call_by d = record { name = d.name; call_file = d.site.file; call_line = d.site.line; call_column = d.site.column }
 
+-- a call by the attributes of its entry, with its ranges
 unfoldable pub call_of : Refer → UnitParts → CallEntry → Option RangedCall
 call_of refer u c = do
   d ← fold_maybe (description_step refer u) undescribed c.entry.attributes
@@ -110,16 +115,20 @@ tree_call c = record { depth = c.depth; parent = c.parent; ranges = c.ranges }
 
 -- ---- as lists: the calls, and their ranges in groups by depth, each with the number of its call
 
+-- the inlined calls of a function, and their ranges, each with its depth and the number of its call
 pub record CallLists : Type 0 where
   pub calls : List InlinedFunction
   pub ranges : List (Owned Grouped)
 
+-- before the first call
 abbrev pub no_calls : CallLists
 no_calls = record { calls = []; ranges = [] }
 
+-- the lists with one more call, of a depth and with ranges
 abbrev pub with_call : CallLists → InlinedFunction → ℕ → List Span → CallLists
 with_call l call depth ranges = record { calls = l.calls ++ call ∷ []; ranges = l.ranges ++ map (call_range depth (length l.calls)) ranges }
 
+-- the lists with further calls, in their order
 abbrev pub calls_with : CallLists → List RangedCall → CallLists
 calls_with l [] = l
 calls_with l (c ∷ rest) = calls_with (with_call l c.call c.depth c.ranges) rest

@@ -7,6 +7,7 @@ use Rattle.blz_ranges.specs.Best.{Covers}
 use Rattle.blz_ranges.specs.Groups.{grouped, best_in}
 use Rattle.blz_ranges.specs.Owned.{Owned, items_of, owner_at}
 
+-- the call to which the range at a place belongs, where one was found
 abbrev pub owner_found : List (Owned Grouped) → Option ℕ → Option ℕ
 owner_found ranges None = None
 owner_found ranges (Some place) = owner_at ranges place
@@ -15,6 +16,7 @@ owner_found ranges (Some place) = owner_at ranges place
 abbrev pub at_depth : List (Owned Grouped) → ℕ → ℕ → Option ℕ
 at_depth ranges addr depth = owner_found ranges (best_in (items_of ranges) depth addr)
 
+-- a call before the deeper ones; the chain ends where there is none
 abbrev pub with_next : Option ℕ → List ℕ → List ℕ
 with_next None rest = []
 with_next (Some c) rest = c ∷ rest
@@ -34,6 +36,7 @@ pub record TreeCall : Type 0 where
   pub parent : Option ℕ
   pub ranges : List Span
 
+-- a range of the call of a number, in the group of its depth
 abbrev pub call_range : ℕ → ℕ → Span → Owned Grouped
 call_range depth n s = record { item = grouped depth s; owner = n }
 

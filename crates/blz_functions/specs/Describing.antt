@@ -20,6 +20,7 @@ use Rattle.blz_functions.specs.Naming.{name_step}
 abbrev pub Refer : Type 0
 Refer = AttrValue → Option (Option StrPlace)
 
+-- the low 32 bits of a line or a column; 0 where there is none
 abbrev pub low_bits : Option ℕ → ℕ
 low_bits None = 0
 low_bits (Some n) = n % 2 ^ 32
@@ -36,9 +37,11 @@ with_call_site version s a =
     if a.0 == dwarf.DW_AT_call_line then record s { line = low_bits (udata a.1) } else (
     if a.0 == dwarf.DW_AT_call_column then record s { column = low_bits (udata a.1) } else s))
 
+-- before any attribute that gives addresses
 abbrev pub no_ranges : RangeAttributes
 no_ranges = record { low_pc = None; high_pc = None; size = None; ranges_offset = None }
 
+-- before the first attribute
 abbrev pub undescribed : Description
 undescribed = record { name = None; ranges = no_ranges; site = record { file = None; line = 0; column = 0 } }
 

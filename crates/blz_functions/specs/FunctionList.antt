@@ -19,9 +19,11 @@ pub record RangedFunction : Type 0 where
   pub function : Function
   pub ranges : List Span
 
+-- a function by the place of its entry and its description: its name and its bounds
 abbrev pub function_by : ℕ → Description → Function
 function_by place d = record { place = place; name = d.name; bounds = bounds_of d.ranges }
 
+-- a function by the attributes of its entry, with its ranges
 unfoldable pub function_of : Refer → UnitParts → Info → Option RangedFunction
 function_of refer u e = do
   d ← fold_maybe (description_step refer u) undescribed e.attributes
@@ -32,6 +34,7 @@ function_of refer u e = do
 abbrev pub is_function_tag : ℕ → Bool
 is_function_tag tag = tag == dwarf.DW_TAG_subprogram
 
+-- whether an entry is a function
 abbrev pub is_function : Info → Bool
 is_function e = is_function_tag e.tag
 
@@ -48,6 +51,7 @@ functions_among refer u (e ∷ rest) = if is_function e then (do
 abbrev pub entries_from : UnitParts → ℕ → ℕ → Option (List (ℕ × Info))
 entries_from u d at = flat (head_at (source_in u)) u.header.end d at
 
+-- the entries without their depths
 abbrev pub infos : List (ℕ × Info) → List Info
 infos list = map (λ (e : ℕ × Info). e.1) list
 
@@ -57,10 +61,12 @@ functions_of refer u = entries_from u 0 u.header.entries >>= λ es. functions_am
 
 -- ---- as lists: the functions, and their ranges, each with the number of its function
 
+-- the functions of a unit, and their ranges, each with the number of its function
 pub record Lists : Type 0 where
   pub functions : List Function
   pub ranges : List (Owned Span)
 
+-- before the first function
 abbrev pub no_lists : Lists
 no_lists = record { functions = []; ranges = [] }
 
@@ -69,6 +75,7 @@ abbrev pub with_ranges : Lists → Function → List Span → Lists
 with_ranges l f [] = l
 with_ranges l f (s ∷ ranges) = record { functions = l.functions ++ f ∷ []; ranges = l.ranges ++ own_all (length l.functions) (s ∷ ranges) }
 
+-- the lists with further functions, in their order
 abbrev pub lists_with : Lists → List RangedFunction → Lists
 lists_with l [] = l
 lists_with l (f ∷ fs) = lists_with (with_ranges l f.function f.ranges) fs

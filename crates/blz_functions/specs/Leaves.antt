@@ -15,6 +15,7 @@ use Rattle.blz_info.specs.declared.units.UnitHeader.{UnitHeader}
 use Rattle.blz_info.specs.declared.value.AttrValue.{AttrValue}
 use Rattle.blz_info.specs.FileSections.{FileSections}
 
+-- a section that lies anywhere
 abbrev pub at_rest : Contents → Section
 at_rest c = record { bytes = record { ref_ptr = (0, 0); now = c.bytes }; moves = record { ref_ptr = (0, 0); now = c.moves }; order = c.order }
 
@@ -44,14 +45,18 @@ pub record UnitParts : Type 0 where
   pub table : List Abbrev
   pub root : UnitRoot
 
+-- the string of a value of a unit, where it has one that can be read
 unfoldable pub string_in : UnitParts → AttrValue → Option StrPlace
 string_in u v = string_of (lying u.sections) u.header u.root v
 
+-- one attribute more of those that give the addresses of an entry
 unfoldable pub range_step_in : UnitParts → RangeAttributes → ℕ × AttrValue → Option RangeAttributes
 range_step_in u r a = range_step (lying u.sections) u.header u.root r a
 
+-- the ranges that the attributes of an entry give
 unfoldable pub ranges_in : UnitParts → RangeAttributes → Option (List Span)
 ranges_in u r = ranges_of r (lying u.sections) u.header u.root
 
+-- what the entries of a unit are read from
 abbrev pub source_in : UnitParts → Source
 source_in u = source_of (lying u.sections) u.header u.table

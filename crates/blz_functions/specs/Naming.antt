@@ -24,6 +24,7 @@ is_name name = name == dwarf.DW_AT_name
 abbrev pub is_reference : ℕ → Bool
 is_reference name = (name == dwarf.DW_AT_abstract_origin) || (name == dwarf.DW_AT_specification)
 
+-- the first of two that is there
 abbrev pub or_else : {A : Type 0} → Option A → Option A → Option A
 or_else None other = other
 or_else (Some x) other = Some x
@@ -36,15 +37,19 @@ visit_end (Some name) link = Named name
 visit_end None (Some value) = Leads value
 visit_end None None = Nameless
 
+-- the linkage name that an attribute gives, where it is one and can be read
 abbrev pub linkage_of : UnitParts → ℕ → AttrValue → Option StrPlace
 linkage_of u name v = if is_linkage_name name then string_in u v else None
 
+-- the name behind an attribute: a later DW_AT_name that can be read replaces an earlier one
 abbrev pub name_behind : UnitParts → ℕ → AttrValue → Option StrPlace → Option StrPlace
 name_behind u name v old = if is_name name then or_else (string_in u v) old else old
 
+-- the reference behind an attribute: a later one replaces an earlier one
 abbrev pub link_behind : ℕ → AttrValue → Option AttrValue → Option AttrValue
 link_behind name v old = if is_reference name then Some v else old
 
+-- a linkage name that was found is the name; only without one do the attributes behind it count
 abbrev pub unless_linked : Option StrPlace → Option Visited → Option Visited
 unless_linked None rest = rest
 unless_linked (Some name) rest = Some (Named name)
@@ -67,6 +72,7 @@ visited u place = if nat_le u.header.entries place && nat_le place u.header.end 
 
 -- ---- the entry itself
 
+-- a name that is known already; only without one is the reference followed
 abbrev pub referred : (AttrValue → Option (Option StrPlace)) → Option StrPlace → AttrValue → Option (Option StrPlace)
 referred refer (Some name) v = Some (Some name)
 referred refer None v = refer v

@@ -43,13 +43,16 @@ pub record Reach : Type 0 where
 abbrev pub EntryAt : Type 0
 EntryAt = UnitParts × ℕ
 
+-- the entry at an offset, by the number of its unit and its distance there; the offset has to lead to a unit
 abbrev pub entry_in : (ℕ → Option UnitParts) → Option (ℕ × ℕ) → Option (Option EntryAt)
 entry_in unit None = None
 entry_in unit (Some r) = unit r.0 >>= λ u. Some (Some (u, u.header.start + r.1))
 
+-- the entry that an offset of the main file's `.debug_info` leads to, in the unit as it is read
 abbrev pub in_main : Reach → ℕ → Option (Option EntryAt)
 in_main reach offset = entry_in reach.reading (unit_at reach.kept offset)
 
+-- the entry that an offset of the supplementary file's `.debug_info` leads to
 abbrev pub in_sup : Reach → ℕ → Option (Option EntryAt)
 in_sup reach offset = entry_in reach.sup (unit_at reach.sups offset)
 
@@ -61,11 +64,13 @@ target reach u (InfoRef offset) = if u.sections.sup then in_sup reach offset els
 target reach u (SupRef offset) = if u.sections.sup then Some None else (if reach.has_sup then in_sup reach offset else Some None)
 target reach u _ = Some None
 
+-- the name by what an entry has: its own, none, or that to which its reference leads
 abbrev pub go_on : (UnitParts → AttrValue → Option (Option StrPlace)) → UnitParts → Visited → Option (Option StrPlace)
 go_on follow u (Named name) = Some (Some name)
 go_on follow u Nameless = Some None
 go_on follow u (Leads value) = follow u value
 
+-- the name by the entry that is referred to; none where no entry is
 abbrev pub visit_then : (UnitParts → AttrValue → Option (Option StrPlace)) → Option EntryAt → Option (Option StrPlace)
 visit_then follow None = Some None
 visit_then follow (Some e) = visited e.0 e.1 >>= go_on follow e.0

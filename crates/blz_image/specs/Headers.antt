@@ -7,6 +7,7 @@ use Rattle.blz_model.specs.Part.{Part, Good, ◌>>=◌, or_mark, check}
 use Rattle.blz_image.specs.declared.format.Format.{Format}
 use Rattle.blz_image.specs.Formats.{class_of, order_of, word, header_size, word_at}
 
+-- class and byte order, and the fields e_type, e_phoff, e_shoff, e_phnum, e_shnum and e_shstrndx
 pub record Header : Type 0 where
   pub format : Format
   pub file_type : ℕ
@@ -20,6 +21,7 @@ pub record Header : Type 0 where
 abbrev pub has_magic : List ℕ → Bool
 has_magic bytes = (slice_index bytes 0 == ELFMAG0) && (slice_index bytes 1 == ELFMAG1) && (slice_index bytes 2 == ELFMAG2) && (slice_index bytes 3 == ELFMAG3)
 
+-- the fields by their offsets, which depend on the class
 abbrev pub header_at : Format → List ℕ → Header
 header_at f bytes = record {
   format = f;
@@ -31,6 +33,7 @@ header_at f bytes = record {
   shstrndx = field f.order bytes (38 + 3 * word f.class) 2;
 }
 
+-- The header of an image: InvalidData where it is cut short or no ELF, Unsupported for an unknown class or byte order.
 unfoldable pub header_of : List ℕ → Part Header
 header_of bytes = do
   identified ← check (nat_le 16 (length bytes)) InvalidData

@@ -28,12 +28,14 @@ name_table bytes h sections =
 unfoldable pub names_of : List ℕ → List Section → Part (List (List ℕ))
 names_of texts sections = all_good (map (λ s. name_at texts s.name_offset) (drop 1 sections))
 
+-- an image with its header, its section table, and the names of its sections from 1 up
 pub record Elf : Type 0 where
   pub image : List ℕ
   pub header : Header
   pub sections : List Section
   pub names : List (List ℕ)
 
+-- the image of some bytes; of header, section table, table of names and names the first that is broken is its mark
 unfoldable pub elf_of : List ℕ → Part Elf
 elf_of bytes = do
   header ← header_of bytes
@@ -98,6 +100,7 @@ image_section_data image index = do
   section ← or_mark (slice_get sections index) InvalidInput
   data_of header.format image section
 
+-- the data of the first section of that name, nothing where there is none
 unfoldable pub image_data_named : List ℕ → List ℕ → Part (List ℕ)
 image_data_named image name = do
   elf ← elf_of image

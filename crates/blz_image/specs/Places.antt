@@ -25,6 +25,7 @@ RowsFit size image r = r.at + size r.format.class * r.count ≤ length image
 abbrev pub run_of : Rows → sections.Run
 run_of r = record { start = r.at; count = r.count }
 
+-- the records of a table, each behind the one before, of the size that the class gives them
 abbrev pub rows_in : {A : Type 0} → (Format → List ℕ → ℕ → A) → (Class → ℕ) → List ℕ → Rows → List A
 rows_in record_at size image r = map (λ i. record_at r.format image (r.at + size r.format.class * i)) (range_with_len 0 r.count)
 

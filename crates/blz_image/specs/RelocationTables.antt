@@ -30,6 +30,7 @@ pub record Entry : Type 0 where
 abbrev pub entry_kind : Section → Option EntryKind
 entry_kind s = if s.kind == SHT_RELA then Some Rela else (if s.kind == SHT_REL then Some Rel else None)
 
+-- the bytes of an entry: Elf32_Rela or Elf64_Rela, Elf32_Rel or Elf64_Rel
 abbrev pub entry_size : EntryKind → Class → ℕ
 entry_size Rela c = rela_size c
 entry_size Rel c = rel_size c
@@ -44,6 +45,7 @@ abbrev pub sign_extended : Class → ℕ → ℕ
 sign_extended Elf32 n = if nat_lt n (2 ^ 31) then n else n + (2 ^ 64 - 2 ^ 32)
 sign_extended Elf64 n = n
 
+-- r_addend, the third word of an entry; an entry of SHT_REL has none
 abbrev pub addend_at : EntryKind → Format → List ℕ → ℕ → Option ℕ
 addend_at Rela f bytes at = Some (sign_extended f.class (word_at f bytes (at + 2 * word f.class)))
 addend_at Rel f bytes at = None
@@ -98,6 +100,7 @@ with_sections f bytes sections (s ∷ rest) m = with_section f bytes sections m 
 unfoldable pub relocations_of : List ℕ → Header → List Section → Part SectionMap
 relocations_of bytes h sections = if h.file_type == ET_REL then with_sections h.format bytes sections sections map.empty else Good map.empty
 
+-- the relocations of an image, by the section that they change and the offset in it
 unfoldable pub image_relocations : List ℕ → Part SectionMap
 image_relocations image = do
   header ← header_of image

@@ -28,6 +28,7 @@ segment_count bytes h =
       first ← first_section bytes h
       Good first.info))
 
+-- the program headers of an image, whose table has to lie inside it
 unfoldable pub segments_of : List ℕ → Header → Part (List Segment)
 segments_of bytes h = do
   count ← segment_count bytes h

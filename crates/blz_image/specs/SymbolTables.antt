@@ -64,6 +64,7 @@ symtab_of elf = do
 unfoldable pub dynsym_of : Elf → Part SymbolTable
 dynsym_of elf = table_named elf (codes ".dynsym") (codes ".dynstr")
 
+-- the table of `.symtab` or of `.dynsym`, with its strings
 abbrev pub table_of : TableKind → Elf → Part SymbolTable
 table_of Symtab elf = symtab_of elf
 table_of Dynsym elf = dynsym_of elf

@@ -41,6 +41,7 @@ abbreviation_at code bytes at = do
   specs ← specs_in (length bytes) [] bytes flag.1
   Some (record { code = code; tag = tag.0; children = children; specs = specs.0 }, specs.1)
 
+-- whether some abbreviation has the code, which no second one may have
 abbrev pub has_code : ℕ → List Abbrev → Bool
 has_code code table = is_some (of_code code table)
 

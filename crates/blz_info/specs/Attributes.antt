@@ -20,6 +20,7 @@ use Rattle.blz_info.specs.declared.value.AttrValue.TheVariants.{Signed}
 abbrev pub is_offset : ℕ → Encoding → ℕ → Bool
 is_offset name e code = (name == dwarf.DW_AT_stmt_list || name == dwarf.DW_AT_ranges) && nat_lt e.version 4 && (code == (if e.wide then dwarf.DW_FORM_data8 else dwarf.DW_FORM_data4))
 
+-- the form that a code means for an attribute of a name, none where the code is not known
 unfoldable pub form_for : ℕ → Encoding → ℕ → Option Form
 form_for name e code = if is_offset name e code then Some (Numeric Offset makes.SecOffset) else form_of code
 

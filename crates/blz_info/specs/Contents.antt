@@ -18,6 +18,7 @@ pub record Contents : Type 0 where
   pub moves : OffsetMap
   pub order : ByteOrder
 
+-- a section by its bytes, its relocations and its byte order
 abbrev pub section_view : Section → Contents
 section_view s = record { bytes = s.bytes.now; moves = s.moves.now; order = s.order }
 
@@ -47,9 +48,11 @@ address_at size s at = if size == 4 then moved_number 4 s at else (if size == 8 
 abbrev pub offset_len : Bool → ℕ
 offset_len wide = if wide then 8 else 4
 
+-- an offset, relocated: eight bytes in 64-bit DWARF, else four (DWARF 5 section 7.4)
 unfoldable pub offset_at : Bool → Contents → ℕ → Read ℕ
 offset_at wide s at = moved_number (offset_len wide) s at
 
+-- how many bytes a number of a width has
 abbrev pub bytes_in : Width → ℕ
 bytes_in One = 1
 bytes_in Two = 2

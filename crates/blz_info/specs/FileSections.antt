@@ -3,6 +3,7 @@ use Rattle.std.specs.Prelude.{ℕ, Bool, Option, option_map}
 use Rattle.blz_info.specs.Contents.{Contents, section_view}
 use Rattle.blz_info.specs.declared.section.Sections.{Sections}
 
+-- the sections of a unit; `shift` is where the `info` of a split unit begins in its package's, and else 0
 pub record FileSections : Type 0 where
   pub «abbrev» : Contents
   pub addr : Contents

@@ -29,9 +29,11 @@ pub record Grown : Type 0 where
   pub closed : Bool
   pub after : ℕ
 
+-- an entry with its children, closed where a zero ends them, before the trees beside it
 abbrev pub node : Info → Grown → Grown → Grown
 node e children beside = record { forest = Node e children.closed children.forest beside.forest; closed = beside.closed; after = beside.after }
 
+-- an entry without children, which is closed, before the trees beside it
 abbrev pub leaf : Info → Grown → Grown
 leaf e beside = record { forest = Node e true Empty beside.forest; closed = beside.closed; after = beside.after }
 
@@ -63,6 +65,7 @@ flat_step d (Some (Close next)) go = go (d - 1) next
 flat_step d (Some (Open true e next)) go = option_map (λ rest. (d, e) ∷ rest) (go (d + 1) next)
 flat_step d (Some (Open false e next)) go = option_map (λ rest. (d, e) ∷ rest) (go d next)
 
+-- the entries from a place up to the end, each with its depth, in at most n steps
 unfoldable pub flat_in : (ℕ → Option Head) → ℕ → ℕ → ℕ → ℕ → Option (List (ℕ × Info))
 flat_in head end zero d at = None
 flat_in head end (suc n) d at = if nat_lt at end then flat_step d (head at) (λ k next. flat_in head end n k next) else Some []

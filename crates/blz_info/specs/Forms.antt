@@ -66,10 +66,12 @@ forms_table =
     ∷ (dwarf.DW_FORM_GNU_strp_alt, Numeric Offset makes.SupStr)
     ∷ []
 
+-- the form of a code by the rows of a table, none where no row has the code
 abbrev pub form_in : ℕ → List (ℕ × Form) → Option Form
 form_in code [] = None
 form_in code (row ∷ rows) = if code == row.0 then Some row.1 else form_in code rows
 
+-- the form of a code, none where it is not known
 unfoldable pub form_of : ℕ → Option Form
 form_of code = form_in code forms_table
 
@@ -122,6 +124,7 @@ abbrev pub unsigned : ℤ → Option ℕ
 unsigned (pos n) = Some n
 unsigned (negsuc n) = None
 
+-- a constant as a number; nothing for a value of another class, and for a constant below 0
 abbrev pub udata : AttrValue → Option ℕ
 udata (Const n) = Some n
 udata (Signed n) = unsigned n

@@ -35,6 +35,7 @@ kind_of n =
     if n == dwarf.DW_UT_compile then Some Compile else (if n == dwarf.DW_UT_type then Some TypeUnit else (if n == dwarf.DW_UT_partial then Some Partial else (
     if n == dwarf.DW_UT_skeleton then Some Skeleton else (if n == dwarf.DW_UT_split_compile then Some SplitCompile else (if n == dwarf.DW_UT_split_type then Some SplitType else None)))))
 
+-- the sizes of addresses that are read: four and eight bytes
 abbrev pub is_address_size : ℕ → Bool
 is_address_size n = (n == 4) || (n == 8)
 

@@ -31,6 +31,7 @@ pub record Source : Type 0 where
 abbrev pub info_base : Sections → StrBase
 info_base s = record { part = (if s.split then PackInfo else (if s.sup then SupInfo else InfoPart)); start = s.shift }
 
+-- what the entries of a unit are read from, by its sections, its header and its abbreviations
 abbrev pub source_of : Sections → UnitHeader → List Abbrev → Source
 source_of s h table = record { section = cut h.end (section_view s.info); base = info_base s; encoding = encoding_of h; table = table; end = h.end }
 

@@ -23,6 +23,7 @@ pub record Naming : Type 0 where
   pub version : ℕ
   pub directories : List FileEntry
 
+-- what the names of a line table's files go by in a unit
 abbrev pub naming_of : Sections → UnitHeader → UnitRoot → ℕ → List FileEntry → Naming
 naming_of sections unit root version directories = record {
   string_at = string_of sections unit root;
@@ -73,6 +74,7 @@ abbrev pub file_zero : Naming → List FileEntry → Option FilePlaces
 file_zero n entries = if nat_le n.version 4 then Some (unit_file n.comp_dir n.unit_name) else (
     if length entries == 0 then Some nowhere else None)
 
+-- an item before a list, where there is one
 abbrev pub at_front : {T : Type 0} → Option T → List T → List T
 at_front None xs = xs
 at_front (Some x) xs = x ∷ xs
@@ -90,6 +92,7 @@ abbrev pub maybe_text : Texts → Option StrPlace → List ℕ
 maybe_text t None = []
 maybe_text t (Some place) = text_of t place
 
+-- the path of a directory, joined to DW_AT_comp_dir unless it is absolute; without one DW_AT_comp_dir alone
 abbrev pub directory_text : Texts → List ℕ → Option StrPlace → List ℕ
 directory_text t comp_dir None = comp_dir
 directory_text t comp_dir (Some place) = joined comp_dir (text_of t place)

@@ -30,6 +30,7 @@ formats_in (suc n) so_far bytes at = do
   format ← format_at bytes at
   formats_in n (so_far ++ format.0 ∷ []) bytes format.1
 
+-- the formats of a table: their number in one byte, and as many formats
 unfoldable pub formats_at : List ℕ → ℕ → Read (List EntryFormat)
 formats_at bytes at = do
   count ← byte bytes at
@@ -57,6 +58,7 @@ values_in e s (f ∷ formats) entry at = do
   value ← form_value f.form e line_texts s at
   values_in e s formats (with_content f.content value.0 entry) value.1
 
+-- an entry: a value of each format, in their order
 unfoldable pub entry_at : Encoding → Contents → List EntryFormat → ℕ → Read FileEntry
 entry_at e s formats at = values_in e s formats blank_entry at
 
@@ -78,6 +80,7 @@ formatted_at e s at = do
   count ← uleb s.bytes formats.1
   if count.0 == 0 || path_count formats.0 == 1 then entries_in e s formats.0 count.0 [] count.1 else None
 
+-- the table of directories, then that of files
 unfoldable pub formatted_paths : Encoding → Contents → ℕ → Option Paths
 formatted_paths e s at = do
   directories ← formatted_at e s at

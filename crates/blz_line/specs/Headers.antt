@@ -45,6 +45,7 @@ signed_byte b = if nat_lt b 128 then pos b else pos b -ℤ pos 256
 abbrev pub is_usable : Rules → Bool
 is_usable r = not (r.min_length == 0) && (not (r.max_ops == 0) && (not (r.line_range == 0) && not (r.opcode_base == 0)))
 
+-- minimum_instruction_length up to opcode_base; default_is_stmt is read and counts for nothing
 unfoldable pub rules_at : Encoding → Contents → ℕ → Read Rules
 rules_at e s at = do
   min_length ← byte s.bytes at
@@ -55,6 +56,7 @@ rules_at e s at = do
   opcode_base ← byte s.bytes line_range.1
   Some (record { version = e.version; address_size = e.address_size; min_length = min_length.0; max_ops = max_ops.0; line_base = signed_byte line_base.0; line_range = line_range.0; opcode_base = opcode_base.0 }, opcode_base.1)
 
+-- the same, which have to be usable
 unfoldable pub usable_rules_at : Encoding → Contents → ℕ → Read Rules
 usable_rules_at e s at = do
   rules ← rules_at e s at
@@ -96,6 +98,7 @@ header_at s at address_size = do
   program ← program_at extent.0.wide (cut extent.0.end s) encoding.1
   fields_at encoding.0 program.0 extent.0.end (cut program.0 s) program.1
 
+-- what the steps of a program go by, of its header
 abbrev pub rules_of : LineHeader → Rules
 rules_of h = record {
   version = h.version;

@@ -16,6 +16,7 @@ use Rattle.blz_line.specs.UnitLines.{LineTable}
 abbrev pub span_of : Sequence → Span
 span_of s = record { begin = s.start; end = s.end }
 
+-- what each of some sequences covers
 abbrev pub spans_of : List Sequence → List Span
 spans_of sequences = map span_of sequences
 
@@ -23,6 +24,7 @@ spans_of sequences = map span_of sequences
 abbrev pub best_sequence : List Sequence → ℕ → Option Sequence
 best_sequence sequences addr = option_and_then (λ index. slice_get sequences index) (best (spans_of sequences) addr)
 
+-- a row that was found behind this one, else this one, where its address is not above
 abbrev pub later_row : Option LineRow → LineRow → ℕ → Option LineRow
 later_row None row addr = if nat_le row.address addr then Some row else None
 later_row (Some later) row addr = Some later
@@ -32,6 +34,7 @@ unfoldable pub row_at : List LineRow → ℕ → Option LineRow
 row_at [] addr = None
 row_at (row ∷ rest) addr = later_row (row_at rest addr) row addr
 
+-- the row of an address in the best sequence that covers it
 abbrev pub row_in : List Sequence → ℕ → Option LineRow
 row_in sequences addr = option_and_then (λ (s : Sequence). row_at s.rows addr) (best_sequence sequences addr)
 

@@ -47,6 +47,7 @@ listed_in kind (suc n) so_far bytes at = do
 unfoldable pub listed_at : Kind → List ℕ → ℕ → Read (List FileEntry)
 listed_at kind bytes at = listed_in kind (length bytes) [] bytes at
 
+-- the directories, then the files
 unfoldable pub listed_paths : List ℕ → ℕ → Option Paths
 listed_paths bytes at = do
   directories ← listed_at Directories bytes at

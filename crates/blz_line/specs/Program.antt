@@ -39,6 +39,7 @@ first_state files = record { registers = first_registers; rows = []; sequences =
 abbrev pub row_of : Registers → LineRow
 row_of g = record { address = g.address; file_index = g.file; line = g.line % 2 ^ 32; column = g.column % 2 ^ 32 }
 
+-- whether there is a row, and it is of an address
 abbrev pub is_at : Option LineRow → ℕ → Bool
 is_at None a = false
 is_at (Some row) a = row.address == a
@@ -51,6 +52,7 @@ last_is_at rows a = is_at (slice_get rows (length rows - 1)) a
 unfoldable pub with_row : List LineRow → LineRow → List LineRow
 with_row rows row = (if last_is_at rows row.address then take (length rows - 1) rows else rows) ++ row ∷ []
 
+-- the registers as one row more, unless the sequence is skipped
 abbrev pub makes_row : State → State
 makes_row s = if s.registers.skipping then s else record s { rows = with_row s.rows (row_of s.registers) }
 
@@ -59,6 +61,7 @@ abbrev pub closed_by : State → List Sequence
 closed_by s = if s.registers.skipping || (length s.rows == 0) then []
     else (record { start = start_of s.rows; end = s.registers.address; rows = s.rows } ∷ [])
 
+-- the sequence ends, and the registers are as at the beginning (DWARF 5 section 6.2.5.3)
 unfoldable pub ended : State → State
 ended s = record { registers = first_registers; rows = []; sequences = s.sequences ++ closed_by s; files = s.files }
 
@@ -93,6 +96,7 @@ run_in r counts s (suc n) state at = if nat_lt at (length s.bytes) then (do
   run_in r counts s n next op.1)
     else Some state
 
+-- the program from an offset to the end of the bytes
 unfoldable pub run_from : Rules → List ℕ → Contents → State → ℕ → Option State
 run_from r counts s state at = run_in r counts s (length s.bytes + 1) state at
 

@@ -14,6 +14,7 @@ use Rattle.blz_line.specs.Headers.{header_at, rules_of}
 use Rattle.blz_line.specs.Program.{State, first_state, run_from}
 use Rattle.blz_line.specs.FileNames.{naming_of, files_of}
 
+-- the sequences that a line program gives, and the files that its rows name by their numbers
 pub record LineTable : Type 0 where
   pub sequences : List Sequence
   pub files : List FilePlaces
@@ -44,10 +45,12 @@ table_at sections unit root at = do
   header ← header_at (section_view sections.line) at unit.address_size
   table_of sections unit root header
 
+-- a table that has to have a value
 abbrev pub some_table : Option LineTable → Option (Option LineTable)
 some_table None = None
 some_table (Some table) = Some (Some table)
 
+-- the table at an offset of `.debug_line`; none where there is no offset
 abbrev pub maybe_table : Sections → UnitHeader → UnitRoot → Option ℕ → Option (Option LineTable)
 maybe_table sections unit root None = Some None
 maybe_table sections unit root (Some at) = some_table (table_at sections unit root at)

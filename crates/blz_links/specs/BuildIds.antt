@@ -47,6 +47,7 @@ abbrev pub or_later : {A : Type 0} → Option A → Part (Option A) → Part (Op
 or_later None later = later
 or_later (Some x) later = Good (Some x)
 
+-- the build id of the first of some bytes of an image that have one
 unfoldable pub first_build_id : ByteOrder → List ℕ → List (Option Extent) → Part (Option (List ℕ))
 first_build_id order image [] = Good None
 first_build_id order image (e ∷ extents) =

@@ -32,6 +32,7 @@ upwards (suc n) path = path ∷ then_above (upwards n) (parent_of path)
 abbrev pub path_and_above : List ℕ → List (List ℕ)
 path_and_above path = upwards (length path + 1) path
 
+-- the texts before the last
 abbrev pub without_last : List (List ℕ) → List (List ℕ)
 without_last [] = []
 without_last (text ∷ []) = []

@@ -2,6 +2,7 @@
 -- the first byte and turned over after the last.
 use Rattle.std.specs.Prelude.{ℕ, zero, suc, ◌*◌, ◌/◌, ◌%◌, List, [], ◌∷◌, bit_xor}
 
+-- the polynomial of CRC-32, the highest power in the least bit
 abbrev pub polynomial : ℕ
 polynomial = 0xedb88320
 
@@ -13,6 +14,7 @@ ones = 0xffffffff
 unfoldable pub bit_step : ℕ → ℕ
 bit_step register = bit_xor (register / 2) (register % 2 * polynomial)
 
+-- n bits
 unfoldable pub bit_steps : ℕ → ℕ → ℕ
 bit_steps zero register = register
 bit_steps (suc n) register = bit_steps n (bit_step register)
@@ -21,9 +23,11 @@ bit_steps (suc n) register = bit_steps n (bit_step register)
 abbrev pub byte_step : ℕ → ℕ → ℕ
 byte_step register byte = bit_steps 8 (bit_xor register byte)
 
+-- the register behind some bytes
 unfoldable pub checksum_from : ℕ → List ℕ → ℕ
 checksum_from register [] = register
 checksum_from register (byte ∷ bytes) = checksum_from (byte_step register byte) bytes
 
+-- the checksum of the bytes of a file
 abbrev pub checksum_of : List ℕ → ℕ
 checksum_of bytes = bit_xor (checksum_from ones bytes) ones

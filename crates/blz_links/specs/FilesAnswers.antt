@@ -39,6 +39,7 @@ ReadTells (Some m) path (Err Denied) = ⊤
 ReadTells (Some m) path (Err Failed) = ⊤
 ReadTells (Some m) path (Err Memory) = ⊤
 
+-- where the contents are known, an answer says whether the path names something in them
 abbrev pub ExistsTells : Option Contents → Bytes → Result Bool FilesFault → Type 0
 ExistsTells None path result = ⊤
 ExistsTells (Some m) path (Ok there) = there ≡ is_some (map.get m path)
@@ -49,11 +50,13 @@ abbrev pub IsPathIfThere : {Z : Type 0} → Option Bytes → Bytes → Option (S
 IsPathIfThere None path answer = answer ≡ None
 IsPathIfThere (Some bytes) path answer = IsSomeAnd answer (λ s. string_bytes s ≡ path)
 
+-- where the contents are known, a file is known by its own path, and a path that names nothing has none
 abbrev pub CanonicalTells : {Z : Type 0} → Option Contents → Bytes → Result (Option (String Z)) FilesFault → Type 0
 CanonicalTells None path result = ⊤
 CanonicalTells (Some m) path (Ok answer) = IsPathIfThere (map.get m path) path answer
 CanonicalTells (Some m) path (Err e) = ⊤
 
+-- where the stamps are known, the answer is that of the path, and NotFound comes only where it has none
 abbrev pub StampTells : Option (PathMap Stamp) → Bytes → Result Stamp FilesFault → Type 0
 StampTells None path result = ⊤
 StampTells (Some m) path (Ok stamp) = map.get m path ≡ Some stamp

@@ -17,6 +17,7 @@ use Rattle.blz_links.specs.LinkValues.{DebugLinkValue, DebugAltlinkValue, DebugS
 abbrev pub Checked : Type 0 → Type 0
 Checked A = Result A Fault
 
+-- a check, then another over what was read; the first that fails decides
 infixl 10 ◌>>=◌
 abbrev pub ◌>>=◌ : {A B : Type 0} → Checked A → (A → Checked B) → Checked B
 (Ok x) >>= f = f x
@@ -54,11 +55,13 @@ target bytes at unended = do
   utf8 ← must (is_utf8 text.0) (codes "link target is not text")
   Ok text
 
+-- whether there are no bytes
 abbrev pub is_empty : List ℕ → Bool
 is_empty bytes = length bytes == 0
 
 -- ---- `.gnu_debuglink`: a name, a zero byte, padding to a multiple of four, a checksum of four bytes
 
+-- the file name and the checksum of a debug file (GNU debug links)
 unfoldable pub debug_link_checks : ByteOrder → List ℕ → Checked DebugLinkValue
 debug_link_checks order bytes = do
   file ← target bytes 0 (codes "failed to read debug link file name")
@@ -67,11 +70,13 @@ debug_link_checks order bytes = do
   checksum ← or_text (number order 4 bytes padded.1) (codes "failed to read debug link checksum")
   Ok (record { file = file.0; checksum = checksum.0 })
 
+-- the same as a part of the file
 abbrev pub debug_link_of : ByteOrder → List ℕ → Part DebugLinkValue
 debug_link_of order bytes = as_part (debug_link_checks order bytes)
 
 -- ---- `.gnu_debugaltlink`: a path, a zero byte, and a build id up to the end
 
+-- the path and the build id of the file that several debug files share (GNU debug links)
 unfoldable pub debug_altlink_checks : List ℕ → Checked DebugAltlinkValue
 debug_altlink_checks bytes = do
   path ← target bytes 0 (codes "failed to read debug altlink path")
@@ -79,12 +84,14 @@ debug_altlink_checks bytes = do
   identified ← must (not (is_empty (drop path.1 bytes))) (codes "failed to read debug altlink build ID")
   Ok (record { path = path.0; build_id = drop path.1 bytes })
 
+-- the same as a part of the file
 abbrev pub debug_altlink_of : List ℕ → Part DebugAltlinkValue
 debug_altlink_of bytes = as_part (debug_altlink_checks bytes)
 
 -- ---- `.debug_sup`: a version, whether the file is a supplementary one, the path of the supplementary file, and the
 -- size and the bytes of a checksum. A supplementary file has no path.
 
+-- is_supplementary, which is 0 or 1 (DWARF 5 section 7.3.6)
 abbrev pub flag_of : ℕ → Checked Bool
 flag_of flag = if flag == 0 then Ok false else (if flag == 1 then Ok true else Err (fault_of InvalidData (codes "invalid is_supplementary field value")))
 
@@ -108,6 +115,7 @@ sup_rest bytes at version is_supplementary = do
   checksum ← sup_checksum bytes text.1
   Ok (record { version = version; is_supplementary = is_supplementary; path = path; checksum = checksum })
 
+-- the version, the flag, the path and the checksum (DWARF 5 section 7.3.6)
 unfoldable pub debug_sup_checks : ByteOrder → List ℕ → Checked DebugSupValue
 debug_sup_checks order bytes = do
   version ← or_text (number order 2 bytes 0) (codes "failed to read .debug_sup version")
@@ -115,5 +123,6 @@ debug_sup_checks order bytes = do
   is_supplementary ← flag_of flag.0
   sup_rest bytes flag.1 version.0 is_supplementary
 
+-- the same as a part of the file
 abbrev pub debug_sup_of : ByteOrder → List ℕ → Part DebugSupValue
 debug_sup_of order bytes = as_part (debug_sup_checks order bytes)

@@ -3,6 +3,7 @@ use Rattle.std.specs.Prelude.{ℕ, List, codes}
 use Rattle.blz_links.specs.declared.link_section.LinkSection.{LinkSection}
 use Rattle.blz_links.specs.declared.link_section.LinkSection.TheVariants.{DebugLink, DebugAltlink, DebugSup}
 
+-- the name of a section
 unfoldable pub name_of : LinkSection → List ℕ
 name_of DebugLink = codes ".gnu_debuglink"
 name_of DebugAltlink = codes ".gnu_debugaltlink"

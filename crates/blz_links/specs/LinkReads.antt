@@ -16,6 +16,7 @@ abbrev pub found : {A : Type 0} → Part (Option A) → Option A
 found (Good x) = x
 found (Broken k) = None
 
+-- what is read of the section at an index; nothing where none was found
 abbrev pub if_found : {A : Type 0} → (ℕ → Part A) → Option ℕ → Part (Option A)
 if_found read None = Good None
 if_found read (Some index) = read index >>= λ x. Good (Some x)
@@ -41,12 +42,15 @@ said says (Some section) = says section.0 section.1 >>= λ x. Good (Some x)
 abbrev pub link_in : {A : Type 0} → List ℕ → List ℕ → (ByteOrder → List ℕ → Part A) → Part (Option A)
 link_in image name says = linked_data image name >>= said says
 
+-- the link of an image to its debug file (GNU debug links)
 abbrev pub debug_link_in : List ℕ → Part (Option DebugLinkValue)
 debug_link_in image = link_in image (name_of DebugLink) debug_link_of
 
+-- the link of an image to the file that it shares with others (GNU debug links)
 abbrev pub debug_altlink_in : List ℕ → Part (Option DebugAltlinkValue)
 debug_altlink_in image = link_in image (name_of DebugAltlink) (λ order. debug_altlink_of)
 
+-- what an image says of its supplementary file (DWARF 5 section 7.3.6)
 abbrev pub debug_sup_in : List ℕ → Part (Option DebugSupValue)
 debug_sup_in image = link_in image (name_of DebugSup) debug_sup_of
 

@@ -8,6 +8,7 @@ use Rattle.blz_model.specs.declared.byte_order.ByteOrder.{ByteOrder}
 use Rattle.blz_model.specs.Reads.{Read, ◌>>=◌, number}
 use Rattle.blz_bytes.specs.Pieces.{piece}
 
+-- a note: its type, the namesz bytes of its name, and the descsz bytes of its descriptor
 pub record NoteValue : Type 0 where
   pub kind : ℕ
   pub name : List ℕ

@@ -17,9 +17,11 @@ unfoldable pub placed_from : ℕ → List (List ℕ) → List Piece
 placed_from at [] = []
 placed_from at (text ∷ texts) = record { offset = at; text = text } ∷ placed_from (at + length text + 1) texts
 
+-- `.`, the directory itself
 abbrev pub dot : List ℕ
 dot = 0x2e ∷ []
 
+-- `..`, the directory above
 abbrev pub dots : List ℕ
 dots = 0x2e ∷ 0x2e ∷ []
 
@@ -31,6 +33,7 @@ is_component piece = not (length piece.text == 0) && ((piece.offset == 0) || not
 abbrev pub pieces_from : ℕ → List ℕ → List Piece
 pieces_from at rest = filter is_component (placed_from at (slice_split (λ b. b == slash) rest))
 
+-- the components of a path, the root aside, each with its offset
 abbrev pub pieces_of : List ℕ → List Piece
 pieces_of path = pieces_from 0 path
 
@@ -38,6 +41,7 @@ pieces_of path = pieces_from 0 path
 abbrev pub kept_before : Piece → List Piece → List Piece
 kept_before piece pieces = if is_component piece then piece ∷ pieces else pieces
 
+-- the components without their offsets
 abbrev pub texts_of : List Piece → List (List ℕ)
 texts_of pieces = map (λ piece. piece.text) pieces
 
@@ -46,6 +50,7 @@ pub record Components : Type 0 where
   pub is_rooted : Bool
   pub texts : List (List ℕ)
 
+-- the components of a path, by which paths are compared
 unfoldable pub components_of : List ℕ → Components
 components_of path = record { is_rooted = is_slash (slice_get path 0); texts = texts_of (pieces_of path) }
 
@@ -56,6 +61,7 @@ same_components a b =
 
 -- ---- the path above
 
+-- the last component of a path; none of the root and of the empty path
 abbrev pub last_piece : List ℕ → Option Piece
 last_piece path = last_or None (pieces_of path)
 

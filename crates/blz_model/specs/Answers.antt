@@ -15,6 +15,7 @@ pub record Inlined : Type 0 where
   pub name : List ℕ
   pub site : Option Site
 
+-- a function or a symbol: name, module, first address, size in bytes, language, place and inlined calls
 pub record Resolved : Type 0 where
   pub name : List ℕ
   pub module_name : Option (List ℕ)
@@ -24,6 +25,7 @@ pub record Resolved : Type 0 where
   pub site : Option Site
   pub inlined : List Inlined
 
+-- what is answered for an address: the symbol that covers it, or why there is none
 pub data Answer : Type 0 where
   Known : Resolved → Answer
   Unknown : Reason → Answer

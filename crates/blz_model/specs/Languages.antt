@@ -10,6 +10,7 @@ is_cpp code =
     (code == dwarf.DW_LANG_C_plus_plus) || (code == dwarf.DW_LANG_C_plus_plus_03) || (code == dwarf.DW_LANG_C_plus_plus_11)
     || (code == dwarf.DW_LANG_C_plus_plus_14) || (code == dwarf.DW_LANG_C_plus_plus_17) || (code == dwarf.DW_LANG_C_plus_plus_20)
 
+-- the language of a code: C++, Rust, and Unknown for any other code and for none
 abbrev pub language_of : Option ℕ → SrcLang
 language_of None = Unknown
 language_of (Some code) = if code == dwarf.DW_LANG_Rust then Rust else (if is_cpp code then Cpp else Unknown)

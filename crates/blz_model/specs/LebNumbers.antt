@@ -23,6 +23,7 @@ uleb bytes at = do
 abbrev pub signed : Leb → ℤ
 signed n = if n.negative then pos n.value -ℤ pos n.weight else pos n.value
 
+-- a number from -2^63 up to 2^63 - 1, nothing in place of another
 abbrev pub fits_i64 : ℤ → Option ℤ
 fits_i64 (pos n) = if nat_lt n (2 ^ 63) then Some (pos n) else None
 fits_i64 (negsuc n) = if nat_lt n (2 ^ 63) then Some (negsuc n) else None

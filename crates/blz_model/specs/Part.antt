@@ -4,6 +4,7 @@ use Rattle.blz_error.specs.declared.kind.ErrorKind.{ErrorKind}
 use Rattle.blz_error.specs.declared.kind.ErrorKind.TheVariants.{OutOfMemory}
 use Rattle.blz_error.specs.Fault.{Fault}
 
+-- what is read of a file, or a mark: the kind of the first thing that is broken in it
 pub data Part (A : Type 0) : Type 0 where
   Good : A → Part A
   Broken : ErrorKind → Part A

@@ -3,9 +3,11 @@ use Rattle.std.specs.Prelude.{ℕ, ◌+◌, List, length, nat_le, Option, Some, 
 use Rattle.blz_model.specs.declared.byte_order.ByteOrder.{ByteOrder}
 use Rattle.blz_model.specs.Numbers.{field}
 
+-- the value at a place and the place behind it, or nothing where it cannot be read
 abbrev pub Read : Type 0 → Type 0
 Read A = Option (A × ℕ)
 
+-- what is read, then what is read behind it; nothing where the first has no value
 infixl 10 ◌>>=◌
 abbrev pub ◌>>=◌ : {A B : Type 0} → Option A → (A → Option B) → Option B
 o >>= f = option_and_then f o

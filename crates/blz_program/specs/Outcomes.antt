@@ -25,6 +25,7 @@ status_of WriteFailed = 3
 status_of OutOfMemory = 4
 status_of (BadLine line fault) = 5
 
+-- what is wrong with a line: it is not of its form, or the total with it passes 2^64 - 1
 abbrev pub fault_text : ProgramTexts → LineFault → Bytes
 fault_text program BadForm = program.bad_line
 fault_text program TooLarge = codes "total too large"
@@ -37,6 +38,7 @@ said_by program text = program.name ++ codes ": " ++ text ++ line_feed
 abbrev pub bad_line : ProgramTexts → ℕ → LineFault → Bytes
 bad_line program line fault = program.name ++ codes ": line " ++ decimal line ++ codes ": " ++ fault_text program fault ++ line_feed
 
+-- the form of the program's words, behind `usage: `
 abbrev pub usage_line : ProgramTexts → Bytes
 usage_line program = codes "usage: " ++ program.usage ++ line_feed
 

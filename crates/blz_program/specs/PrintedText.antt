@@ -3,6 +3,7 @@ use Rattle.std.specs.Prelude.{ℕ, ◌-◌, ◌/◌, ◌%◌, ◌^◌, ◌∷◌
 use Rattle.std.specs.List.{range_with_len}
 use Rattle.blz_error.specs.Texts.{Bytes}
 
+-- the byte that ends a line
 abbrev pub line_feed : Bytes
 line_feed = 10 ∷ []
 

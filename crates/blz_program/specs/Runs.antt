@@ -27,6 +27,7 @@ status_for (Mark k) = 1
 status_for Malformed = 2
 status_for (Line line fault) = 5
 
+-- what is found is a text
 abbrev pub IsText : Found → Type 0
 IsText (Text text) = ⊤
 IsText (Mark k) = ⊥

@@ -3,6 +3,7 @@ use Rattle.std.specs.Prelude.{ℕ, ◌+◌, ◌*◌, ◌-◌, ◌&&◌, nat_le, 
 use Rattle.std.specs.List.{starts_with}
 use Rattle.blz_error.specs.Texts.{Bytes}
 
+-- whether a number is at least one and at most another
 abbrev pub is_between : ℕ → ℕ → ℕ → Bool
 is_between low high b = nat_le low b && nat_le b high
 
@@ -31,6 +32,7 @@ hex_from so_far (b ∷ bs) = hex_from (with_digit 16 so_far (hex_value b)) bs
 abbrev pub hex_number : Bytes → Option ℕ
 hex_number digits = if is_between 1 16 (length digits) then hex_from (Some 0) digits else None
 
+-- a word without the `0x` at its beginning, where it has it
 abbrev pub without_prefix : Bytes → Bytes
 without_prefix word = if starts_with nat_eq word (codes "0x") then drop 2 word else word
 
@@ -57,6 +59,7 @@ decimal_number (b ∷ bs) = if is_between 49 57 b then decimal_from (Some (b - 4
 abbrev pub number_up_to : ℕ → Bytes → Option ℕ
 number_up_to most word = up_to most (decimal_number word)
 
+-- the address of a word before those of the words behind it, where each is one
 abbrev pub joined_option : Option ℕ → Option (List ℕ) → Option (List ℕ)
 joined_option None rest = None
 joined_option (Some addr) None = None

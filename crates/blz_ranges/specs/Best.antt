@@ -23,6 +23,7 @@ unfoldable pub best_by : (ℕ → Span → Bool) → ℕ → List Span → Optio
 best_by test at [] = None
 best_by test at (s ∷ rest) = if test at s then better (record { place = at; span = s }) (best_by test (at + 1) rest) else best_by test (at + 1) rest
 
+-- the place of a range that was found, in its list
 abbrev pub place_of : Option Placed → Option ℕ
 place_of None = None
 place_of (Some p) = Some p.place

@@ -5,10 +5,12 @@ use Rattle.blz_ranges.specs.declared.span.Span.{Span}
 use Rattle.blz_ranges.specs.declared.grouped.Grouped.{Grouped}
 use Rattle.blz_ranges.specs.Best.{best_by, place_of, passes, placed, no_span}
 
+-- whether a range is there and belongs to the group g
 abbrev pub group_is : ℕ → Option Grouped → Bool
 group_is g None = false
 group_is g (Some x) = x.group == g
 
+-- the ranges without their groups
 abbrev pub spans_of : List Grouped → List Span
 spans_of list = map (λ (x : Grouped). x.span) list
 
@@ -24,6 +26,7 @@ best_in list g addr = place_of (best_by (in_group list g (passes addr None)) 0 (
 abbrev pub next_in : List Grouped → ℕ → ℕ → ℕ → Option ℕ
 next_in list g addr bound = place_of (best_by (in_group list g (passes addr (Some (placed (spans_of list) bound)))) 0 (spans_of list))
 
+-- a range that belongs to the group g
 abbrev pub grouped : ℕ → Span → Grouped
 grouped g s = record { group = g; span = s }
 

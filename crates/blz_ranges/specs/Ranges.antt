@@ -31,6 +31,7 @@ pub record IsIndexIf (list : List Grouped) (entries : List Ordered) (steps : Lis
 abbrev pub AllInGroup : ℕ → List Grouped → Type 0
 AllInGroup g list = (p : ℕ) (x : Grouped) → slice_get list p ≡ Some x → x.group ≡ g
 
+-- the owner of the item at a place that was found
 abbrev pub owner_of : {A : Type 0} → List (Owned A) → Option ℕ → Option ℕ
 owner_of ranges None = None
 owner_of ranges (Some place) = owner_at ranges place

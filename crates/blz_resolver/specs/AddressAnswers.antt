@@ -78,9 +78,11 @@ places_of t b addr opts at (Some direct) = if asks_inlined_fns opts then (do
   Good (frames direct calls))
     else Good (one_place direct)
 
+-- a symbol with its place and its inlined calls
 abbrev pub placed : Resolved → Places → Resolved
 placed symbol places = record symbol { site = places.site; inlined = places.inlined }
 
+-- the answer of a function, by the numbers of its unit and of itself there
 unfoldable pub function_answer : Texts → Book → ℕ → FindSymOpts → ℕ × ℕ → Part Answer
 function_answer t b addr opts at = do
   symbol ← function_symbol t b at
@@ -97,6 +99,7 @@ with_place t b addr opts (Known symbol) = do
   direct ← direct_site t b addr opts
   Good (Known (placed symbol (one_place_if direct)))
 
+-- the symbol of the debug file that covers an address, with its place, or why there is none
 unfoldable pub symbol_answer : Texts → Book → ℕ → FindSymOpts → Part Answer
 symbol_answer t b addr opts = do
   answer ← image_symbol (debug_file b.images).image (debug_file b.images).module_name addr
@@ -104,6 +107,7 @@ symbol_answer t b addr opts = do
 
 -- ---- the answer
 
+-- the answer by the function that covers an address, and by the symbols where none does
 unfoldable pub answer_by : Texts → Book → ℕ → FindSymOpts → Option (ℕ × ℕ) → Part Answer
 answer_by t b addr opts None = symbol_answer t b addr opts
 answer_by t b addr opts (Some at) = function_answer t b addr opts at
@@ -118,6 +122,7 @@ answer_in t b addr opts = do
 abbrev pub answers_in : Texts → Book → FindSymOpts → ℕ → Part Answer
 answers_in t b opts addr = answer_in t b addr opts
 
+-- the answer of an address
 abbrev pub answer : Book → ℕ → FindSymOpts → Part Answer
 answer b addr opts = answer_in (texts_of b.files) b addr opts
 

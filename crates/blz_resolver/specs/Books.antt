@@ -30,6 +30,7 @@ sup_image image = do
   checked ← or_invalid (sups_checked (Some (as_sup debug)))
   Good debug
 
+-- the debug information of the debug file and of the supplementary file, and the sections of the package
 pub record DebugImages : Type 0 where
   pub main : DebugImage
   pub sup : Option DebugImage
@@ -45,6 +46,7 @@ debug_images images = do
 
 -- ---- as the files that units are read from
 
+-- `.debug_str` of a supplementary file
 abbrev pub sup_strings_of : DebugImage → Contents
 sup_strings_of d = (sections_of d).strings
 
@@ -52,6 +54,7 @@ sup_strings_of d = (sections_of d).strings
 abbrev pub beside : DebugImage → Option DebugImage → FileSections
 beside main sup = record (sections_of main) { sup_strings = option_map sup_strings_of sup }
 
+-- the files that units are read from
 abbrev pub files_in : DebugImages → Files
 files_in d = record { main = beside d.main d.sup; «package» = d.package_parts; none = map.empty; sup = option_map as_sup d.sup }
 

@@ -7,6 +7,7 @@ use Rattle.blz_model.specs.Answers.{Site, Inlined}
 abbrev pub short_column : ℕ → ℕ
 short_column n = min n 65535
 
+-- a place with the column as it is shown
 abbrev pub shown_site : Site → Site
 shown_site s = record s { column = option_map short_column s.column }
 
@@ -25,12 +26,15 @@ pub record Places : Type 0 where
   pub site : Option Site
   pub inlined : List Inlined
 
+-- where no place is asked for, or none is known
 abbrev pub no_places : Places
 no_places = record { site = None; inlined = [] }
 
+-- the place of the address alone, without inlined calls
 abbrev pub one_place : Site → Places
 one_place direct = record { site = Some (shown_site direct); inlined = [] }
 
+-- the same, where that place is known
 abbrev pub one_place_if : Option Site → Places
 one_place_if None = no_places
 one_place_if (Some direct) = one_place direct

@@ -11,6 +11,7 @@ use Rattle.blz_info.specs.FileSections.{FileSections}
 use Rattle.blz_resolver.specs.declared.debug_section.DebugSection.{DebugSection}
 use Rattle.blz_resolver.specs.declared.debug_section.DebugSection.TheVariants.{Abbrev, Addr, Aranges, Info, Line, LineStr, Ranges, RngLists, Strings, StrOffsets}
 
+-- the name of a section
 unfoldable pub name_of : DebugSection → List ℕ
 name_of Abbrev = codes ".debug_abbrev"
 name_of Addr = codes ".debug_addr"
@@ -77,9 +78,11 @@ abbrev pub moves_of : SectionMap → Option ℕ → OffsetMap
 moves_of moves None = map.empty
 moves_of moves (Some number) = section_map moves number
 
+-- a section with its relocations, in the byte order of its image
 abbrev pub contents_with : ByteOrder → SectionMap → Located → Contents
 contents_with order moves s = record { bytes = s.bytes; moves = moves_of moves s.number; order = order }
 
+-- all of them with their relocations, as those of a main file: neither a split unit's nor a supplementary file's
 abbrev pub sections_in : DebugParts → SectionMap → FileSections
 sections_in p moves = record {
   «abbrev» = contents_with p.order moves p.«abbrev»;
@@ -108,6 +111,7 @@ pub record DebugImage : Type 0 where
   pub parts : DebugParts
   pub moves : SectionMap
 
+-- the debug information of an image; marks come in the order above, those of its sections last
 unfoldable pub debug_image : List ℕ → Part DebugImage
 debug_image image = do
   elf ← elf_of image

@@ -16,6 +16,7 @@ pub record Rows : Type 0 where
   pub sequences : List Sequence
   pub files : List (List ℕ × List ℕ)
 
+-- the sequences of a line table, and its files as texts
 abbrev pub rows_with : Texts → LineTable → Rows
 rows_with t table = record { sequences = table.sequences; files = map (file_text t) table.files }
 

@@ -19,9 +19,11 @@ tables_of columns units slots = record {
   sizes = 16 + 12 * slots + 4 * columns + 4 * (columns * units);
 }
 
+-- the size of an index in bytes: its header of 16, and its tables
 abbrev pub end_of : ℕ → ℕ → ℕ → ℕ
 end_of columns units slots = 16 + 12 * slots + 4 * columns + 8 * (columns * units)
 
+-- the tables of an index that has no slots
 abbrev pub no_tables : Tables
 no_tables = tables_of 0 0 0
 
@@ -55,9 +57,11 @@ unfoldable pub first_in : (ℕ → Bool) → ℕ → ℕ → Option ℕ
 first_in test zero at = None
 first_in test (suc n) at = if test at then Some at else first_in test n (at + 1)
 
+-- the id in a slot, a number of eight bytes
 abbrev pub id_of : ByteOrder → List ℕ → ℕ → ℕ
 id_of order index slot = field order index (16 + 8 * slot) 8
 
+-- the number in a slot of the row that it leads to: rows count from 1, and an empty slot has 0
 abbrev pub row_of : ByteOrder → List ℕ → Tables → ℕ → ℕ
 row_of order index t slot = field order index (t.rows + 4 * slot) 4
 
@@ -73,12 +77,15 @@ found_row order index t id = option_map (row_of order index t) (first_in (is_slo
 abbrev pub is_column_of : ByteOrder → List ℕ → Tables → ℕ → ℕ → Bool
 is_column_of order index t kind column = field order index (t.names + 4 * column) 4 == kind
 
+-- where a row has its number in a column, in bytes from the start of the offsets or of the sizes
 abbrev pub cell : Tables → ℕ → ℕ → ℕ
 cell t row column = 4 * ((row - 1) * t.columns + column)
 
+-- a piece of a section that has `len` bytes, inside which it has to lie
 abbrev pub inside : ℕ → ℕ → ℕ → Option Piece
 inside len start size = if nat_le (start + size) len then Some (record { start = start; len = size }) else None
 
+-- the contribution of a row in a column, its offset and its size; without a column it is empty
 abbrev pub contribution_in : ByteOrder → List ℕ → Tables → ℕ → ℕ → Option ℕ → Option Piece
 contribution_in order index t row len None = Some (record { start = 0; len = 0 })
 contribution_in order index t row len (Some column) = inside len (field order index (t.offsets + cell t row column) 4) (field order index (t.sizes + cell t row column) 4)

@@ -13,6 +13,7 @@ use Rattle.blz_split.specs.declared.split_unit.Piece.{Piece}
 use Rattle.blz_split.specs.declared.split_unit.SplitUnit.{SplitUnit}
 use Rattle.blz_split.specs.Contributions.{index_tables, found_row, contribution}
 
+-- the sections of a package that split units are read from, its index of units, and its byte order
 pub record PackageParts : Type 0 where
   pub «abbrev» : List ℕ
   pub index : List ℕ

@@ -3,6 +3,7 @@ use Rattle.std.specs.Prelude.{ℕ, List, codes}
 use Rattle.blz_split.specs.declared.dwo_section.DwoSection.{DwoSection}
 use Rattle.blz_split.specs.declared.dwo_section.DwoSection.TheVariants.{Abbrev, Index, Info, RngLists, Strings, StrOffsets}
 
+-- the name of a section
 unfoldable pub name_of : DwoSection → List ℕ
 name_of Abbrev = codes ".debug_abbrev.dwo"
 name_of Index = codes ".debug_cu_index"

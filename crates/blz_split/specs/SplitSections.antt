@@ -11,6 +11,7 @@ use Rattle.blz_split.specs.PackageParts.{PackageParts}
 abbrev pub packed : PackageParts → OffsetMap → List ℕ → Contents
 packed p none bytes = record { bytes = bytes; moves = none; order = p.order }
 
+-- the bytes of a contribution, of those of its section
 abbrev pub piece_of : List ℕ → Piece → List ℕ
 piece_of bytes piece = slice_range bytes piece.start (piece.start + piece.len)
 

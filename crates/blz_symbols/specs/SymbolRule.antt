@@ -30,6 +30,7 @@ abbrev pub sizeless_covers : TableKind → ℕ → ℕ → Bool
 sizeless_covers Symtab addr value = true
 sizeless_covers Dynsym addr value = value == addr
 
+-- whether a symbol with a value up to an address covers it: by st_size, or by the rule for size 0
 abbrev pub covers : TableKind → ℕ → Symbol → Bool
 covers kind addr s = if s.size == 0 then sizeless_covers kind addr s.value else nat_lt addr (s.value + s.size)
 
@@ -92,6 +93,7 @@ table_answer module_name elf kind addr = do
 abbrev pub reason_of : SymbolTable → Reason
 reason_of table = if length table.symbols == 0 then reason.MissingSyms else reason.UnknownAddr
 
+-- why an image has no symbol for an address, by its `.symtab` alone
 unfoldable pub reason_for : Elf → Part Reason
 reason_for elf = do
   symtab ← table_of Symtab elf
@@ -119,6 +121,7 @@ symbol_for module_name elf addr = do
     or_dynamic (Some answer) = Good answer
     or_dynamic None = dynamic_answer module_name elf addr
 
+-- the symbol of an address in an image, with the name of its module, or why there is none
 unfoldable pub image_symbol : List ℕ → Option (List ℕ) → ℕ → Part Answer
 image_symbol image module_name addr = do
   elf ← elf_of image

@@ -42,6 +42,7 @@ abbrev pub unit_start : ℕ → Bytes
 unit_start n = fields_bytes (U16 4 ∷ U32 0 ∷ []) ++ 0x08 ∷ 0x01 ∷ [] ++ text_bytes (codes "demo.c") ++ text_bytes (codes "/demo")
     ++ fields_bytes (U64 first_address ∷ U64 (16 * n) ∷ U32 0 ∷ [])
 
+-- the unit of n functions after its length: its header, its root, the functions, and the zero that closes the root
 abbrev pub unit : ℕ → Bytes
 unit n = unit_start n ++ function_entries n ++ 0 ∷ []
 
@@ -60,6 +61,7 @@ line_start = fields_bytes (U16 4 ∷ U32 30 ∷ [])
 abbrev pub line_step : Bytes
 line_step = 0x02 ∷ 0x10 ∷ 0x03 ∷ 0x01 ∷ 0x01 ∷ []
 
+-- a row for each of n further functions
 abbrev pub line_steps : ℕ → Bytes
 line_steps zero = []
 line_steps (suc i) = line_steps i ++ line_step
@@ -68,6 +70,7 @@ line_steps (suc i) = line_steps i ++ line_step
 abbrev pub line_end : Bytes
 line_end = 0x02 ∷ 0x10 ∷ 0 ∷ 0x01 ∷ 0x01 ∷ []
 
+-- the line program of n functions after its length
 abbrev pub line_program : ℕ → Bytes
 line_program n = line_start ++ line_steps (n - 1) ++ line_end
 
@@ -96,6 +99,7 @@ section_headers info_len line_len = replicate 64 0
     ++ section_header 25 1 (headers_len + length section_names + length abbreviations) info_len
     ++ section_header 37 1 (headers_len + length section_names + length abbreviations + info_len) line_len
 
+-- the file by its `.debug_info` and its `.debug_line`
 abbrev pub file_of : Bytes → Bytes → Bytes
 file_of info line = file_header ++ section_headers (length info) (length line) ++ section_names ++ abbreviations ++ info ++ line
 

@@ -60,6 +60,7 @@ pub record IsNotTaken (given : List Bytes) (found : Found) : Type 0 where
   pub not_taken : takes tool_app given ≡ false
   pub same : found ≡ run.Malformed
 
+-- what is found for the program's name and its words: by what they ask for, or as words that are not taken
 abbrev pub FindsNamed : List Bytes → Option Contents → Found → Type 0
 FindsNamed given contents found = FindsFor (asked_named given) contents found ⊎ IsNotTaken given found
 
@@ -73,6 +74,7 @@ pub record FailsNamed (given : List Bytes) (failed : Type 0) : Type 0 where
   pub asks : asked_named given ≡ Resolve question
   pub counted : failed
 
+-- the same, with the program's name put before the words
 abbrev pub FilesFail : List Bytes → Type 0 → Type 0
 FilesFail words = FailsNamed (named words)
 

@@ -16,6 +16,7 @@ use Rattle.blz_tool.specs.declared.tally.Tally.{Tally}
 abbrev pub asked_at : ℕ → ℕ
 asked_at j = first_address + 8 * j
 
+-- all that are asked for n functions: two for each
 abbrev pub asked_addresses : ℕ → List ℕ
 asked_addresses n = map asked_at (range_with_len 0 (2 * n))
 
@@ -23,6 +24,7 @@ asked_addresses n = map asked_at (range_with_len 0 (2 * n))
 abbrev pub count_line : Bytes → ℕ → Bytes
 count_line name count = name ++ codes " " ++ decimal count ++ line_feed
 
+-- how many functions, addresses, answers with a symbol, and the sum of their lines, each on a line
 abbrev pub summary_text : ℕ → Tally → Bytes
 summary_text n tally = count_line (codes "functions") n ++ count_line (codes "addresses") (2 * n)
     ++ count_line (codes "found") tally.found ++ count_line (codes "lines") tally.lines

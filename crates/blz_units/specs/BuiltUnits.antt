@@ -90,6 +90,7 @@ pub record IsReadable (d : Dwarf) : Type 0 where
 abbrev pub line_header : FileSections → ℕ → ℕ → Option (Unit {0})
 line_header s at address_size = header_at s.line at address_size >>= λ _. Some tt
 
+-- the line program of a root (DW_AT_stmt_list), where it has one, has to have a header
 abbrev pub has_lines : FileSections → UnitHeader → Option ℕ → Option (Unit {0})
 has_lines s h None = Some tt
 has_lines s h (Some at) = line_header s at h.address_size
@@ -119,6 +120,7 @@ has_id SplitType = false
 abbrev pub rooted_on : UnitRoot → UnitRoot → UnitRoot
 rooted_on main root = record root { addr_base = main.addr_base; low_pc = main.low_pc }
 
+-- a split unit with the base of addresses and the first address of its main unit
 abbrev pub based_on : UnitRoot → UnitParts → UnitParts
 based_on main u = record { sections = u.sections; header = u.header; table = u.table; root = rooted_on main u.root }
 
@@ -140,6 +142,7 @@ abbrev pub not_empty : Option SplitUnit → Option SplitUnit
 not_empty None = None
 not_empty (Some pieces) = if pieces.info.len == 0 then None else Some pieces
 
+-- the contributions of an id in a package; none without a package
 abbrev pub pieces_in : ℕ → Option PackageParts → Option (Option SplitUnit)
 pieces_in id None = Some None
 pieces_in id (Some p) = split_unit p id >>= λ pieces. Some (not_empty pieces)
@@ -153,6 +156,7 @@ abbrev pub split_from : Files → SplitUnit → Option PackageParts → FileSect
 split_from f pieces None = f.main
 split_from f pieces (Some p) = split_sections p pieces f.main f.none
 
+-- the unit itself, or the split unit of its pieces, based on it
 abbrev pub read_from : Files → UnitHeader → Option SplitUnit → Option UnitParts
 read_from f h None = built f.main h
 read_from f h (Some pieces) = built f.main h >>= λ main. split_built (split_from f pieces f.«package») main.root

@@ -38,6 +38,7 @@ unit_language f t k = main_unit f t k >>= λ u. Some (language_of u.root.languag
 abbrev pub lists_in : Files → UnitTable → UnitParts → Option Lists
 lists_in f t u = unit_lists (refer_from (reach_of f t) u) u
 
+-- the functions of a unit with their ranges, by the number of the unit
 unfoldable pub unit_functions : Files → UnitTable → ℕ → Option Lists
 unit_functions f t k = read_unit f t k >>= lists_in f t
 
@@ -49,6 +50,7 @@ unit_lines f t k = main_unit f t k >>= lines_in
 abbrev pub calls_in : Files → UnitTable → ℕ → UnitParts → Option CallLists
 calls_in f t place u = unit_calls (refer_from (reach_of f t) u) u place
 
+-- the inlined calls of the function at a place of a unit, by the number of the unit
 unfoldable pub place_calls : Files → UnitTable → ℕ → ℕ → Option CallLists
 place_calls f t k place = read_unit f t k >>= calls_in f t place
 
@@ -56,6 +58,7 @@ place_calls f t k place = read_unit f t k >>= calls_in f t place
 abbrev pub place_in : ℕ → Lists → Option ℕ
 place_in n l = slice_get l.functions n >>= λ function. Some function.place
 
+-- the place of a function, by the number of its unit and its own number there
 unfoldable pub function_place : Files → UnitTable → ℕ → ℕ → Option ℕ
 function_place f t k n = unit_functions f t k >>= place_in n
 
@@ -71,6 +74,7 @@ chosen calls (n ∷ rest) = do
   others ← chosen calls rest
   Some (call ∷ others)
 
+-- of the calls of a function those that cover an address, the outermost first
 abbrev pub chain_of : ℕ → CallLists → Option (List InlinedFunction)
 chain_of addr l = chosen l.calls (chain l.ranges (length l.calls) addr)
 
@@ -84,9 +88,11 @@ covering_calls f t addr k n = function_calls f t k n >>= chain_of addr
 abbrev pub best_of : ℕ → Lists → Option (Option ℕ)
 best_of addr l = Some (best_owner l.ranges addr)
 
+-- the number of the function in a unit whose range is the best one that covers an address
 unfoldable pub best_function : Files → UnitTable → ℕ → ℕ → Option (Option ℕ)
 best_function f t addr k = unit_functions f t k >>= best_of addr
 
+-- the function that was found in the unit k, else what later units give
 abbrev pub found_or : ℕ → Option ℕ → Option (Option (ℕ × ℕ)) → Option (Option (ℕ × ℕ))
 found_or k None rest = rest
 found_or k (Some n) rest = Some (Some (k, n))

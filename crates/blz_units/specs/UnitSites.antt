@@ -24,9 +24,11 @@ abbrev pub line_of : Texts → ℕ → Option LineTable → Part (Option Site)
 line_of texts addr None = Good None
 line_of texts addr (Some table) = line_at texts table addr
 
+-- the line of an address in a unit, by the number of the unit
 unfoldable pub line_in : Texts → Files → UnitTable → ℕ → ℕ → Part (Option Site)
 line_in texts f t addr k = or_invalid (unit_lines f t k) >>= line_of texts addr
 
+-- the place that was found, else what later units give
 abbrev pub site_or : Option Site → Part (Option Site) → Part (Option Site)
 site_or None rest = rest
 site_or (Some site) rest = Good (Some site)
@@ -51,6 +53,7 @@ call_name texts (Some place) = check (is_utf8 (text_of texts place)) InvalidDwar
 abbrev pub site_in : InlinedFunction → List ℕ × List ℕ → Site
 site_in call file = record { dir = Some file.0; file = file.1; line = Some call.call_line; column = Some call.call_column }
 
+-- the place of a call in the file of a number, where its unit has lines with such a file
 abbrev pub site_of : Texts → InlinedFunction → ℕ → Option LineTable → Option Site
 site_of texts call file None = None
 site_of texts call file (Some table) = option_map (λ place. site_in call (file_text texts place)) (slice_get table.files file)

@@ -31,6 +31,7 @@ is_type Skeleton = false
 is_type SplitCompile = false
 is_type SplitType = true
 
+-- a partial unit, which other units import
 abbrev pub is_partial : UnitKind → Bool
 is_partial Compile = false
 is_partial TypeUnit = false
@@ -54,6 +55,7 @@ abbrev pub or_sequences : UnitParts → List Span → List Span
 or_sequences u [] = sequences_of (lines_in u)
 or_sequences u (s ∷ spans) = s ∷ spans
 
+-- what a unit announces by itself: the ranges of its root, and where there are none what its lines cover
 abbrev pub root_spans : UnitParts → Option (List Span)
 root_spans u = ranges_in u u.root.ranges >>= λ spans. Some (or_sequences u spans)
 
@@ -93,9 +95,11 @@ pub record KeptUnits : Type 0 where
   pub kept : List UnitHeader
   pub announced : List (Owned Span)
 
+-- before the first unit
 abbrev pub no_units : KeptUnits
 no_units = record { kept = []; announced = [] }
 
+-- the units with one more and the ranges that it announces, where it is kept
 abbrev pub keep : KeptUnits → UnitHeader → Option (List Span) → KeptUnits
 keep k h None = k
 keep k h (Some spans) = record { kept = k.kept ++ h ∷ []; announced = k.announced ++ own_all (length k.kept) spans }
@@ -112,9 +116,11 @@ units_kept s sets = headers_from s.info 0 >>= fold_maybe (with_unit s sets) no_u
 abbrev pub no_types : List UnitHeader → List UnitHeader
 no_types headers = filter (λ (h : UnitHeader). not (is_type h.kind)) headers
 
+-- the units of a section, type units left out
 abbrev pub units_in : Contents → Option (List UnitHeader)
 units_in info = headers_from info 0 >>= λ headers. Some (no_types headers)
 
+-- the units of the supplementary file; none without one
 unfoldable pub sup_units : Option FileSections → Option (List UnitHeader)
 sup_units None = Some []
 sup_units (Some s) = units_in s.info
