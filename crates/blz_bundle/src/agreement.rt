@@ -18,7 +18,8 @@ pub struct Compared<'c> {
 impl<'c> Compared<'c> {
     /// Refused as InvalidData, with both values, where they do not agree.
     pub fn agree(self, alloc: Global, same: bool, text: &'static str) -> Result<()>
-        ensures { Concludes (λ _. tt) result ⊥ (λ found. agreeing same self.entry.actual.now self.entry.recorded.now ≡ found) }
+        ensures { Concludes (λ _. tt) result ⊥
+            (λ found. agreeing same self.entry.actual.now self.entry.recorded.now ≡ found) }
     {
         if same {
             return Ok(());

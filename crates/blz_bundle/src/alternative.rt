@@ -24,8 +24,9 @@ pub fn find_alternative<F: Files>(
     dirs: &[String],
     debug: &OpenFile,
 ) -> Result<Option<OpenFile>>
-    ensures value { Concludes (option_map file_at) result (Rose (F.faults files.old) (F.faults files.new))
-        (Finds (F.contents files.old) (λ answers. alternative answers (map string_bytes dirs.now) (file_at debug.now))) }
+    ensures value { Concludes (option_map file_at) result
+        (Rose (F.faults files.old) (F.faults files.new)) (Finds (F.contents files.old)
+        (λ answers. alternative answers (map string_bytes dirs.now) (file_at debug.now))) }
     ensures stay { FilesStay F.contents F.stamps F.faults files.old files.new }
 {
     let link = debug.debug_altlink(alloc)?;
@@ -33,7 +34,8 @@ pub fn find_alternative<F: Files>(
 }
 
 fn lead_of(link: Option<DebugAltlink<'_>>) -> Option<FileLead<'_>>
-    ensures { option_map lead_view result ≡ option_map altlink_lead (option_map altlink_view link.entry) }
+    ensures { option_map lead_view result
+        ≡ option_map altlink_lead (option_map altlink_view link.entry) }
 {
     match link {
         Some(link) => Some(FileLead {
@@ -47,7 +49,8 @@ fn lead_of(link: Option<DebugAltlink<'_>>) -> Option<FileLead<'_>>
 
 /// Refused with both build ids where a file has another than was recorded, or none.
 pub(crate) fn check_build_id(alloc: Global, file: &OpenFile, recorded: &[u8]) -> Result<()>
-    ensures { Concludes (λ _. tt) result ⊥ (λ found. has_build_id recorded.now (file_at file.now) ≡ found) }
+    ensures { Concludes (λ _. tt) result ⊥
+        (λ found. has_build_id recorded.now (file_at file.now) ≡ found) }
 {
     let text = "debug altlink destination has another build ID";
     match file.build_id(alloc) {

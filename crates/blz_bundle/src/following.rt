@@ -28,7 +28,8 @@ fn known_as<F: Files>(alloc: Global, files: &mut F, path: &str) -> Result<String
 
 // Whether something stands at a path.
 fn is_there<F: Files>(files: &mut F, path: &str) -> Result<bool>
-    ensures value { Concludes (λ there. there) result (Rose (F.faults files.old) (F.faults files.new))
+    ensures value { Concludes (λ there. there) result
+        (Rose (F.faults files.old) (F.faults files.new))
         (Finds (F.contents files.old) (λ answers. Found (answers.is_there path.now))) }
     ensures stay { FilesStay F.contents F.stamps F.faults files.old files.new }
 {
@@ -37,8 +38,9 @@ fn is_there<F: Files>(files: &mut F, path: &str) -> Result<bool>
 
 // The first candidate that is there.
 fn first_there<F: Files>(files: &mut F, candidates: DebugFileIter<'_>) -> Result<Option<String>>
-    ensures value { Concludes (option_map string_bytes) result (Rose (F.faults files.old) (F.faults files.new))
-        (Finds (F.contents files.old) (λ answers. Found (find answers.is_there (left_of candidates.entry)))) }
+    ensures value { Concludes (option_map string_bytes) result
+        (Rose (F.faults files.old) (F.faults files.new)) (Finds (F.contents files.old)
+        (λ answers. Found (find answers.is_there (left_of candidates.entry)))) }
     ensures stay { FilesStay F.contents F.stamps F.faults files.old files.new }
 {
     for candidate in candidates {
@@ -60,9 +62,10 @@ pub fn follow<F: Files>(
     target: &str,
     build_id: Option<&[u8]>,
 ) -> Result<Option<OpenFile>>
-    ensures value { Concludes (option_map file_at) result (Rose (F.faults files.old) (F.faults files.new))
-        (Finds (F.contents files.old) (λ answers. followed answers (map string_bytes dirs.now) (file_at from.now)
-        target.now (option_map (λ id. id.now) build_id.entry))) }
+    ensures value { Concludes (option_map file_at) result
+        (Rose (F.faults files.old) (F.faults files.new))
+        (Finds (F.contents files.old) (λ answers. followed answers (map string_bytes dirs.now)
+        (file_at from.now) target.now (option_map (λ id. id.now) build_id.entry))) }
     ensures stay { FilesStay F.contents F.stamps F.faults files.old files.new }
 {
     let linker = known_as(alloc, files, &from.path)?;

@@ -44,9 +44,10 @@ pub fn led<F: Files>(
     from: &OpenFile,
     lead: Option<FileLead<'_>>,
 ) -> Result<Option<OpenFile>>
-    ensures value { Concludes (option_map file_at) result (Rose (F.faults files.old) (F.faults files.new))
-        (Finds (F.contents files.old) (λ answers. led answers (map string_bytes dirs.now) (file_at from.now)
-        (option_map lead_view lead.entry))) }
+    ensures value { Concludes (option_map file_at) result
+        (Rose (F.faults files.old) (F.faults files.new))
+        (Finds (F.contents files.old) (λ answers. led answers (map string_bytes dirs.now)
+        (file_at from.now) (option_map lead_view lead.entry))) }
     ensures stay { FilesStay F.contents F.stamps F.faults files.old files.new }
 {
     let Some(lead) = lead else {
@@ -60,7 +61,8 @@ pub fn led<F: Files>(
 }
 
 fn check(alloc: Global, file: &OpenFile, mark: Mark<'_>) -> Result<()>
-    ensures { Concludes (λ _. tt) result ⊥ (λ found. passes mark.entry (file_at file.now) ≡ found) }
+    ensures { Concludes (λ _. tt) result ⊥
+        (λ found. passes mark.entry (file_at file.now) ≡ found) }
 {
     match mark {
         Mark::Checksum(recorded) => check_checksum(alloc, file, recorded),

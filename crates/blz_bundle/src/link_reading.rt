@@ -25,7 +25,8 @@ impl OpenFile {
     }
 
     pub fn debug_altlink(&self, alloc: Global) -> Result<Option<DebugAltlink<'_>>>
-        ensures { Exactly (option_map altlink_view) result (debug_altlink_in (file_at self.now).image) }
+        ensures { Exactly (option_map altlink_view) result
+            (debug_altlink_in (file_at self.now).image) }
     {
         let mut parser = ElfParser::from_mem(alloc, &self.image, None);
         read_debug_altlink(&mut parser)

@@ -24,8 +24,9 @@ pub fn find_linkee<F: Files>(
     dirs: &[String],
     main: &OpenFile,
 ) -> Result<Option<OpenFile>>
-    ensures value { Concludes (option_map file_at) result (Rose (F.faults files.old) (F.faults files.new))
-        (Finds (F.contents files.old) (λ answers. linked answers (map string_bytes dirs.now) (file_at main.now))) }
+    ensures value { Concludes (option_map file_at) result
+        (Rose (F.faults files.old) (F.faults files.new)) (Finds (F.contents files.old)
+        (λ answers. linked answers (map string_bytes dirs.now) (file_at main.now))) }
     ensures stay { FilesStay F.contents F.stamps F.faults files.old files.new }
 {
     let link = main.debug_link(alloc)?;
@@ -52,7 +53,8 @@ fn lead_of<'f>(
 
 /// Refused with both checksums where a file has another than was recorded.
 pub(crate) fn check_checksum(alloc: Global, file: &OpenFile, recorded: u32) -> Result<()>
-    ensures { Concludes (λ _. tt) result ⊥ (λ found. has_checksum recorded (file_at file.now) ≡ found) }
+    ensures { Concludes (λ _. tt) result ⊥
+        (λ found. has_checksum recorded (file_at file.now) ≡ found) }
 {
     let actual = debug_link_crc32(&file.image);
     let compared = Compared {

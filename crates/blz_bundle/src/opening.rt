@@ -86,8 +86,9 @@ fn find_shared<F: Files>(
     dirs: &[String],
     debug: &OpenFile,
 ) -> Result<Option<OpenFile>>
-    ensures value { Concludes (option_map file_at) result (Rose (F.faults files.old) (F.faults files.new))
-        (StepsFind (F.contents files.old) (λ answers. shared answers (map string_bytes dirs.now) (file_at debug.now))) }
+    ensures value { Concludes (option_map file_at) result
+        (Rose (F.faults files.old) (F.faults files.new)) (StepsFind (F.contents files.old)
+        (λ answers. shared answers (map string_bytes dirs.now) (file_at debug.now))) }
     ensures stay { FilesStay F.contents F.stamps F.faults files.old files.new }
 {
     match find_alternative(alloc, files, dirs, debug)? {

@@ -49,7 +49,8 @@ impl OwnedBundle {
 
     /// An image without companions, whose module is named by its path; takes no memory.
     pub fn of_image(image: Vec<u8>, path: String) -> OwnedBundle
-        ensures { result ≡ alone (record { image = image.items; module_name = Some (string_bytes path) }) }
+        ensures { result
+            ≡ alone (record { image = image.items; module_name = Some (string_bytes path) }) }
     {
         OwnedBundle::with_companions(OpenFile { path, image }, None, None, None)
     }

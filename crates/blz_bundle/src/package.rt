@@ -19,7 +19,8 @@ pub fn find_package<F: Files>(
     files: &mut F,
     main: &OpenFile,
 ) -> Result<Option<OpenFile>>
-    ensures value { Concludes (option_map file_at) result (Rose (F.faults files.old) (F.faults files.new))
+    ensures value { Concludes (option_map file_at) result
+        (Rose (F.faults files.old) (F.faults files.new))
         (Finds (F.contents files.old) (λ answers. Found (package_of answers (file_at main.now)))) }
     ensures stay { FilesStay F.contents F.stamps F.faults files.old files.new }
 {

@@ -25,8 +25,9 @@ pub fn find_supplementary<F: Files>(
     dirs: &[String],
     debug: &OpenFile,
 ) -> Result<Option<OpenFile>>
-    ensures value { Concludes (option_map file_at) result (Rose (F.faults files.old) (F.faults files.new))
-        (Finds (F.contents files.old) (λ answers. supplementary answers (map string_bytes dirs.now) (file_at debug.now))) }
+    ensures value { Concludes (option_map file_at) result
+        (Rose (F.faults files.old) (F.faults files.new)) (Finds (F.contents files.old)
+        (λ answers. supplementary answers (map string_bytes dirs.now) (file_at debug.now))) }
     ensures stay { FilesStay F.contents F.stamps F.faults files.old files.new }
 {
     let sup = debug.debug_sup(alloc)?;
@@ -34,7 +35,8 @@ pub fn find_supplementary<F: Files>(
 }
 
 fn lead_of(sup: Option<DebugSupInfo<'_>>) -> Option<FileLead<'_>>
-    ensures { option_map lead_view result ≡ option_and_then sup_lead (option_map sup_view sup.entry) }
+    ensures { option_map lead_view result
+        ≡ option_and_then sup_lead (option_map sup_view sup.entry) }
 {
     let sup = sup?;
     let target = sup.path?;
@@ -47,7 +49,8 @@ fn lead_of(sup: Option<DebugSupInfo<'_>>) -> Option<FileLead<'_>>
 
 /// Refused where a file does not say that it is a supplementary one, or has another checksum than was recorded.
 pub(crate) fn check_supplementary(alloc: Global, file: &OpenFile, recorded: &[u8]) -> Result<()>
-    ensures { Concludes (λ _. tt) result ⊥ (λ found. is_supplementary recorded.now (file_at file.now) ≡ found) }
+    ensures { Concludes (λ _. tt) result ⊥
+        (λ found. is_supplementary recorded.now (file_at file.now) ≡ found) }
 {
     let Some(sup) = file.debug_sup(alloc)? else {
         return Err(Error::new(

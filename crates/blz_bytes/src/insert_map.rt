@@ -50,8 +50,10 @@ impl<K: Eq + Hash, V> InsertMap<K, V> {
     // the place of a key
     fn find(&self, key: &K) -> Option<usize>
         ensures inside { IfSome result (λ i. i < length self.now) }
-        ensures found { IfSome result (λ i. (d : K × V) → lookup (K.eq key.now) self.now ≡ Some (get_or self.now i d).1) }
-        ensures taken { IfSome result (λ i. remove self.now i ≡ remove_entry (K.eq key.now) self.now) }
+        ensures found { IfSome result
+            (λ i. (d : K × V) → lookup (K.eq key.now) self.now ≡ Some (get_or self.now i d).1) }
+        ensures taken { IfSome result
+            (λ i. remove self.now i ≡ remove_entry (K.eq key.now) self.now) }
         ensures none { result ≡ None → lookup (K.eq key.now) self.now ≡ None }
     {
         for i in 0..self.pairs.len() {
@@ -77,7 +79,9 @@ impl<K: Eq + Hash, V> InsertMap<K, V> {
         V: Drop,
         requires { lookup (K.eq key) self.old ≡ None → G.pre init }
         ensures inside { IfOk result (λ i. i < length self.new) }
-        ensures ok { IfOk result (λ i. (d : K × V) → UnwrapsOrElse (lookup (K.eq key) self.old) (G.post init) (get_or self.new i d).1 × (self.new ≡ put_absent K.eq key (get_or self.new i d).1 self.old)) }
+        ensures ok { IfOk result (λ i. (d : K × V)
+            → UnwrapsOrElse (lookup (K.eq key) self.old) (G.post init) (get_or self.new i d).1
+            × (self.new ≡ put_absent K.eq key (get_or self.new i d).1 self.old)) }
         ensures err { OnErr result (self.new ≡ self.old) }
     {
         match self.find(&key) {
@@ -98,7 +102,8 @@ impl<K: Eq + Hash, V> InsertMap<K, V> {
         V: Drop,
         requires { lookup (K.eq key) self.old ≡ None → G.pre init }
         ensures* after { sem 𝓛 (EndsPut K.row V.row K.Hash self.entry key result) }
-        ensures value { IfOk result (λ v. UnwrapsOrElse (lookup (K.eq key) self.old) (G.post init) v.now) }
+        ensures value { IfOk result
+            (λ v. UnwrapsOrElse (lookup (K.eq key) self.old) (G.post init) v.now) }
     {
         let i = self.put(key, init)?;
         Ok(&self.pairs[i].1)
@@ -116,8 +121,12 @@ impl<K: Eq + Hash, V> InsertMap<K, V> {
         V: Drop,
         requires { lookup (K.eq key) self.old ≡ None → G.pre init }
         ensures inside { IfOk result (λ i. i < length self.new) }
-        ensures ok { IfOk result (λ i. (d : K × V) → UnwrapsOrElse (lookup (K.eq key) self.old) (λ v. G.post init (Ok v)) (get_or self.new i d).1 × (self.new ≡ put_absent K.eq key (get_or self.new i d).1 self.old)) }
-        ensures err { IfErr result (λ e. (self.new ≡ self.old) × (lookup (K.eq key) self.old ≡ None) × (E.from_gives alloc_error e ⊎ G.post init (Err e))) }
+        ensures ok { IfOk result (λ i. (d : K × V) → UnwrapsOrElse (lookup (K.eq key) self.old)
+            (λ v. G.post init (Ok v)) (get_or self.new i d).1
+            × (self.new ≡ put_absent K.eq key (get_or self.new i d).1 self.old)) }
+        ensures err { IfErr result
+            (λ e. (self.new ≡ self.old) × (lookup (K.eq key) self.old ≡ None)
+            × (E.from_gives alloc_error e ⊎ G.post init (Err e))) }
     {
         if let Some(i) = self.find(&key) {
             return Ok(i);
@@ -148,8 +157,10 @@ impl<K: Eq + Hash, V> InsertMap<K, V> {
         K: Drop,
         V: Drop,
         requires { lookup (K.eq key) self.old ≡ None → G.pre init }
-        ensures value { IfOk result (λ v. UnwrapsOrElse (lookup (K.eq key) self.old) (λ v. G.post init (Ok v)) v.now) }
-        ensures err { IfErr result (λ e. (lookup (K.eq key) self.old ≡ None) × (E.from_gives alloc_error e ⊎ G.post init (Err e))) }
+        ensures value { IfOk result
+            (λ v. UnwrapsOrElse (lookup (K.eq key) self.old) (λ v. G.post init (Ok v)) v.now) }
+        ensures err { IfErr result (λ e. (lookup (K.eq key) self.old ≡ None)
+            × (E.from_gives alloc_error e ⊎ G.post init (Err e))) }
     {
         let place = self.try_insert(key, init)?;
         Ok(&self.pairs[place].1)
@@ -180,7 +191,8 @@ impl<K: Eq + Hash, V> InsertMap<K, V> {
         K: Drop,
         ensures value { result ≡ lookup (K.eq key.now) self.old }
         ensures after { self.new ≡ remove_entry (K.eq key.now) self.old }
-        ensures gone { (q : K) → lookup (K.eq q) self.new ≡ cond (K.eq key.now q) None (lookup (K.eq q) self.old) }
+        ensures gone { (q : K)
+            → lookup (K.eq q) self.new ≡ cond (K.eq key.now q) None (lookup (K.eq q) self.old) }
     {
         let i = self.find(key)?;
         let (_, value) = self.pairs.remove(i);

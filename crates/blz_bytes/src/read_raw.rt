@@ -17,7 +17,8 @@ pub trait ReadRaw<'d> {
 
     /// Whether at least `len` bytes are left.
     fn ensure(&self, len: usize) -> Option<()>
-        ensures { is_some result ≡ nat_le ((reading self.now).position + len) (length (reading self.now).bytes) };
+        ensures { is_some result
+            ≡ nat_le ((reading self.now).position + len) (length (reading self.now).bytes) };
 
     /// Passes over `cnt` bytes; none where fewer are left.
     fn advance(&mut self, cnt: usize) -> Option<()>
@@ -30,15 +31,18 @@ pub trait ReadRaw<'d> {
 
     /// The next `len` bytes; none where fewer are left.
     fn read_slice(&mut self, len: usize) -> Option<&'d [u8]>
-        ensures { Takes (piece len) (reading self.old) (option_map (λ s. s.now) result) (reading self.new) };
+        ensures { Takes (piece len) (reading self.old) (option_map (λ s. s.now) result)
+            (reading self.new) };
 
     /// The bytes before the next zero, which is passed over too; none where no zero is left.
     fn read_cstr(&mut self) -> Option<&'d [u8]>
-        ensures { Takes zero_ended (reading self.old) (option_map (λ s. s.now) result) (reading self.new) };
+        ensures { Takes zero_ended (reading self.old) (option_map (λ s. s.now) result)
+            (reading self.new) };
 
     /// A plain value; none where fewer than its bytes are left.
     fn read_pod<T: Pod>(&mut self) -> Option<T>
-        ensures { Takes (pod T.value T.SIZE (reading self.old).order) (reading self.old) result (reading self.new) };
+        ensures { Takes (pod T.value T.SIZE (reading self.old).order) (reading self.old) result
+            (reading self.new) };
 
     /// `count` plain values; none where fewer than their bytes are left.
     fn read_pods<T: Pod>(
@@ -46,23 +50,28 @@ pub trait ReadRaw<'d> {
         alloc: Global,
         count: usize,
     ) -> Result<Option<Vec<T>>, AllocError>
-        ensures { TakesList (pods T.value T.SIZE count (reading self.old).order) (reading self.old) result (reading self.new) };
+        ensures { TakesList (pods T.value T.SIZE count (reading self.old).order)
+            (reading self.old) result (reading self.new) };
 
     /// A byte; none at the end.
     fn read_u8(&mut self) -> Option<u8>
-        ensures { Takes (number (reading self.old).order 1) (reading self.old) result (reading self.new) };
+        ensures { Takes (number (reading self.old).order 1) (reading self.old) result
+            (reading self.new) };
 
     /// A number of two bytes; none where fewer are left.
     fn read_u16(&mut self) -> Option<u16>
-        ensures { Takes (number (reading self.old).order 2) (reading self.old) result (reading self.new) };
+        ensures { Takes (number (reading self.old).order 2) (reading self.old) result
+            (reading self.new) };
 
     /// A number of four bytes; none where fewer are left.
     fn read_u32(&mut self) -> Option<u32>
-        ensures { Takes (number (reading self.old).order 4) (reading self.old) result (reading self.new) };
+        ensures { Takes (number (reading self.old).order 4) (reading self.old) result
+            (reading self.new) };
 
     /// A number of eight bytes; none where fewer are left.
     fn read_u64(&mut self) -> Option<u64>
-        ensures { Takes (number (reading self.old).order 8) (reading self.old) result (reading self.new) };
+        ensures { Takes (number (reading self.old).order 8) (reading self.old) result
+            (reading self.new) };
 
     /// An unsigned LEB128 number (DWARF 5 section 7.6); none where it does not end within ten bytes or the slice, or is
     /// 2 ^ 64 or more.

@@ -108,7 +108,8 @@ pub fn look<'b>(
 ) -> Result<Option<Answer<'b>>>
     requires kept { TableKept kind image.now table.now }
     requires full { is_kept table.now ≡ true }
-    ensures { Exactly (option_map answer_view) result (table_answer (option_map (λ m. m.now) module_name.entry) image.now kind addr) }
+    ensures { Exactly (option_map answer_view) result
+        (table_answer (option_map (λ m. m.now) module_name.entry) image.now kind addr) }
 {
     let question = Question {
         table: kind,
@@ -151,7 +152,8 @@ pub fn look_dynamic<'b>(
     requires dynsym { TableKept Dynsym image.now dynsym.now }
     requires full { is_kept symtab.now ≡ true }
     requires dynsym_full { is_kept dynsym.now ≡ true }
-    ensures { Exactly answer_view result (dynamic_answer (option_map (λ m. m.now) module_name.entry) image.now addr) }
+    ensures { Exactly answer_view result
+        (dynamic_answer (option_map (λ m. m.now) module_name.entry) image.now addr) }
 {
     match look(alloc, module_name, image, TableKind::Dynsym, dynsym, addr)? {
         Some(answer) => Ok(answer),
@@ -173,7 +175,8 @@ pub fn look_both<'b>(
     requires dynsym { TableKept Dynsym image.now dynsym.now }
     requires full { is_kept symtab.now ≡ true }
     requires dynsym_full { is_kept dynsym.now ≡ true }
-    ensures { Exactly answer_view result (symbol_for (option_map (λ m. m.now) module_name.entry) image.now addr) }
+    ensures { Exactly answer_view result
+        (symbol_for (option_map (λ m. m.now) module_name.entry) image.now addr) }
 {
     match look(alloc, module_name, image, TableKind::Symtab, symtab, addr)? {
         Some(answer) => Ok(answer),

@@ -72,7 +72,8 @@ pub fn info_of<'b>(
     with_place: bool,
     named: &NamedSymbol<'b>,
 ) -> Result<SymInfo<'b>>
-    ensures { Exactly info_view result (info_of image.now (option_map (λ m. m.now) module_name.entry) with_place (named_view named.now)) }
+    ensures { Exactly info_view result (info_of image.now
+        (option_map (λ m. m.now) module_name.entry) with_place (named_view named.now)) }
 {
     let name = text_of(named.name)?;
     let file_offset = place_if(with_place, image, &named.symbol)?;
@@ -94,7 +95,9 @@ pub fn infos<'b>(
     with_place: bool,
     listed: &[NamedSymbol<'b>],
 ) -> Result<SymInfos<'b>>
-    ensures { Gives (λ v. v) result (all_good (map (info_of image.now (option_map (λ m. m.now) module_name.entry) with_place) (map named_view listed.now))) }
+    ensures { Gives (λ v. v) result
+        (all_good (map (info_of image.now (option_map (λ m. m.now) module_name.entry) with_place)
+        (map named_view listed.now))) }
 {
     let mut items = Vec::new(alloc);
     for named in listed {

@@ -238,7 +238,8 @@ pub fn list_kept<'b>(
 ) -> Result<Vec<NamedSymbol<'b>>>
     requires kept { NamesKept kind image.now names.now }
     requires full { is_kept names.now ≡ true }
-    ensures { Gives (λ v. map named_view v.items) result (listed_names kind image.now (passes wanted.now)) }
+    ensures { Gives (λ v. map named_view v.items) result
+        (listed_names kind image.now (passes wanted.now)) }
 {
     match names {
         Cache::Value(names) => Ok(names.list(alloc, image.bytes(), wanted)?),
@@ -272,7 +273,8 @@ pub fn static_list<'b, O: Orders>(
 ) -> Result<Vec<NamedSymbol<'b>>>
     requires symtab { TableKept Symtab image.now symtab.old }
     requires names { NamesKept Symtab image.now names.old }
-    ensures value { Gives (λ v. map named_view v.items) result (listed_names Symtab image.now (passes wanted.now)) }
+    ensures value { Gives (λ v. map named_view v.items) result
+        (listed_names Symtab image.now (passes wanted.now)) }
     ensures symtab { TableKept Symtab image.now symtab.new }
     ensures symtab_full { is_kept symtab.new ≡ true }
     ensures symtab_sorted { is_sorted symtab.old ≡ true → is_sorted symtab.new ≡ true }
@@ -298,7 +300,8 @@ pub fn dynamic_list<'b, O: Orders>(
     requires symtab_full { is_kept symtab.old ≡ true }
     requires dynsym { TableKept Dynsym image.now dynsym.old }
     requires names { NamesKept Dynsym image.now names.old }
-    ensures value { Gives (λ v. map named_view v.items) result (listed_names Dynsym image.now (passes wanted.now)) }
+    ensures value { Gives (λ v. map named_view v.items) result
+        (listed_names Dynsym image.now (passes wanted.now)) }
     ensures symtab { TableKept Symtab image.now symtab.new }
     ensures symtab_sorted { is_sorted symtab.old ≡ true → is_sorted symtab.new ≡ true }
     ensures dynsym { TableKept Dynsym image.now dynsym.new }

@@ -24,7 +24,8 @@ fn named<'b>(
     symbol: &Symbol,
 ) -> Result<Answer<'b>>
     requires { TableFits image.now table.now }
-    ensures { Exactly answer_view result (named (option_map (λ m. m.now) module_name.entry) (table_view image.now table.now) symbol.now) }
+    ensures { Exactly answer_view result (named (option_map (λ m. m.now) module_name.entry)
+        (table_view image.now table.now) symbol.now) }
 {
     let name = name(table.strings_in(image), symbol.name_offset)?;
     Ok(Answer::Sym(ResolvedSym {
@@ -52,7 +53,9 @@ pub fn answer_in<'b>(
     question: &Question,
 ) -> Result<Option<Answer<'b>>>
     requires { TableFits image.now table.now }
-    ensures { Exactly (option_map answer_view) result (answer_in (option_map (λ m. m.now) module_name.entry) (table_view image.now table.now) question.now) }
+    ensures { Exactly (option_map answer_view) result
+        (answer_in (option_map (λ m. m.now) module_name.entry)
+        (table_view image.now table.now) question.now) }
 {
     match table.covering(image, question) {
         Some(symbol) => match named(alloc, module_name, image, table, &symbol) {

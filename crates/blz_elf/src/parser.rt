@@ -144,7 +144,8 @@ impl<'b> ElfParser<'b> {
 
     #[tactic(auto, unfolding(blz_image::specs::Images::image_sections))]
     fn rows(&mut self) -> Result<Rows>
-        ensures value { Exactly (sections_in self.old.image) result (image_sections self.old.image) }
+        ensures value { Exactly (sections_in self.old.image) result
+            (image_sections self.old.image) }
         ensures fits { IfOk result (RowsFit section_size self.old.image) }
         ensures same { self.new ≡ self.old }
     {
@@ -301,7 +302,8 @@ impl<'b> ElfParser<'b> {
         addr: u64,
         opts: &FindSymOpts,
     ) -> Result<Answer<'b>>
-        ensures value { Gives answer_view result (image_symbol self.old.image self.old.module_name addr) }
+        ensures value { Gives answer_view result
+            (image_symbol self.old.image self.old.module_name addr) }
         ensures same { self.new ≡ self.old }
     {
         let parts = self.parts()?;

@@ -70,7 +70,8 @@ fn pod_at<R: Pod>(image: &[u8], at: usize, order: ByteOrder) -> R
 // the record at a place
 fn record_at<T: Pod + Has32BitTy>(image: &[u8], at: usize, format: Format) -> ElfN<T>
     requires { at + of_class T.Ty32Bit.SIZE T.SIZE format.class ≤ length image.now }
-    ensures { result ≡ record_at T.Ty32Bit.value T.Ty32Bit.SIZE T.value T.SIZE format image.now at }
+    ensures { result
+        ≡ record_at T.Ty32Bit.value T.Ty32Bit.SIZE T.value T.SIZE format image.now at }
 {
     match format.class {
         Class::Elf32 => ElfN::B32(pod_at(image, at, format.order)),
@@ -117,7 +118,8 @@ impl<'b, T: Pod + Has32BitTy> ElfNSlice<'b, T> {
     // the records at a place of an image
     pub(crate) fn open(image: &'b [u8], rows: Rows) -> ElfNSlice<'b, T>
         requires { RowsFit (of_class T.Ty32Bit.SIZE T.SIZE) image.now rows }
-        ensures { result ≡ records_in T.Ty32Bit.value T.Ty32Bit.SIZE T.value T.SIZE image.now rows }
+        ensures { result
+            ≡ records_in T.Ty32Bit.value T.Ty32Bit.SIZE T.value T.SIZE image.now rows }
     {
         ElfNSlice {
             image,

@@ -32,7 +32,8 @@ pub fn show<'b, V: Visit>(
     listed: &[NamedSymbol<'b>],
 ) -> Result<Flow>
     requires { V.stopped visit.old ≡ false }
-    ensures { Shows (infos_of image.now with_place (map named_view listed.now)) (V.shown visit.old) (V.shown visit.new) (V.stopped visit.new) result }
+    ensures { Shows (infos_of image.now with_place (map named_view listed.now)) (V.shown visit.old)
+        (V.shown visit.new) (V.stopped visit.new) result }
 {
     for named in listed {
         let info = info_of(image, None, with_place, named)?;
@@ -51,7 +52,9 @@ fn show_read<'b, V: Visit>(
     read: Result<Vec<NamedSymbol<'b>>>,
 ) -> Result<Flow>
     requires { V.stopped visit.old ≡ false }
-    ensures { (p : Part (List Named)) → Gives (λ v. map named_view v.items) read.entry p → Shows (listing_if (infos_of image.now with_place) p) (V.shown visit.old) (V.shown visit.new) (V.stopped visit.new) result }
+    ensures { (p : Part (List Named)) → Gives (λ v. map named_view v.items) read.entry p
+        → Shows (listing_if (infos_of image.now with_place) p) (V.shown visit.old)
+        (V.shown visit.new) (V.stopped visit.new) result }
 {
     match read {
         Ok(listed) => show(visit, image, with_place, &listed),
@@ -82,9 +85,12 @@ pub fn show_all<'b, O: Orders, V: Visit>(
     ensures dynsym_sorted { is_sorted dynsym.old ≡ true → is_sorted dynsym.new ≡ true }
     ensures symtab_names { NamesKept Symtab image.now symtab_names.new }
     ensures dynsym_names { NamesKept Dynsym image.now dynsym_names.new }
-    ensures symtab_names_before { is_kept symtab_names.old ≡ true → is_kept symtab_names.new ≡ true }
-    ensures dynsym_names_before { is_kept dynsym_names.old ≡ true → is_kept dynsym_names.new ≡ true }
-    ensures shows { ShowsAll (all_symbols opts.now.sym_type opts.now.file_offset image.now) (V.shown visit.old) (V.shown visit.new) (V.stopped visit.new) result }
+    ensures symtab_names_before { is_kept symtab_names.old ≡ true
+        → is_kept symtab_names.new ≡ true }
+    ensures dynsym_names_before { is_kept dynsym_names.old ≡ true
+        → is_kept dynsym_names.new ≡ true }
+    ensures shows { ShowsAll (all_symbols opts.now.sym_type opts.now.file_offset image.now)
+        (V.shown visit.old) (V.shown visit.new) (V.stopped visit.new) result }
 {
     let wanted = Wanted::OfType(opts.sym_type);
     let own = static_list(alloc, orders, image, symtab, symtab_names, &wanted);

@@ -49,7 +49,8 @@ impl Collect {
     /// Nothing yet; breaks at the info with that number, counted from 1, where there is one.
     pub fn new(alloc: Global, stop_after: Option<usize>) -> Collect
         requires { IfSome stop_after (λ number. 1 ≤ number) }
-        ensures { result ≡ record { infos = []; stop_after = stop_after; full = false; stopped = false } }
+        ensures { result
+            ≡ record { infos = []; stop_after = stop_after; full = false; stopped = false } }
     {
         Collect {
             alloc,
@@ -82,7 +83,8 @@ impl Collect {
     }
 
     fn keep(&mut self, info: &SymInfo<'_>) -> Result<(), AllocError>
-        ensures ok { OnOk result (self.new ≡ record self.old { infos = self.old.infos ++ info_view info.now ∷ [] }) }
+        ensures ok { OnOk result
+            (self.new ≡ record self.old { infos = self.old.infos ++ info_view info.now ∷ [] }) }
         ensures err { OnErr result (self.new ≡ self.old) }
     {
         let owned = info.to_owned(self.alloc)?;
@@ -104,9 +106,11 @@ impl Visit for Collect {
 
     fn visit(&mut self, info: &SymInfo<'_>) -> Flow
         requires { self.old.stopped ≡ false }
-        ensures shown { ShowsOne (told_unless self.old.full self.old.infos) (told_unless self.new.full self.new.infos) (info_view info.now) }
+        ensures shown { ShowsOne (told_unless self.old.full self.old.infos)
+            (told_unless self.new.full self.new.infos) (info_view info.now) }
         ensures stopped { self.new.stopped ≡ is_break result }
-        ensures kept { (self.new ≡ with_info self.old (info_view info.now)) ⊎ (self.new ≡ without_info self.old) }
+        ensures kept { (self.new ≡ with_info self.old (info_view info.now))
+            ⊎ (self.new ≡ without_info self.old) }
     {
         match self.keep(info) {
             Ok(()) => self.stopped = self.is_complete(),

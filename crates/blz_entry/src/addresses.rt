@@ -49,7 +49,8 @@ pub fn address(
     root: &UnitRoot,
     index: u64,
 ) -> Result<u64>
-    ensures { Exactly (λ a. a) result (or_invalid (address_of sections.now header.now root.now index)) }
+    ensures { Exactly (λ a. a) result
+        (or_invalid (address_of sections.now header.now root.now index)) }
 {
     match address_of(sections, header, root, index) {
         Some(address) => Ok(address),

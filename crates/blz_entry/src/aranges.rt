@@ -111,7 +111,8 @@ impl<'s, 'b> Aranges<'s, 'b> {
     #[tactic(auto, unfolding(crate::specs::AddressSets::next_set))]
     pub fn next_set(&mut self) -> Result<Option<ArangeSet>>
         ensures value { GivesSet (next_set self.old) self.old result self.new }
-        ensures ahead { IfOk result (λ o. IfSome o (λ s. (self.old.place < s.end) × (s.end ≤ length self.old.section.bytes))) }
+        ensures ahead { IfOk result (λ o. IfSome o
+            (λ s. (self.old.place < s.end) × (s.end ≤ length self.old.section.bytes))) }
     {
         if self.place >= self.section.bytes.len() {
             return Ok(None);
@@ -169,7 +170,9 @@ fn next_pair(
 
 // the next range that is kept, and the place behind it
 fn next_kept(size: u8, end: usize, section: &Section<'_, '_>, at: usize) -> Option<(Span, usize)>
-    ensures { MatchOption result (pairs_from end size (section_view section.now) at ≡ []) (λ x. pairs_from end size (section_view section.now) at ≡ x.0 ∷ pairs_from end size (section_view section.now) x.1) }
+    ensures { MatchOption result (pairs_from end size (section_view section.now) at ≡ [])
+        (λ x. pairs_from end size (section_view section.now) at
+        ≡ x.0 ∷ pairs_from end size (section_view section.now) x.1) }
 {
     let mut place = at;
     while let Some((range, next)) = next_pair(size, end, section, place) {
@@ -185,7 +188,9 @@ impl ArangeSet {
     /// The next range of the set, of those that are not empty and do not pass the greatest address; None exactly after
     /// the last of them. The section is the one that the set came from.
     pub fn next_range(&mut self, section: &Section<'_, '_>) -> Option<Span>
-        ensures value { MatchOption result (pairs_of (section_view section.now) self.old ≡ []) (λ x. pairs_of (section_view section.now) self.old ≡ x ∷ pairs_of (section_view section.now) self.new) }
+        ensures value { MatchOption result (pairs_of (section_view section.now) self.old ≡ [])
+            (λ x. pairs_of (section_view section.now) self.old
+            ≡ x ∷ pairs_of (section_view section.now) self.new) }
         ensures ended { result ≡ None → self.new ≡ self.old }
         ensures same { self.new ≡ record self.old { at = self.new.at } }
     {

@@ -302,7 +302,11 @@ pub(crate) fn append_list(
     offset: u64,
     out: &mut Vec<Span>,
 ) -> Result<()>
-    ensures value { MatchResult result (λ _. spans_from out.old.items sections.now header.now root.now offset ≡ Some out.new.items) (λ e. Fails e.kind (or_invalid (spans_from out.old.items sections.now header.now root.now offset))) }
+    ensures value { MatchResult result
+        (λ _. spans_from out.old.items sections.now header.now root.now offset
+        ≡ Some out.new.items)
+        (λ e. Fails e.kind
+        (or_invalid (spans_from out.old.items sections.now header.now root.now offset))) }
     ensures front { take (vec_len out.old) out.new.items ≡ out.old.items }
 {
     let end = list_length(sections, header);

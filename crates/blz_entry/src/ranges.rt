@@ -71,7 +71,8 @@ pub fn attr_ranges_offset(
     root: &UnitRoot,
     value: AttrValue,
 ) -> Result<Option<u64>>
-    ensures { Exactly (λ o. o) result (or_invalid (option_and_then answered_offset (range_offset sections.now header.now root.now value))) }
+    ensures { Exactly (λ o. o) result (or_invalid
+        (option_and_then answered_offset (range_offset sections.now header.now root.now value))) }
 {
     let Some(offset) = range_offset(sections, header, root, value) else {
         return Err(invalid("the index of a list of ranges lies outside"));
@@ -186,7 +187,8 @@ impl RangeAttributes {
         name: u64,
         value: AttrValue,
     ) -> Result<RangeAttributes>
-        ensures { Exactly (λ r. r) result (or_invalid (range_step sections.now header.now root.now self (name, value))) }
+        ensures { Exactly (λ r. r) result
+            (or_invalid (range_step sections.now header.now root.now self (name, value))) }
     {
         match range_step(sections, header, root, self, name, value) {
             Some(attributes) => Ok(attributes),
@@ -215,7 +217,11 @@ impl RangeAttributes {
         root: &UnitRoot,
         out: &mut Vec<Span>,
     ) -> Result<()>
-        ensures value { MatchResult result (λ _. joined out.old.items (ranges_of self.now sections.now header.now root.now) ≡ Some out.new.items) (λ e. Fails e.kind (or_invalid (ranges_of self.now sections.now header.now root.now))) }
+        ensures value { MatchResult result
+            (λ _. joined out.old.items (ranges_of self.now sections.now header.now root.now)
+            ≡ Some out.new.items)
+            (λ e. Fails e.kind
+            (or_invalid (ranges_of self.now sections.now header.now root.now))) }
         ensures front { take (vec_len out.old) out.new.items ≡ out.old.items }
     {
         match self.ranges_offset {
@@ -234,7 +240,8 @@ impl RangeAttributes {
         root: &UnitRoot,
         out: &mut Vec<Span>,
     ) -> Result<bool>
-        ensures { Appends (ranges_of self.now sections.now header.now root.now) out.old.items result out.new.items }
+        ensures { Appends (ranges_of self.now sections.now header.now root.now) out.old.items
+            result out.new.items }
     {
         self.append_ranges(&mut Room::endless(), sections, header, root, out)
     }
@@ -248,7 +255,8 @@ impl RangeAttributes {
         root: &UnitRoot,
         out: &mut Vec<Span>,
     ) -> Result<bool>
-        ensures { Appends (ranges_of self.now sections.now header.now root.now) out.old.items result out.new.items }
+        ensures { Appends (ranges_of self.now sections.now header.now root.now) out.old.items
+            result out.new.items }
     {
         let before = out.len();
         match self.append(room, sections, header, root, out) {

@@ -298,7 +298,8 @@ impl UnitRoot {
         abbreviations: &Abbreviations,
     ) -> Result<UnitRoot>
         requires { sections.now.shift + length sections.now.info.bytes.now < 2 ^ 64 }
-        ensures { Exactly (λ r. r) result (or_invalid (root_of sections.now header.now abbreviations.now)) }
+        ensures { Exactly (λ r. r) result
+            (or_invalid (root_of sections.now header.now abbreviations.now)) }
     {
         match root_of(sections, header, abbreviations) {
             Some(root) => Ok(root),

@@ -12,12 +12,15 @@ pub trait IntoError<T>: Sized {
     /// The value, or an error of the given kind.
     fn ok_or_error<C: IntoCowStr, G: FnOnce() -> C + Drop>(self, kind: ErrorKind, f: G) -> Result<T>
         requires { value_in self ≡ None → G.pre f }
-        ensures { MatchOption (value_in self) (IsErrAnd result (IsSaid (G.post f) C.text_of kind)) (λ x. result ≡ Ok x) };
+        ensures { MatchOption (value_in self) (IsErrAnd result (IsSaid (G.post f) C.text_of kind))
+            (λ x. result ≡ Ok x) };
 
     /// The value, or an error of kind InvalidData.
     fn ok_or_invalid_data<C: IntoCowStr, G: FnOnce() -> C + Drop>(self, f: G) -> Result<T>
         requires { value_in self ≡ None → G.pre f }
-        ensures { MatchOption (value_in self) (IsErrAnd result (IsSaid (G.post f) C.text_of ErrorKind.InvalidData)) (λ x. result ≡ Ok x) }
+        ensures { MatchOption (value_in self)
+            (IsErrAnd result (IsSaid (G.post f) C.text_of ErrorKind.InvalidData))
+            (λ x. result ≡ Ok x) }
     {
         self.ok_or_error(ErrorKind::InvalidData, f)
     }
@@ -25,7 +28,9 @@ pub trait IntoError<T>: Sized {
     /// The value, or an error of kind InvalidInput.
     fn ok_or_invalid_input<C: IntoCowStr, G: FnOnce() -> C + Drop>(self, f: G) -> Result<T>
         requires { value_in self ≡ None → G.pre f }
-        ensures { MatchOption (value_in self) (IsErrAnd result (IsSaid (G.post f) C.text_of ErrorKind.InvalidInput)) (λ x. result ≡ Ok x) }
+        ensures { MatchOption (value_in self)
+            (IsErrAnd result (IsSaid (G.post f) C.text_of ErrorKind.InvalidInput))
+            (λ x. result ≡ Ok x) }
     {
         self.ok_or_error(ErrorKind::InvalidInput, f)
     }
@@ -33,7 +38,9 @@ pub trait IntoError<T>: Sized {
     /// The value, or an error of kind NotFound.
     fn ok_or_not_found<C: IntoCowStr, G: FnOnce() -> C + Drop>(self, f: G) -> Result<T>
         requires { value_in self ≡ None → G.pre f }
-        ensures { MatchOption (value_in self) (IsErrAnd result (IsSaid (G.post f) C.text_of ErrorKind.NotFound)) (λ x. result ≡ Ok x) }
+        ensures { MatchOption (value_in self)
+            (IsErrAnd result (IsSaid (G.post f) C.text_of ErrorKind.NotFound))
+            (λ x. result ≡ Ok x) }
     {
         self.ok_or_error(ErrorKind::NotFound, f)
     }
@@ -41,7 +48,9 @@ pub trait IntoError<T>: Sized {
     /// The value, or an error of kind UnexpectedEof.
     fn ok_or_unexpected_eof<C: IntoCowStr, G: FnOnce() -> C + Drop>(self, f: G) -> Result<T>
         requires { value_in self ≡ None → G.pre f }
-        ensures { MatchOption (value_in self) (IsErrAnd result (IsSaid (G.post f) C.text_of ErrorKind.UnexpectedEof)) (λ x. result ≡ Ok x) }
+        ensures { MatchOption (value_in self)
+            (IsErrAnd result (IsSaid (G.post f) C.text_of ErrorKind.UnexpectedEof))
+            (λ x. result ≡ Ok x) }
     {
         self.ok_or_error(ErrorKind::UnexpectedEof, f)
     }

@@ -11,7 +11,8 @@ use std::fmt::Formatter;
 impl Error {
     /// Appends the first text. After an error `out` is as before, as it is for the next two.
     pub fn plain_text(&self, out: &mut String) -> Result<(), AllocError>
-        ensures ok { OnOk result (string_bytes out.new ≡ string_bytes out.old ++ first_text self.now) }
+        ensures ok { OnOk result
+            (string_bytes out.new ≡ string_bytes out.old ++ first_text self.now) }
         ensures err { OnErr result (string_bytes out.new ≡ string_bytes out.old) }
     {
         out.push_str(self.outermost())
@@ -19,7 +20,8 @@ impl Error {
 
     /// Appends all texts, joined by `: `.
     pub fn full_text(&self, out: &mut String) -> Result<(), AllocError>
-        ensures ok { OnOk result (string_bytes out.new ≡ string_bytes out.old ++ joined_texts self.now) }
+        ensures ok { OnOk result
+            (string_bytes out.new ≡ string_bytes out.old ++ joined_texts self.now) }
         ensures err { OnErr result (string_bytes out.new ≡ string_bytes out.old) }
     {
         let text = format!(in *out.allocator(); "{}", Joined(self))?;
@@ -28,7 +30,8 @@ impl Error {
 
     /// Appends `Error: ` and the first text, and the causes on lines of their own.
     pub fn report_text(&self, out: &mut String) -> Result<(), AllocError>
-        ensures ok { OnOk result (string_bytes out.new ≡ string_bytes out.old ++ report_of self.now) }
+        ensures ok { OnOk result
+            (string_bytes out.new ≡ string_bytes out.old ++ report_of self.now) }
         ensures err { OnErr result (string_bytes out.new ≡ string_bytes out.old) }
     {
         let text = format!(in *out.allocator(); "{self:?}")?;
@@ -79,7 +82,8 @@ fn write_each<W: fmt::Write>(
     separator: &str,
     causes: Option<Cause<'_>>,
 ) -> fmt::Result
-    ensures { WritesOnOk W.write_str_gives f.old result (each_after separator.now (texts_in causes.entry)) f.new }
+    ensures { WritesOnOk W.write_str_gives f.old result
+        (each_after separator.now (texts_in causes.entry)) f.new }
 {
     let mut rest = causes;
     while let Some(cause) = rest {

@@ -94,7 +94,8 @@ impl CallLists {
         depth: usize,
         description: &Description,
     ) -> Result<CallLists>
-        ensures { Gives (λ l. l) result (or_invalid (call_added (open_view unit.now) self depth description.now)) }
+        ensures { Gives (λ l. l) result
+            (or_invalid (call_added (open_view unit.now) self depth description.now)) }
     {
         let CallLists {
             mut calls,
@@ -125,7 +126,8 @@ impl CallLists {
         depth: Option<usize>,
         description: &Option<Description>,
     ) -> Result<CallLists>
-        ensures { Gives (λ l. l) result (or_invalid (call_if (open_view unit.now) self depth description.now)) }
+        ensures { Gives (λ l. l) result
+            (or_invalid (call_if (open_view unit.now) self depth description.now)) }
     {
         match (depth, description) {
             (Some(depth), Some(description)) => self.with(room, unit, depth, description),
@@ -148,7 +150,9 @@ impl CallLists {
     ) -> Result<CallLists>
         requires source { entries.old.source ≡ source_in (open_view unit.now) }
         requires met { entries.old.pending ≡ specs_of (open_view unit.now) entry.now.code }
-        ensures value { Gives (λ l. (l, entries.new.place)) result (or_invalid (call_met (F.refer (F.linkage links.old)) (open_view unit.now) self depth entry.now entries.old)) }
+        ensures value { Gives (λ l. (l, entries.new.place)) result
+            (or_invalid (call_met (F.refer (F.linkage links.old)) (open_view unit.now)
+            self depth entry.now entries.old)) }
         ensures pending { IfOk result (λ _. entries.new.pending ≡ []) }
         ensures source { entries.new.source ≡ entries.old.source }
         ensures ahead { entries.old.place ≤ entries.new.place }
@@ -171,7 +175,8 @@ impl CallLists {
     ) -> Result<CallLists>
         requires pending { entries.old.pending ≡ [] }
         requires source { entries.old.source ≡ source_in (open_view unit.now) }
-        ensures value { Gives (λ l. l) result (or_invalid (calls_from (F.refer (F.linkage links.old)) (open_view unit.now) entries.old.place)) }
+        ensures value { Gives (λ l. l) result (or_invalid
+            (calls_from (F.refer (F.linkage links.old)) (open_view unit.now) entries.old.place)) }
         ensures same { F.linkage links.new ≡ F.linkage links.old }
     {
         let mut lists = CallLists::new(alloc);
@@ -213,7 +218,8 @@ impl CallLists {
         place: usize,
     ) -> Result<CallLists>
         requires { CanBeOpened unit.now }
-        ensures value { Gives (λ l. l) result (or_invalid (unit_calls (F.refer (F.linkage links.old)) (open_view unit.now) place)) }
+        ensures value { Gives (λ l. l) result
+            (or_invalid (unit_calls (F.refer (F.linkage links.old)) (open_view unit.now) place)) }
         ensures same { F.linkage links.new ≡ F.linkage links.old }
     {
         let mut entries = unit.entries(place)?;
@@ -243,7 +249,8 @@ impl CallLists {
     ) -> std::result::Result<InlinedFunctions, AllocError>
         ensures calls { IfOk result (λ x. x.calls ≡ self.calls) }
         ensures ranges { IfOk result (λ x. x.ranges ≡ self.ranges) }
-        ensures accepted { IfOk result (λ x. IsAccepted O.pair_places (map group_key (items_of self.ranges)) x.ordered) }
+        ensures accepted { IfOk result
+            (λ x. IsAccepted O.pair_places (map group_key (items_of self.ranges)) x.ordered) }
     {
         let CallLists {
             calls,

@@ -116,7 +116,8 @@ fn name_with<F: Links>(
     name: u64,
     value: AttrValue,
 ) -> Result<Option<StrPlace>>
-    ensures value { Gives (λ n. n) result (or_invalid (name_step (F.refer (F.linkage links.old)) (open_view unit.now) known (name, value))) }
+    ensures value { Gives (λ n. n) result (or_invalid
+        (name_step (F.refer (F.linkage links.old)) (open_view unit.now) known (name, value))) }
     ensures same { F.linkage links.new ≡ F.linkage links.old }
 {
     if is_linkage_name(name) {
@@ -146,7 +147,10 @@ impl Description {
         value: AttrValue,
     ) -> Result<()>
         requires { tells_site name ≡ false }
-        ensures value { MatchResult result (λ _. description_step (F.refer (F.linkage links.old)) (open_view unit.now) self.old (name, value) ≡ Some self.new) (λ e. Fails e.kind (or_invalid (description_step (F.refer (F.linkage links.old)) (open_view unit.now) self.old (name, value)))) }
+        ensures value { MatchResult result (λ _. description_step (F.refer (F.linkage links.old))
+            (open_view unit.now) self.old (name, value) ≡ Some self.new)
+            (λ e. Fails e.kind (or_invalid (description_step (F.refer (F.linkage links.old))
+            (open_view unit.now) self.old (name, value)))) }
         ensures same { F.linkage links.new ≡ F.linkage links.old }
     {
         if tells_range(name) {
@@ -165,7 +169,9 @@ impl Description {
         entries: &mut Entries<'_, '_>,
     ) -> Result<Description>
         requires { entries.old.source ≡ source_in (open_view unit.now) }
-        ensures value { Gives (λ d. (d, entries.new.place)) result (or_invalid (described (F.refer (F.linkage links.old)) (open_view unit.now) undescribed entries.old.pending entries.old.place)) }
+        ensures value { Gives (λ d. (d, entries.new.place)) result
+            (or_invalid (described (F.refer (F.linkage links.old)) (open_view unit.now)
+            undescribed entries.old.pending entries.old.place)) }
         ensures pending { IfOk result (λ _. entries.new.pending ≡ []) }
         ensures source { entries.new.source ≡ entries.old.source }
         ensures depth { entries.new.depth ≡ entries.old.depth }
@@ -206,7 +212,9 @@ impl Description {
     ) -> Result<Option<Description>>
         requires source { entries.old.source ≡ source_in (open_view unit.now) }
         requires met { entries.old.pending ≡ specs_of (open_view unit.now) code }
-        ensures value { Gives (λ d. (d, entries.new.place)) result (or_invalid (described_if (F.refer (F.linkage links.old)) (open_view unit.now) wanted code entries.old)) }
+        ensures value { Gives (λ d. (d, entries.new.place)) result
+            (or_invalid (described_if (F.refer (F.linkage links.old)) (open_view unit.now)
+            wanted code entries.old)) }
         ensures pending { IfOk result (λ _. entries.new.pending ≡ []) }
         ensures source { entries.new.source ≡ entries.old.source }
         ensures depth { entries.new.depth ≡ entries.old.depth }

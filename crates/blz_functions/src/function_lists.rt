@@ -81,7 +81,8 @@ impl FunctionLists {
         place: usize,
         description: &Description,
     ) -> Result<FunctionLists>
-        ensures { Gives (λ l. l) result (or_invalid (lists_added (open_view unit.now) self place description.now)) }
+        ensures { Gives (λ l. l) result
+            (or_invalid (lists_added (open_view unit.now) self place description.now)) }
     {
         let FunctionLists {
             mut functions,
@@ -115,7 +116,8 @@ impl FunctionLists {
         place: usize,
         description: &Option<Description>,
     ) -> Result<FunctionLists>
-        ensures { Gives (λ l. l) result (or_invalid (function_added (open_view unit.now) self place description.now)) }
+        ensures { Gives (λ l. l) result
+            (or_invalid (function_added (open_view unit.now) self place description.now)) }
     {
         match description {
             Some(description) => self.with(room, unit, place, description),
@@ -136,7 +138,9 @@ impl FunctionLists {
     ) -> Result<FunctionLists>
         requires source { entries.old.source ≡ source_in (open_view unit.now) }
         requires met { entries.old.pending ≡ specs_of (open_view unit.now) entry.now.code }
-        ensures value { Gives (λ l. (l, entries.new.place)) result (or_invalid (entry_met (F.refer (F.linkage links.old)) (open_view unit.now) self entry.now entries.old)) }
+        ensures value { Gives (λ l. (l, entries.new.place)) result
+            (or_invalid (entry_met (F.refer (F.linkage links.old)) (open_view unit.now)
+            self entry.now entries.old)) }
         ensures pending { IfOk result (λ _. entries.new.pending ≡ []) }
         ensures source { entries.new.source ≡ entries.old.source }
         ensures depth { entries.new.depth ≡ entries.old.depth }
@@ -159,7 +163,8 @@ impl FunctionLists {
         links: &mut F,
     ) -> Result<FunctionLists>
         requires { CanBeOpened unit.now }
-        ensures value { Gives (λ l. l) result (or_invalid (unit_lists (F.refer (F.linkage links.old)) (open_view unit.now))) }
+        ensures value { Gives (λ l. l) result
+            (or_invalid (unit_lists (F.refer (F.linkage links.old)) (open_view unit.now))) }
         ensures same { F.linkage links.new ≡ F.linkage links.old }
     {
         room.take(walk_words(unit.header.entries, unit.header.end))?;
@@ -187,7 +192,8 @@ impl FunctionLists {
     ) -> std::result::Result<Functions, AllocError>
         ensures functions { IfOk result (λ x. x.functions ≡ self.functions) }
         ensures ranges { IfOk result (λ x. x.ranges ≡ self.ranges) }
-        ensures accepted { IfOk result (λ x. IsAccepted O.pair_places (map begin_key (items_of self.ranges)) x.ordered) }
+        ensures accepted { IfOk result
+            (λ x. IsAccepted O.pair_places (map begin_key (items_of self.ranges)) x.ordered) }
     {
         Functions::build(alloc, orders, self.functions, self.spans, self.owners)
     }

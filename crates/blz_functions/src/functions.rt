@@ -50,7 +50,8 @@ impl Functions {
         requires { length spans.items ≡ length owners.items }
         ensures functions { IfOk result (λ x. x.functions ≡ functions.items) }
         ensures ranges { IfOk result (λ x. x.ranges ≡ owned spans.items owners.items) }
-        ensures accepted { IfOk result (λ x. IsAccepted O.pair_places (map begin_key spans.items) x.ordered) }
+        ensures accepted { IfOk result
+            (λ x. IsAccepted O.pair_places (map begin_key spans.items) x.ordered) }
     {
         let ranges = OwnedRanges::build(alloc, orders, spans, owners)?;
         Ok(Functions {
@@ -83,7 +84,8 @@ impl Functions {
     /// The place of the best range that covers an address: the greatest begin, then the earlier place.
     pub fn find_address<L: Ledger>(&self, addr: u64, steps: &mut Steps<L>) -> Option<usize>
         ensures best { result ≡ best (items_of self.now.ranges) addr }
-        ensures cost { self.now.ordered ≡ true → AreApart (items_of self.now.ranges) → 2 ^ (steps.new - steps.old) ≤ 4 * (2 * length self.now.ranges + 1) }
+        ensures cost { self.now.ordered ≡ true → AreApart (items_of self.now.ranges)
+            → 2 ^ (steps.new - steps.old) ≤ 4 * (2 * length self.now.ranges + 1) }
         ensures later { steps.old ≤ steps.new }
     {
         self.ranges.best_at(addr, steps)

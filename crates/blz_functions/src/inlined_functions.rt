@@ -54,7 +54,8 @@ impl InlinedFunctions {
         requires { length ranges.items ≡ length owners.items }
         ensures calls { IfOk result (λ x. x.calls ≡ calls.items) }
         ensures ranges { IfOk result (λ x. x.ranges ≡ owned ranges.items owners.items) }
-        ensures accepted { IfOk result (λ x. IsAccepted O.pair_places (map group_key ranges.items) x.ordered) }
+        ensures accepted { IfOk result
+            (λ x. IsAccepted O.pair_places (map group_key ranges.items) x.ordered) }
     {
         let keys = group_keys(alloc, ranges.as_slice())?;
         let index = GroupIndex::build(alloc, orders, fitted(ranges), keys.as_slice())?;
@@ -87,7 +88,8 @@ impl InlinedFunctions {
         steps: &mut Steps<L>,
     ) -> Option<usize>
         ensures best { result ≡ at_depth self.now.ranges addr depth }
-        ensures cost { self.now.ordered ≡ true → AreApartInGroups (items_of self.now.ranges) → 2 ^ (steps.new - steps.old) ≤ 4 * (2 * length self.now.ranges + 1) }
+        ensures cost { self.now.ordered ≡ true → AreApartInGroups (items_of self.now.ranges)
+            → 2 ^ (steps.new - steps.old) ≤ 4 * (2 * length self.now.ranges + 1) }
         ensures later { steps.old ≤ steps.new }
     {
         let place = self.index.best_in(depth, addr, steps);
@@ -135,8 +137,11 @@ impl InlinedFunctions {
     /// The calls that cover an address, the outermost first: those of depth 0, 1, 2 and so on, up to the first depth
     /// without one. Only want of memory is refused.
     pub fn find_inlined_functions(&self, alloc: Global, addr: u64) -> Result<Vec<usize>, AllocError>
-        ensures chain { IfOk result (λ v. v.items ≡ chain self.now.ranges (length self.now.calls) addr) }
-        ensures path { IfOk result (λ v. (tree : List TreeCall) → self.now.ranges ≡ ranges_of 0 tree → length self.now.calls ≡ length tree → IsTree tree → IsNested tree → IsPath tree addr v.items) }
+        ensures chain { IfOk result
+            (λ v. v.items ≡ chain self.now.ranges (length self.now.calls) addr) }
+        ensures path { IfOk result (λ v. (tree : List TreeCall)
+            → self.now.ranges ≡ ranges_of 0 tree → length self.now.calls ≡ length tree
+            → IsTree tree → IsNested tree → IsPath tree addr v.items) }
     {
         let chain = self.chain::<Brand>(alloc, addr, Blank::new(1))?;
         Ok(chain)

@@ -8,6 +8,11 @@ ghost use Rattle.blz_functions.specs.Leaves.{UnitParts};
 /// The calls of a function make a tree. So where each call lies within its parent, and apart from those beside it, the
 /// chain of an address is the path of all calls that cover it, each the parent of the next.
 pub fn calls_are_tree()
-    ensures tree { (refer : Refer) (u : UnitParts) (place : ℕ) (calls : List RangedCall) → calls_of refer u place ≡ Some calls → IsTreeOf (calls_with no_calls calls) (map tree_call calls) }
-    ensures path { (refer : Refer) (u : UnitParts) (place : ℕ) (calls : List RangedCall) (addr : ℕ) → calls_of refer u place ≡ Some calls → IsNested (map tree_call calls) → IsPath (map tree_call calls) addr (chain (calls_with no_calls calls).ranges (length (calls_with no_calls calls).calls) addr) }
+    ensures tree { (refer : Refer) (u : UnitParts) (place : ℕ) (calls : List RangedCall)
+        → calls_of refer u place ≡ Some calls
+        → IsTreeOf (calls_with no_calls calls) (map tree_call calls) }
+    ensures path { (refer : Refer) (u : UnitParts) (place : ℕ) (calls : List RangedCall) (addr : ℕ)
+        → calls_of refer u place ≡ Some calls → IsNested (map tree_call calls)
+        → IsPath (map tree_call calls) addr (chain (calls_with no_calls calls).ranges
+        (length (calls_with no_calls calls).calls) addr) }
 {}

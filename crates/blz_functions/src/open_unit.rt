@@ -47,7 +47,8 @@ impl<'s, 'b> OpenUnit<'s, 'b> {
         name: u64,
         value: AttrValue,
     ) -> Result<RangeAttributes>
-        ensures { Exactly (λ r. r) result (or_invalid (range_step_in (open_view self.now) ranges (name, value))) }
+        ensures { Exactly (λ r. r) result
+            (or_invalid (range_step_in (open_view self.now) ranges (name, value))) }
     {
         ranges.with(&self.sections, &self.header, &self.root, name, value)
     }
@@ -55,7 +56,9 @@ impl<'s, 'b> OpenUnit<'s, 'b> {
     /// The entries from a place on. InvalidDwarf exactly where the place is not among those of the unit.
     pub fn entries(&self, at: usize) -> Result<Entries<'s, 'b>>
         requires { CanBeOpened self.now }
-        ensures { Exactly (λ e. e) result (if nat_le self.now.header.entries at && nat_le at self.now.header.end then Good (walk_from (source_in (open_view self.now)) at) else Broken InvalidDwarf) }
+        ensures { Exactly (λ e. e) result
+            (if nat_le self.now.header.entries at && nat_le at self.now.header.end
+            then Good (walk_from (source_in (open_view self.now)) at) else Broken InvalidDwarf) }
     {
         Entries::new(self.sections, self.header, self.abbreviations, at)
     }
@@ -67,7 +70,8 @@ impl<'s, 'b> OpenUnit<'s, 'b> {
         ranges: &RangeAttributes,
         out: &mut Vec<Span>,
     ) -> Result<bool>
-        ensures { Appends (ranges_in (open_view self.now) ranges.now) out.old.items result out.new.items }
+        ensures { Appends (ranges_in (open_view self.now) ranges.now) out.old.items
+            result out.new.items }
     {
         ranges.append_ranges(room, &self.sections, &self.header, &self.root, out)
     }

@@ -108,7 +108,8 @@ fn visit_attributes(
     entries: &mut Entries<'_, '_>,
 ) -> Result<Visited>
     requires { entries.old.source ≡ source_in (open_view unit.now) }
-    ensures { Gives (λ v. v) result (or_invalid (visit_from (open_view unit.now) entries.old.pending None None entries.old.place)) }
+    ensures { Gives (λ v. v) result (or_invalid
+        (visit_from (open_view unit.now) entries.old.pending None None entries.old.place)) }
 {
     let mut name = None;
     let mut link = None;

@@ -19,7 +19,8 @@ fn value_at(symbols: &Symbols<'_>, index: u64) -> u64
 
 /// The number that an entry puts, and whether it is added to what is read.
 pub fn effect_of(symbols: &Symbols<'_>, entry: &Entry) -> (u64, bool)
-    ensures { relocation_of result.0 result.1 ≡ effect_of (value_at symbols.now entry.now.symbol) entry.now.addend }
+    ensures { relocation_of result.0 result.1
+        ≡ effect_of (value_at symbols.now entry.now.symbol) entry.now.addend }
 {
     let value = value_at(symbols, entry.symbol);
     match entry.addend {

@@ -58,7 +58,8 @@ impl<'b> Model for Image<'b> {
 
 /// Reads each name, so that the first bad one is met.
 fn check_names(texts: &[u8], sections: &SectionTable<'_>) -> Result<()>
-    ensures { Exactly (λ _. names_in texts.now sections.now) result (names_of texts.now sections.now) }
+    ensures { Exactly (λ _. names_in texts.now sections.now) result
+        (names_of texts.now sections.now) }
 {
     let mut last = None;
     for i in 1..sections.len() {
@@ -71,7 +72,8 @@ fn check_names(texts: &[u8], sections: &SectionTable<'_>) -> Result<()>
 #[tactic(auto, unfolding(crate::specs::Images::elf_of))]
 pub fn read_frame(image: &[u8], header: Header, rows: Rows) -> Result<Frame>
     requires header { header_of image.now ≡ Good (header_view header) }
-    requires rows { sections_of image.now (header_view header) ≡ Good (sections_in image.now rows) }
+    requires rows { sections_of image.now (header_view header)
+        ≡ Good (sections_in image.now rows) }
     requires fits { RowsFit section_size image.now rows }
     ensures value { Exactly (frame_view image.now) result (elf_of image.now) }
     ensures fits { IfOk result (FrameFits image.now) }

@@ -36,7 +36,9 @@ pub fn note_read(
     len: usize,
 ) -> Result<(), AllocError>
     requires { rows.at + size * rows.count ≤ len }
-    ensures { OnOk result ((is_read : ℕ → Bool) → AllRead size is_read read.old → ((k : ℕ) → k < rows.count → is_read (rows.at + size * k) ≡ true) → AllRead size is_read read.new) }
+    ensures { OnOk result ((is_read : ℕ → Bool) → AllRead size is_read read.old
+        → ((k : ℕ) → k < rows.count → is_read (rows.at + size * k) ≡ true)
+        → AllRead size is_read read.new) }
 {
     let mut end = rows.count;
     while end > 0 {

@@ -65,7 +65,8 @@ fn relocate_by(
     section: &Section,
     kind: EntryKind,
 ) -> Result<()>
-    ensures { Gives (λ _. map.new) result (with_entries format image.now sections.now section.now kind map.old) }
+    ensures { Gives (λ _. map.new) result
+        (with_entries format image.now sections.now section.now kind map.old) }
 {
     let table = table_of(image, format, sections, section, kind)?;
     let symbols = Records::open(image, table.symbols);
@@ -84,7 +85,8 @@ fn relocate_section(
     sections: &SectionTable<'_>,
     section: &Section,
 ) -> Result<()>
-    ensures { Gives (λ _. map.new) result (with_section format image.now sections.now map.old section.now) }
+    ensures { Gives (λ _. map.new) result
+        (with_section format image.now sections.now map.old section.now) }
 {
     match entry_kind(section) {
         Some(kind) => relocate_by(alloc, map, image, format, sections, section, kind),
@@ -100,7 +102,8 @@ fn relocate_all(
     format: Format,
     sections: &SectionTable<'_>,
 ) -> Result<()>
-    ensures { Gives (λ _. map.new) result (with_sections format image.now sections.now sections.now map.old) }
+    ensures { Gives (λ _. map.new) result
+        (with_sections format image.now sections.now sections.now map.old) }
 {
     for i in 0..sections.len() {
         relocate_section(alloc, map, image, format, sections, &sections.at(i))?;
@@ -143,7 +146,8 @@ fn maps_of(
     targets: &[Option<usize>],
 ) -> std::result::Result<SectionRelocations, AllocError>
     requires { section_marks format image.now sections.now sections.now ≡ Good tt }
-    ensures { IfOk result (λ r. maps_in targets.now (with_sections format image.now sections.now sections.now finite.empty) ≡ Good r) }
+    ensures { IfOk result (λ r. maps_in targets.now
+        (with_sections format image.now sections.now sections.now finite.empty) ≡ Good r) }
 {
     let mut maps = SectionRelocations::empty(alloc);
     for i in 0..targets.len() {
@@ -165,7 +169,9 @@ fn maps_of(
 fn relocating(image: &[u8], header: &Header, rows: Rows) -> Rows
     requires { RowsFit section_size image.now rows }
     ensures fits { RowsFit section_size image.now result }
-    ensures value { relocations_of image.now (header_view header.now) (sections_in image.now rows) ≡ with_sections header.now.format image.now (sections_in image.now result) (sections_in image.now result) finite.empty }
+    ensures value { relocations_of image.now (header_view header.now) (sections_in image.now rows)
+        ≡ with_sections header.now.format image.now (sections_in image.now result)
+        (sections_in image.now result) finite.empty }
 {
     if header.file_type == ET_REL {
         rows
@@ -177,7 +183,8 @@ fn relocating(image: &[u8], header: &Header, rows: Rows) -> Rows
 /// Looks for the first mark of the relocations of an image whose header and section table were read; takes no memory.
 pub fn check_relocations(image: &[u8], header: Header, rows: Rows) -> Result<()>
     requires fits { RowsFit section_size image.now rows }
-    ensures { Exactly (λ _. tt) result (mark_in (relocations_of image.now (header_view header) (sections_in image.now rows))) }
+    ensures { Exactly (λ _. tt) result
+        (mark_in (relocations_of image.now (header_view header) (sections_in image.now rows))) }
 {
     let sections = Records::open(image, relocating(image, &header, rows));
     check_sections(image, header.format, &sections)
@@ -193,7 +200,8 @@ pub fn relocations_for(
     targets: &[Option<usize>],
 ) -> Result<SectionRelocations>
     requires fits { RowsFit section_size image.now rows }
-    ensures { Gives (λ m. m) result (maps_in targets.now (relocations_of image.now (header_view header) (sections_in image.now rows))) }
+    ensures { Gives (λ m. m) result (maps_in targets.now
+        (relocations_of image.now (header_view header) (sections_in image.now rows))) }
 {
     let sections = Records::open(image, relocating(image, &header, rows));
     check_sections(image, header.format, &sections)?;
@@ -209,7 +217,8 @@ pub fn relocations(
     rows: Rows,
 ) -> Result<SectionRelocations>
     requires fits { RowsFit section_size image.now rows }
-    ensures { Gives (λ m. m) result (relocations_of image.now (header_view header) (sections_in image.now rows)) }
+    ensures { Gives (λ m. m) result
+        (relocations_of image.now (header_view header) (sections_in image.now rows)) }
 {
     let mut map = SectionRelocations::empty(alloc);
     if header.file_type == ET_REL {

@@ -98,9 +98,11 @@ fn section_count(image: &[u8], header: &Header) -> Result<u64>
 /// The place of the section table.
 #[tactic(auto, unfolding(crate::specs::Sections::sections_of))]
 pub fn sections(image: &[u8], header: &Header) -> Result<Rows>
-    ensures value { Exactly (sections_in image.now) result (sections_of image.now (header_view header.now)) }
+    ensures value { Exactly (sections_in image.now) result
+        (sections_of image.now (header_view header.now)) }
     ensures fits { IfOk result (RowsFit section_size image.now) }
-    ensures place { IfOk result (λ rows. (rows.format ≡ header.now.format) × (rows.at ≡ header.now.shoff)) }
+    ensures place { IfOk result
+        (λ rows. (rows.format ≡ header.now.format) × (rows.at ≡ header.now.shoff)) }
 {
     let count = section_count(image, header)?;
     let size = header.format.class.section_size();
@@ -153,7 +155,8 @@ pub fn data<'b>(image: &'b [u8], section: &Section, format: Format) -> Result<&'
 #[tactic(auto, unfolding(crate::specs::Images::image_section_data))]
 pub fn data_at(image: &[u8], header: Header, rows: Rows, idx: usize) -> Result<&[u8]>
     requires header { header_of image.now ≡ Good (header_view header) }
-    requires rows { sections_of image.now (header_view header) ≡ Good (sections_in image.now rows) }
+    requires rows { sections_of image.now (header_view header)
+        ≡ Good (sections_in image.now rows) }
     requires fits { RowsFit section_size image.now rows }
     ensures { Exactly (λ d. d.now) result (image_section_data image.now idx) }
 {
@@ -209,7 +212,8 @@ fn name_index(header: &Header, sections: &SectionTable<'_>) -> usize
 /// The place of the table of the sections' names.
 #[tactic(auto, unfolding(crate::specs::Images::name_table))]
 pub fn names(image: &[u8], header: &Header, sections: &SectionTable<'_>) -> Result<Span>
-    ensures value { Exactly (span_in image.now) result (name_table image.now (header_view header.now) sections.now) }
+    ensures value { Exactly (span_in image.now) result
+        (name_table image.now (header_view header.now) sections.now) }
     ensures fits { IfOk result (SpanFits image.now) }
 {
     if sections.len() < 2 {

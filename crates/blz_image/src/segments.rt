@@ -100,9 +100,11 @@ fn segment_count(image: &[u8], header: &Header) -> Result<u64>
 /// The place of the segments.
 #[tactic(auto, unfolding(crate::specs::Segments::segments_of))]
 pub fn segments(image: &[u8], header: &Header) -> Result<Rows>
-    ensures value { Exactly (segments_in image.now) result (segments_of image.now (header_view header.now)) }
+    ensures value { Exactly (segments_in image.now) result
+        (segments_of image.now (header_view header.now)) }
     ensures fits { IfOk result (RowsFit segment_size image.now) }
-    ensures place { IfOk result (λ rows. (rows.format ≡ header.now.format) × (rows.at ≡ header.now.phoff)) }
+    ensures place { IfOk result
+        (λ rows. (rows.format ≡ header.now.format) × (rows.at ≡ header.now.phoff)) }
 {
     let count = segment_count(image, header)?;
     let size = header.format.class.segment_size();

@@ -108,7 +108,8 @@ impl Symbol {
 /// The place of the symbols of a section.
 #[tactic(auto, unfolding(crate::specs::Sections::records_of))]
 pub fn symbols_of(image: &[u8], section: Option<Section>, format: Format) -> Result<Rows>
-    ensures value { Exactly (symbols_in image.now) result (if_there (records_of (symbol_at format) (symbol_size format.class) image.now) section) }
+    ensures value { Exactly (symbols_in image.now) result
+        (if_there (records_of (symbol_at format) (symbol_size format.class) image.now) section) }
     ensures fits { IfOk result (RowsFit symbol_size image.now) }
 {
     match section {

@@ -25,7 +25,8 @@ pub struct RelocationTable {
 /// The place of the entries of a section.
 #[tactic(auto, unfolding(crate::specs::Sections::records_of))]
 fn entries_of(image: &[u8], section: &Section, kind: EntryKind, format: Format) -> Result<Rows>
-    ensures value { Exactly (entries_in kind image.now) result (records_of (entry_at kind format) (entry_size kind format.class) image.now section.now) }
+    ensures value { Exactly (entries_in kind image.now) result
+        (records_of (entry_at kind format) (entry_size kind format.class) image.now section.now) }
     ensures fits { IfOk result (RowsFit (entry_size kind) image.now) }
     ensures format { IfOk result (λ r. r.format ≡ format) }
 {
@@ -41,7 +42,8 @@ pub fn table_of(
     section: &Section,
     kind: EntryKind,
 ) -> Result<RelocationTable>
-    ensures value { Exactly (table_view image.now) result (table_part format image.now sections.now section.now kind) }
+    ensures value { Exactly (table_view image.now) result
+        (table_part format image.now sections.now section.now kind) }
     ensures fits { IfOk result (TableFits image.now) }
     ensures kind { IfOk result (λ t. t.kind ≡ kind) }
     ensures format { IfOk result (λ t. t.entries.format ≡ format) }

@@ -55,8 +55,10 @@ fn put_unread(
     table: &RelocationTable,
 ) -> Result<(), AllocError>
     requires fits { TableFits image.now table.now }
-    requires read { AllRead (entry_size table.now.kind table.now.entries.format.class) (is_known table.now.entries.format image.now map.old) read.now }
-    ensures { OnOk result (map.new ≡ beneath (symbols_in image.now table.now.symbols) (entries_in table.now.kind image.now table.now.entries) map.old) }
+    requires read { AllRead (entry_size table.now.kind table.now.entries.format.class)
+        (is_known table.now.entries.format image.now map.old) read.now }
+    ensures { OnOk result (map.new ≡ beneath (symbols_in image.now table.now.symbols)
+        (entries_in table.now.kind image.now table.now.entries) map.old) }
 {
     let rows = table.entries;
     let size = entry_size(table.kind, rows.format.class);
@@ -86,9 +88,12 @@ fn put_table(
     notes: Notes,
 ) -> Result<(), AllocError>
     requires fits { TableFits image.now table.now }
-    requires read { AllRead (entry_size table.now.kind table.now.entries.format.class) (is_known table.now.entries.format image.now map.old) read.old }
-    ensures value { OnOk result (map.new ≡ beneath (symbols_in image.now table.now.symbols) (entries_in table.now.kind image.now table.now.entries) map.old) }
-    ensures read { OnOk result (AllRead (entry_size table.now.kind table.now.entries.format.class) (is_known table.now.entries.format image.now map.new) read.new) }
+    requires read { AllRead (entry_size table.now.kind table.now.entries.format.class)
+        (is_known table.now.entries.format image.now map.old) read.old }
+    ensures value { OnOk result (map.new ≡ beneath (symbols_in image.now table.now.symbols)
+        (entries_in table.now.kind image.now table.now.entries) map.old) }
+    ensures read { OnOk result (AllRead (entry_size table.now.kind table.now.entries.format.class)
+        (is_known table.now.entries.format image.now map.new) read.new) }
 {
     put_unread(map, read, image, table)?;
     if let Notes::Taken = notes {
@@ -111,7 +116,8 @@ fn put_section(
 ) -> Result<(), AllocError>
     requires mark { section_mark format image.now sections.now section.now ≡ Good tt }
     requires read { AreRead format image.now gathered.old.map gathered.old.read }
-    ensures value { OnOk result (gathered.new.map ≡ beneath_section format image.now sections.now target gathered.old.map section.now) }
+    ensures value { OnOk result (gathered.new.map
+        ≡ beneath_section format image.now sections.now target gathered.old.map section.now) }
     ensures read { OnOk result (AreRead format image.now gathered.new.map gathered.new.read) }
 {
     let Some(kind) = entry_kind(section) else {
@@ -151,7 +157,8 @@ pub fn relocations_of(
     target: usize,
 ) -> Result<RelocationMap, AllocError>
     requires { section_marks format image.now sections.now sections.now ≡ Good tt }
-    ensures { IfOk result (λ m. m ≡ beneath_sections format image.now sections.now target sections.now) }
+    ensures { IfOk result
+        (λ m. m ≡ beneath_sections format image.now sections.now target sections.now) }
 {
     let first = first_of(sections, target);
     let map = RelocationMap::new(alloc);

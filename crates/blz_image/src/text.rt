@@ -73,7 +73,8 @@ pub struct ReadName<'b> {
 
 /// Whether a place stands in a name, where one of its characters begins or it ends.
 fn has_tail(read: &ReadName<'_>, at: u32) -> bool
-    ensures { OnTrue result ((read.now.at ≤ at) × IsCharBoundary read.now.text.now (at - read.now.at)) }
+    ensures { OnTrue result
+        ((read.now.at ≤ at) × IsCharBoundary read.now.text.now (at - read.now.at)) }
 {
     at >= read.at && read.text.is_char_boundary((at - read.at) as usize)
 }
@@ -82,7 +83,8 @@ fn has_tail(read: &ReadName<'_>, at: u32) -> bool
 /// are not read each.
 pub fn next_name<'b>(table: &'b [u8], last: Option<ReadName<'b>>, at: u32) -> Result<ReadName<'b>>
     requires { IfSome last (λ r. name_at table.now r.at ≡ Good r.text.now) }
-    ensures value { Exactly (λ _. value_or [] (name_at table.now at)) result (name_at table.now at) }
+    ensures value { Exactly (λ _. value_or [] (name_at table.now at)) result
+        (name_at table.now at) }
     ensures read { IfOk result (λ r. name_at table.now r.at ≡ Good r.text.now) }
     ensures tail { IfOk result (λ r. (r.at ≤ at) × IsCharBoundary r.text.now (at - r.at)) }
 {

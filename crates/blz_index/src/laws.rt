@@ -14,6 +14,8 @@ pub use blz_ranges::laws::best_and_next_give_all;
 /// within its parent, and apart from those beside it, the chain of an address is the path of all calls that cover it, each
 /// the parent of the next.
 pub fn function_calls_are_tree()
-    ensures tree { (f : Files) (t : UnitTable) (k n : ℕ) (lists : CallLists) → function_calls f t k n ≡ Some lists → HasTree lists }
-    ensures path { (lists : CallLists) (tree : List TreeCall) (addr : ℕ) → IsTreeOf lists tree → IsNested tree → IsPath tree addr (chain lists.ranges (length lists.calls) addr) }
+    ensures tree { (f : Files) (t : UnitTable) (k n : ℕ) (lists : CallLists)
+        → function_calls f t k n ≡ Some lists → HasTree lists }
+    ensures path { (lists : CallLists) (tree : List TreeCall) (addr : ℕ) → IsTreeOf lists tree
+        → IsNested tree → IsPath tree addr (chain lists.ranges (length lists.calls) addr) }
 {}

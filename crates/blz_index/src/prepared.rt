@@ -33,7 +33,8 @@ fn first_function<L: Ledger>(
     steps: &mut Steps<L>,
 ) -> Result<Option<(usize, usize)>>
     ensures value { Repeats (λ r. r) result (first_kept units.now addr announcing.old.left) }
-    ensures there { IfOk result (λ r. IfSome r (λ r. is_value (functions_at units.now r.0) ≡ true)) }
+    ensures there { IfOk result
+        (λ r. IfSome r (λ r. is_value (functions_at units.now r.0) ≡ true)) }
     ensures later { steps.old ≤ steps.new }
 {
     loop {
@@ -57,7 +58,8 @@ fn first_location<'b, L: Ledger>(
     addr: u64,
     steps: &mut Steps<L>,
 ) -> Result<Option<Location<'b>>>
-    ensures value { Repeats (λ o. option_map location_view o) result (first_kept_line texts.now units.now addr announcing.old.left) }
+    ensures value { Repeats (λ o. option_map location_view o) result
+        (first_kept_line texts.now units.now addr announcing.old.left) }
     ensures later { steps.old ≤ steps.new }
 {
     loop {
@@ -81,9 +83,12 @@ fn function_of<L: Ledger>(
     steps: &mut Steps<L>,
 ) -> Result<Option<(usize, usize)>>
     requires fresh { announcing.old.fresh ≡ true }
-    requires without { LeavesOut [] (owners_of announcing.old.announced.ranges (covering (items_of announcing.old.announced.ranges) announcing.old.address)) announcing.old.left }
+    requires without { LeavesOut [] (owners_of announcing.old.announced.ranges
+        (covering (items_of announcing.old.announced.ranges) announcing.old.address))
+        announcing.old.left }
     ensures value { Repeats (λ r. r) result (first_kept units.now addr announcing.old.left) }
-    ensures there { IfOk result (λ r. IfSome r (λ r. is_value (functions_at units.now r.0) ≡ true)) }
+    ensures there { IfOk result
+        (λ r. IfSome r (λ r. is_value (functions_at units.now r.0) ≡ true)) }
     ensures cost { FewLooks announcing.old.announced units.now result (steps.new - steps.old) }
     ensures later { steps.old ≤ steps.new }
 {
@@ -107,7 +112,8 @@ impl Units {
         steps: &mut Steps<L>,
     ) -> Result<Option<(usize, usize)>>
         requires { units_prepared self.now ≡ true }
-        ensures value { (f : Files) → UnitsFit f self.now → Exactly (λ r. r) result (or_invalid (function_at f (units_table self.now) addr)) }
+        ensures value { (f : Files) → UnitsFit f self.now
+            → Exactly (λ r. r) result (or_invalid (function_at f (units_table self.now) addr)) }
         ensures there { IfOk result (λ r. IfSome r (λ r. functions_kept self.now r.0 ≡ true)) }
         ensures cost { LooksFew self.now result (steps.new - steps.old) }
         ensures later { steps.old ≤ steps.new }
@@ -120,7 +126,8 @@ impl Units {
     pub fn language_prepared(&self, unit: usize) -> Result<SrcLang>
         requires prepared { units_prepared self.now ≡ true }
         requires there { unit < length (units_table self.now).kept }
-        ensures { (f : Files) → UnitsFit f self.now → Exactly (λ l. l) result (or_invalid (unit_language f (units_table self.now) unit)) }
+        ensures { (f : Files) → UnitsFit f self.now
+            → Exactly (λ l. l) result (or_invalid (unit_language f (units_table self.now) unit)) }
     {
         look::language_of(self.caches.units.as_slice(), unit)
     }
@@ -133,7 +140,9 @@ impl Units {
         steps: &mut Steps<L>,
     ) -> Result<Option<Location<'b>>>
         requires { units_prepared self.now ≡ true }
-        ensures value { (f : Files) → UnitsFit f self.now → Exactly (λ o. option_map location_view o) result (location_at texts.now f (units_table self.now) addr) }
+        ensures value { (f : Files) → UnitsFit f self.now
+            → Exactly (λ o. option_map location_view o) result
+            (location_at texts.now f (units_table self.now) addr) }
         ensures later { steps.old ≤ steps.new }
     {
         let mut announcing = UnitsAt::once(&self.table.announced, addr);

@@ -86,7 +86,8 @@ impl Units {
     pub fn language(&mut self, alloc: Global, dwarf: &Dwarf<'_, '_>, unit: usize) -> Result<SrcLang>
         requires asked { CanBeAsked dwarf.now self.old }
         requires there { unit < length (units_table self.old).kept }
-        ensures value { Gives (λ l. l) result (or_invalid (as_read dwarf.now self.old unit_language unit)) }
+        ensures value { Gives (λ l. l) result
+            (or_invalid (as_read dwarf.now self.old unit_language unit)) }
         ensures leaves { (told : Told) → Leaves told dwarf.now self.old self.new }
     {
         let reader = Reader {
@@ -108,7 +109,8 @@ impl Units {
         addr: u64,
     ) -> Result<Option<(usize, usize)>>
         requires asked { CanBeAsked dwarf.now self.old }
-        ensures value { Gives (λ r. r) result (or_invalid (as_read dwarf.now self.old function_at addr)) }
+        ensures value { Gives (λ r. r) result
+            (or_invalid (as_read dwarf.now self.old function_at addr)) }
         ensures there { IfOk result (λ r. IfSome r (λ r. functions_kept self.new r.0 ≡ true)) }
         ensures leaves { Leaves O.pair_places dwarf.now self.old self.new }
     {
@@ -131,7 +133,8 @@ impl Units {
         addr: u64,
     ) -> Result<Option<Location<'b>>>
         requires asked { CanBeAsked dwarf.now self.old }
-        ensures value { Gives (λ o. option_map location_view o) result (as_read dwarf.now self.old (location_at dwarf.now.texts) addr) }
+        ensures value { Gives (λ o. option_map location_view o) result
+            (as_read dwarf.now self.old (location_at dwarf.now.texts) addr) }
         ensures leaves { Leaves O.pair_places dwarf.now self.old self.new }
     {
         let reader = Reader {
@@ -156,7 +159,8 @@ impl Units {
     ) -> Result<InlinedSites<'b>>
         requires asked { CanBeAsked dwarf.now self.old }
         requires there { unit < length (units_table self.old).kept }
-        ensures value { Gives (λ s. s) result (as_read dwarf.now self.old (inlined_at dwarf.now.texts) addr unit function) }
+        ensures value { Gives (λ s. s) result
+            (as_read dwarf.now self.old (inlined_at dwarf.now.texts) addr unit function) }
         ensures leaves { Leaves O.pair_places dwarf.now self.old self.new }
     {
         let reader = Reader {

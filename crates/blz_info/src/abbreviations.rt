@@ -271,7 +271,8 @@ fn specs_at(
     bytes: &[u8],
     at: usize,
 ) -> Result<(Vec<AttrSpec>, usize)>
-    ensures { Gives (λ x. (x.0.items, x.1)) result (or_invalid (specs_in (length bytes.now) [] bytes.now at)) }
+    ensures { Gives (λ x. (x.0.items, x.1)) result
+        (or_invalid (specs_in (length bytes.now) [] bytes.now at)) }
 {
     let mut specs = Vec::with_capacity(alloc, USUAL_ATTRIBUTES)?;
     let mut place = at;

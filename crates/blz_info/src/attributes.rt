@@ -43,7 +43,8 @@ fn direct_attribute(
     at: usize,
 ) -> Option<(AttrValue, usize)>
     requires { base.start + length section.now.bytes.now < 2 ^ 64 }
-    ensures value { result ≡ direct_attribute name code encoding base (section_view section.now) at }
+    ensures value { result
+        ≡ direct_attribute name code encoding base (section_view section.now) at }
     ensures within { IfSome result (λ r. StaysIn section.now.bytes.now at r.1) }
 {
     value_by(form_for(name, encoding, code)?, encoding, base, section, at)

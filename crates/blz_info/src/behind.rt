@@ -79,7 +79,8 @@ fn behind_field(
     section: &Section<'_, '_>,
     at: usize,
 ) -> Option<usize>
-    ensures value { result ≡ option_map (λ r. r.1) (field_at field encoding (section_view section.now) at) }
+    ensures value { result
+        ≡ option_map (λ r. r.1) (field_at field encoding (section_view section.now) at) }
     ensures within { IfSome result (λ n. StaysIn section.now.bytes.now at n) }
 {
     if let Some(size) = size_of(field, encoding) {

@@ -109,7 +109,9 @@ impl<'s, 'b> Entries<'s, 'b> {
         at: usize,
     ) -> Result<Entries<'s, 'b>>
         requires { sections.shift + length sections.info.bytes.now < 2 ^ 64 }
-        ensures { Exactly (λ e. e) result (if nat_le header.entries at && nat_le at header.end then Good (walk_from (source_of sections.entry header abbreviations.entry.now) at) else Broken InvalidDwarf) }
+        ensures { Exactly (λ e. e) result (if nat_le header.entries at && nat_le at header.end
+            then Good (walk_from (source_of sections.entry header abbreviations.entry.now) at)
+            else Broken InvalidDwarf) }
     {
         if at < header.entries || at > header.end {
             return Err(invalid("a place is not among the entries of its unit"));
@@ -165,8 +167,11 @@ impl<'s, 'b> Entries<'s, 'b> {
 
     #[inline(always)]
     fn behind_pending(&self) -> Option<usize>
-        ensures value { result ≡ passed self.now.pending self.now.source.encoding self.now.source.base self.now.source.section self.now.place }
-        ensures within { IfSome result (λ n. (self.now.place ≤ n) × (self.now.place ≤ length self.now.source.section.bytes → n ≤ length self.now.source.section.bytes)) }
+        ensures value { result ≡ passed self.now.pending self.now.source.encoding
+            self.now.source.base self.now.source.section self.now.place }
+        ensures within { IfSome result (λ n. (self.now.place ≤ n)
+            × (self.now.place ≤ length self.now.source.section.bytes
+            → n ≤ length self.now.source.section.bytes)) }
     {
         if let Some(runs) = self.passing {
             return passed_by(
@@ -194,7 +199,8 @@ impl<'s, 'b> Entries<'s, 'b> {
         ensures value { Steps (λ e. e) (next_of self.old) self.old result self.new }
         ensures source { self.new.source ≡ self.old.source }
         ensures cut { length self.old.source.section.bytes ≤ self.old.source.end }
-        ensures ahead { IfOk result (λ r. IfSome r (λ e. (self.old.place ≤ e.place) × (e.place < self.new.place) × (self.new.place ≤ self.new.source.end))) }
+        ensures ahead { IfOk result (λ r. IfSome r (λ e. (self.old.place ≤ e.place)
+            × (e.place < self.new.place) × (self.new.place ≤ self.new.source.end))) }
     {
         let Some(at) = self.behind_pending() else {
             return Err(invalid("the attributes of an entry are not whole"));
@@ -295,7 +301,8 @@ impl<'s, 'b> Entries<'s, 'b> {
     #[tactic(auto, unfolding(crate::specs::Wanted::wanted_of))]
     pub fn next_wanted(&mut self) -> Result<Option<(u64, AttrValue)>>
         ensures value { Steps (λ w. w) (wanted_of self.old) self.old result self.new }
-        ensures left { IfOk result (λ w. MatchOption w (self.new.pending ≡ []) (λ _. length self.new.pending < length self.old.pending)) }
+        ensures left { IfOk result (λ w. MatchOption w (self.new.pending ≡ [])
+            (λ _. length self.new.pending < length self.old.pending)) }
         ensures depth { self.new.depth ≡ self.old.depth }
         ensures source { self.new.source ≡ self.old.source }
         ensures ahead { self.old.place ≤ self.new.place }
@@ -344,7 +351,8 @@ impl<'s, 'b> Entries<'s, 'b> {
     /// The place behind the attributes of an entry, where the sizes of the unit tell it.
     #[inline(always)]
     fn behind_ready(&self, abbreviation: &Abbreviation, at: usize) -> Option<usize>
-        ensures value { IfSome result (λ n. passed abbreviation.now.specs self.now.source.encoding self.now.source.base self.now.source.section at ≡ Some n) }
+        ensures value { IfSome result (λ n. passed abbreviation.now.specs self.now.source.encoding
+            self.now.source.base self.now.source.section at ≡ Some n) }
         ensures within { IfSome result (λ n. StaysIn self.now.source.section.bytes at n) }
     {
         let runs = abbreviation.passing(self.encoding)?;
@@ -361,8 +369,11 @@ impl<'s, 'b> Entries<'s, 'b> {
     #[tactic(auto, unfolding(crate::specs::Passing::past_one, crate::specs::Walks::next_of, crate::specs::Walks::entry_from, crate::specs::Walks::skipped_of, crate::specs::Attributes::passed))]
     fn past(&self, passing: Passing, tag: u64, at: usize, depth: usize) -> Option<(usize, usize)>
         requires { depth ≤ at }
-        ensures value { IfSome result (λ r. past_one passing tag (record { source = self.now.source; place = at; pending = []; depth = depth }) ≡ Some (record { source = self.now.source; place = r.0; pending = []; depth = r.1 })) }
-        ensures ahead { IfSome result (λ r. (at < r.0) × (r.0 ≤ self.now.source.end) × (r.1 ≤ r.0)) }
+        ensures value { IfSome result (λ r. past_one passing tag
+            (record { source = self.now.source; place = at; pending = []; depth = depth })
+            ≡ Some (record { source = self.now.source; place = r.0; pending = []; depth = r.1 })) }
+        ensures ahead { IfSome result
+            (λ r. (at < r.0) × (r.0 ≤ self.now.source.end) × (r.1 ≤ r.0)) }
     {
         if at >= self.end {
             return None;

@@ -36,7 +36,8 @@ fn initial_length(section: &Section<'_, '_>, at: usize) -> Option<((bool, u64), 
 #[tactic(auto, unfolding(crate::specs::Headers::extent_at))]
 pub fn extent_at(section: &Section<'_, '_>, at: usize) -> Option<(Extent, usize)>
     ensures value { result ≡ extent_at (section_view section.now) at }
-    ensures within { IfSome result (λ r. (at < r.1) × (r.1 ≤ r.0.end) × (r.0.end ≤ length section.now.bytes.now)) }
+    ensures within { IfSome result
+        (λ r. (at < r.1) × (r.1 ≤ r.0.end) × (r.0.end ≤ length section.now.bytes.now)) }
 {
     let ((wide, length), next) = initial_length(section, at)?;
     if ((section.bytes.len() - next) as u64) < length {

@@ -135,7 +135,8 @@ pub(crate) fn field_at(
 
 /// The place of an item of a table by its index; None where it passes the greatest number.
 fn nth_place(base: u64, index: u64, size: u8) -> Option<usize>
-    ensures { MatchOption result (2 ^ 64 ≤ base + index * size) (λ place. place ≡ base + index * size) }
+    ensures { MatchOption result (2 ^ 64 ≤ base + index * size)
+        (λ place. place ≡ base + index * size) }
 {
     let place = base.checked_add(index.checked_mul(u64::from(size))?)?;
     Some(place as usize)
@@ -149,7 +150,8 @@ pub(crate) fn offset_len(wide: bool) -> u8
 
 /// The offset at an index of a table that begins at a base.
 pub fn indexed_offset(wide: bool, section: &Section<'_, '_>, base: u64, index: u64) -> Option<u64>
-    ensures { result ≡ option_map (λ r. r.0) (offset_at wide (section_view section.now) (base + index * offset_len wide)) }
+    ensures { result ≡ option_map (λ r. r.0)
+        (offset_at wide (section_view section.now) (base + index * offset_len wide)) }
 {
     let place = nth_place(base, index, offset_len(wide))?;
     let (offset, _) = offset_at(wide, section, place)?;
@@ -163,7 +165,8 @@ pub fn indexed_address(
     base: u64,
     index: u64,
 ) -> Option<u64>
-    ensures { result ≡ option_map (λ r. r.0) (address_at address_size (section_view section.now) (base + index * address_size)) }
+    ensures { result ≡ option_map (λ r. r.0)
+        (address_at address_size (section_view section.now) (base + index * address_size)) }
 {
     let place = nth_place(base, index, address_size)?;
     let (address, _) = address_at(address_size, section, place)?;

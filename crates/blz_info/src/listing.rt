@@ -29,7 +29,9 @@ fn read_attributes(
     specs: &[AttrSpec],
 ) -> Result<Vec<(u64, AttrValue)>>
     requires { entries.old.pending ≡ specs.now }
-    ensures value { Gives (λ v. (v.items, entries.new.place)) result (or_invalid (attributes specs.now entries.old.source.encoding entries.old.source.base entries.old.source.section entries.old.place)) }
+    ensures value { Gives (λ v. (v.items, entries.new.place)) result
+        (or_invalid (attributes specs.now entries.old.source.encoding entries.old.source.base
+        entries.old.source.section entries.old.place)) }
     ensures all { OnOk result (entries.new.pending ≡ []) }
     ensures source { entries.new.source ≡ entries.old.source }
     ensures depth { entries.new.depth ≡ entries.old.depth }
@@ -71,7 +73,8 @@ pub fn list_unit(
 ) -> Result<Vec<Listed>>
     requires shift { sections.shift + length sections.info.bytes.now < 2 ^ 64 }
     requires order { header.entries ≤ header.end }
-    ensures { Gives (λ v. map listed_view v.items) result (or_invalid (trees_of (source_of sections.entry header abbreviations.now) header.entries)) }
+    ensures { Gives (λ v. map listed_view v.items) result (or_invalid
+        (trees_of (source_of sections.entry header abbreviations.now) header.entries)) }
 {
     let mut entries = Entries::new(sections, header, abbreviations, header.entries)?;
     entries.list(alloc)

@@ -79,10 +79,13 @@ pub(crate) fn next_wanted(
 ) -> Option<Met>
     requires texts { base.start + length section.now.bytes.now < 2 ^ 64 }
     requires reads { IfSome reading (λ r. Reads encoding taken r.now pending.now) }
-    ensures value { option_map (met_view pending.now) result ≡ wanted_in pending.now encoding base (section_view section.now) at }
+    ensures value { option_map (met_view pending.now) result
+        ≡ wanted_in pending.now encoding base (section_view section.now) at }
     ensures counted { IfSome result (λ m. m.count ≤ length pending.now) }
-    ensures left { IfSome result (λ m. 0 < m.runs → IfSome reading.entry (λ r. Reads encoding m.runs r.now (drop m.count pending.now))) }
-    ensures some { IfSome result (λ m. MatchOption m.found (m.count ≡ length pending.now) (λ _. 0 < m.count)) }
+    ensures left { IfSome result (λ m. 0 < m.runs
+        → IfSome reading.entry (λ r. Reads encoding m.runs r.now (drop m.count pending.now))) }
+    ensures some { IfSome result
+        (λ m. MatchOption m.found (m.count ≡ length pending.now) (λ _. 0 < m.count)) }
     ensures within { IfSome result (λ m. StaysIn section.now.bytes.now at m.place) }
 {
     match reading {
@@ -104,10 +107,13 @@ fn wanted_after(
 ) -> Option<Met>
     requires texts { base.start + length section.now.bytes.now < 2 ^ 64 }
     requires reads { Reads encoding taken runs.now pending.now }
-    ensures value { option_map (met_view pending.now) result ≡ wanted_in pending.now encoding base (section_view section.now) at }
+    ensures value { option_map (met_view pending.now) result
+        ≡ wanted_in pending.now encoding base (section_view section.now) at }
     ensures counted { IfSome result (λ m. m.count ≤ length pending.now) }
-    ensures left { IfSome result (λ m. 0 < m.runs → Reads encoding m.runs runs.now (drop m.count pending.now)) }
-    ensures some { IfSome result (λ m. MatchOption m.found (m.count ≡ length pending.now) (λ _. 0 < m.count)) }
+    ensures left { IfSome result
+        (λ m. 0 < m.runs → Reads encoding m.runs runs.now (drop m.count pending.now)) }
+    ensures some { IfSome result
+        (λ m. MatchOption m.found (m.count ≡ length pending.now) (λ _. 0 < m.count)) }
     ensures within { IfSome result (λ m. StaysIn section.now.bytes.now at m.place) }
 {
     let tail = runs.tail;

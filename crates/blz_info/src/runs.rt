@@ -85,7 +85,8 @@ fn run_of(reading: bool, encoding: Encoding, skip: usize, count: usize, spec: At
 
 impl Run {
     fn behind(&self, encoding: Encoding, section: &Section<'_, '_>, at: usize) -> Option<usize>
-        ensures value { result ≡ behind_by self.now.form self.now.spec encoding (section_view section.now) at }
+        ensures value { result
+            ≡ behind_by self.now.form self.now.spec encoding (section_view section.now) at }
         ensures within { IfSome result (λ n. StaysIn section.now.bytes.now at n) }
     {
         match self.form {
@@ -103,7 +104,8 @@ impl Run {
         at: usize,
     ) -> Option<(AttrValue, usize)>
         requires { base.start + length section.now.bytes.now < 2 ^ 64 }
-        ensures value { result ≡ value_by_form self.now.form self.now.spec encoding base (section_view section.now) at }
+        ensures value { result ≡ value_by_form self.now.form self.now.spec encoding base
+            (section_view section.now) at }
         ensures within { IfSome result (λ r. StaysIn section.now.bytes.now at r.1) }
     {
         // each result is taken apart, since one that a call writes would stand in memory
@@ -181,10 +183,14 @@ pub(crate) fn wanted_by(
 ) -> Option<Met>
     requires texts { base.start + length section.now.bytes.now < 2 ^ 64 }
     requires runs { AreRuns true encoding runs.now tail pending.now }
-    ensures value { option_map (met_view pending.now) result ≡ wanted_in pending.now encoding base (section_view section.now) at }
-    ensures counted { IfSome result (λ m. (m.count ≤ length pending.now) × (m.runs ≤ length runs.now)) }
-    ensures left { IfSome result (λ m. IfSome m.found (λ _. AreRuns true encoding (drop m.runs runs.now) tail (drop m.count pending.now))) }
-    ensures some { IfSome result (λ m. MatchOption m.found ((m.count ≡ length pending.now) × (m.runs ≡ 0)) (λ _. 0 < m.count)) }
+    ensures value { option_map (met_view pending.now) result
+        ≡ wanted_in pending.now encoding base (section_view section.now) at }
+    ensures counted { IfSome result
+        (λ m. (m.count ≤ length pending.now) × (m.runs ≤ length runs.now)) }
+    ensures left { IfSome result (λ m. IfSome m.found
+        (λ _. AreRuns true encoding (drop m.runs runs.now) tail (drop m.count pending.now))) }
+    ensures some { IfSome result (λ m. MatchOption m.found
+        ((m.count ≡ length pending.now) × (m.runs ≡ 0)) (λ _. 0 < m.count)) }
     ensures within { IfSome result (λ m. StaysIn section.now.bytes.now at m.place) }
 {
     let mut place = at;

@@ -122,7 +122,8 @@ fn header_of_4(
     at: usize,
 ) -> Option<UnitHeader>
     ensures value { result ≡ header_of_4 version start extent (section_view unit.now) at }
-    ensures within { IfSome result (λ h. (h.start ≡ start) × (at ≤ h.entries) × (h.entries ≤ length unit.now.bytes.now) × (h.end ≡ extent.end)) }
+    ensures within { IfSome result (λ h. (h.start ≡ start) × (at ≤ h.entries)
+        × (h.entries ≤ length unit.now.bytes.now) × (h.end ≡ extent.end)) }
 {
     let (table, next) = offset_at(extent.wide, unit, at)?;
     let (size, next) = u8_at(unit.bytes, next)?;
@@ -150,7 +151,8 @@ fn header_of_5(
     at: usize,
 ) -> Option<UnitHeader>
     ensures value { result ≡ header_of_5 start extent (section_view unit.now) at }
-    ensures within { IfSome result (λ h. (h.start ≡ start) × (at ≤ h.entries) × (h.entries ≤ length unit.now.bytes.now) × (h.end ≡ extent.end)) }
+    ensures within { IfSome result (λ h. (h.start ≡ start) × (at ≤ h.entries)
+        × (h.entries ≤ length unit.now.bytes.now) × (h.end ≡ extent.end)) }
 {
     let (code, next) = u8_at(unit.bytes, at)?;
     let kind = kind_of(code)?;
@@ -176,7 +178,8 @@ fn header_of_5(
 #[tactic(auto, unfolding(crate::specs::Headers::header_in))]
 fn header_in(start: usize, extent: Extent, unit: &Section<'_, '_>, at: usize) -> Option<UnitHeader>
     ensures value { result ≡ header_in start extent (section_view unit.now) at }
-    ensures within { IfSome result (λ h. (h.start ≡ start) × (at ≤ h.entries) × (h.entries ≤ length unit.now.bytes.now) × (h.end ≡ extent.end)) }
+    ensures within { IfSome result (λ h. (h.start ≡ start) × (at ≤ h.entries)
+        × (h.entries ≤ length unit.now.bytes.now) × (h.end ≡ extent.end)) }
 {
     let (version, next) = u16_at(unit.bytes, at, unit.order)?;
     match version {
@@ -189,7 +192,8 @@ fn header_in(start: usize, extent: Extent, unit: &Section<'_, '_>, at: usize) ->
 #[tactic(auto, unfolding(crate::specs::Headers::header_at))]
 fn header_at(info: &Section<'_, '_>, at: usize) -> Option<UnitHeader>
     ensures value { result ≡ header_at (section_view info.now) at }
-    ensures within { IfSome result (λ h. (h.start ≡ at) × (at < h.entries) × (h.entries ≤ h.end) × (h.end ≤ length info.now.bytes.now)) }
+    ensures within { IfSome result (λ h. (h.start ≡ at) × (at < h.entries) × (h.entries ≤ h.end)
+        × (h.end ≤ length info.now.bytes.now)) }
 {
     let (extent, next) = extent_at(info, at)?;
     let unit = cut(info, extent.end);
@@ -229,7 +233,9 @@ impl<'s, 'b> UnitHeaders<'s, 'b> {
     pub fn next_header(&mut self) -> Result<Option<UnitHeader>>
         ensures value { Exactly (λ h. h) result (or_invalid (next_unit self.old)) }
         ensures moves { self.new ≡ behind self.old (next_unit self.old) }
-        ensures within { IfOk result (λ o. IfSome o (λ h. (h.start ≡ self.old.place) × (h.start < h.entries) × (h.entries ≤ h.end) × (h.end ≤ length self.old.section.bytes))) }
+        ensures within { IfOk result
+            (λ o. IfSome o (λ h. (h.start ≡ self.old.place) × (h.start < h.entries)
+            × (h.entries ≤ h.end) × (h.end ≤ length self.old.section.bytes))) }
     {
         if self.place >= self.info.bytes.len() {
             return Ok(None);

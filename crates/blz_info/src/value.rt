@@ -152,7 +152,9 @@ pub fn form_value(
     form: u64,
     at: usize,
 ) -> Option<(AttrValue, usize)>
-    ensures value { result ≡ form_value form (record { version = version; wide = wide; address_size = address_size }) (record { part = part; start = 0 }) (section_view section.now) at }
+    ensures value { result
+        ≡ form_value form (record { version = version; wide = wide; address_size = address_size })
+        (record { part = part; start = 0 }) (section_view section.now) at }
     ensures within { IfSome result (λ r. StaysIn section.now.bytes.now at r.1) }
 {
     let encoding = Encoding {

@@ -87,9 +87,11 @@ pub(crate) fn wanted_in(
     at: usize,
 ) -> Option<Met>
     requires { base.start + length section.now.bytes.now < 2 ^ 64 }
-    ensures value { option_map (met_view specs.now) result ≡ wanted_in specs.now encoding base (section_view section.now) at }
+    ensures value { option_map (met_view specs.now) result
+        ≡ wanted_in specs.now encoding base (section_view section.now) at }
     ensures counted { IfSome result (λ m. (m.count ≤ length specs.now) × (m.runs ≡ 0)) }
-    ensures some { IfSome result (λ m. MatchOption m.found (m.count ≡ length specs.now) (λ _. 0 < m.count)) }
+    ensures some { IfSome result
+        (λ m. MatchOption m.found (m.count ≡ length specs.now) (λ _. 0 < m.count)) }
     ensures within { IfSome result (λ m. StaysIn section.now.bytes.now at m.place) }
 {
     let mut place = at;

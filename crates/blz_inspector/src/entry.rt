@@ -49,7 +49,8 @@ impl Entry {
         stamp: Stamp,
         bundle: OwnedBundle,
     ) -> std::result::Result<Entry, AllocError>
-        ensures { IfOk result (λ e. e ≡ (elf_asked elf.now, record { stamp = stamp; images = bundle })) }
+        ensures { IfOk result
+            (λ e. e ≡ (elf_asked elf.now, record { stamp = stamp; images = bundle })) }
     {
         Ok(Entry {
             path: String::from_str(alloc, elf.path.as_str())?,
@@ -82,7 +83,8 @@ impl Entry {
         orders: &mut O,
         names: &[String],
     ) -> Result<Found>
-        ensures value { Gives (λ f. f) result (found_in self.old.0.debug_syms names.now self.old.1.images) }
+        ensures value { Gives (λ f. f) result
+            (found_in self.old.0.debug_syms names.now self.old.1.images) }
         ensures same { self.new ≡ self.old }
     {
         let warm = self.warm.take();
@@ -101,7 +103,8 @@ impl Entry {
         visit: &mut V,
     ) -> Result<()>
         requires { V.stopped visit.old ≡ false }
-        ensures shows { ShowsAll (listed_in self.old.0.debug_syms self.old.1.images) (V.shown visit.old) (V.shown visit.new) (V.stopped visit.new) result }
+        ensures shows { ShowsAll (listed_in self.old.0.debug_syms self.old.1.images)
+            (V.shown visit.old) (V.shown visit.new) (V.stopped visit.new) result }
         ensures same { self.new ≡ self.old }
     {
         let warm = self.warm.take();

@@ -71,7 +71,8 @@ impl Inspector {
     fn put(&mut self, elf: &Elf, entry: Entry) -> std::result::Result<usize, AllocError>
         requires { entry.0 ≡ elf_asked elf.now }
         ensures there { IfOk result (λ at. slice_get self.new at ≡ Some entry) }
-        ensures put { IfOk result (λ _. self.new ≡ with_opened (elf_asked elf.now) entry.1 self.old) }
+        ensures put { IfOk result
+            (λ _. self.new ≡ with_opened (elf_asked elf.now) entry.1 self.old) }
         ensures kept { OnErr result (self.new ≡ self.old) }
     {
         match self.find(elf) {
@@ -95,10 +96,16 @@ impl Inspector {
         elf: &Elf,
         stamp: Stamp,
     ) -> Result<usize>
-        requires stamp { IsStampOf (told_by (F.contents files.old) (F.stamps files.old)) (elf_asked elf.now).path stamp }
+        requires stamp { IsStampOf (told_by (F.contents files.old) (F.stamps files.old))
+            (elf_asked elf.now).path stamp }
         requires stale { IsStale stamp (kept_of (elf_asked elf.now) self.old) }
-        ensures used { IfOk result (λ at. UsesAt (told_by (F.contents files.old) (F.stamps files.old)) (elf_asked elf.now) at self.old self.new) }
-        ensures refused { IfErr result (λ e. IsRefused e.kind (Rose (F.faults files.old) (F.faults files.new)) (told_by (F.contents files.old) (F.stamps files.old)) (elf_asked elf.now) self.old × (self.new ≡ self.old)) }
+        ensures used { IfOk result
+            (λ at. UsesAt (told_by (F.contents files.old) (F.stamps files.old))
+            (elf_asked elf.now) at self.old self.new) }
+        ensures refused { IfErr result
+            (λ e. IsRefused e.kind (Rose (F.faults files.old) (F.faults files.new))
+            (told_by (F.contents files.old) (F.stamps files.old)) (elf_asked elf.now) self.old
+            × (self.new ≡ self.old)) }
         ensures contents { F.contents files.new ≡ F.contents files.old }
         ensures stamps { F.stamps files.new ≡ F.stamps files.old }
         ensures count { F.faults files.old ≤ F.faults files.new }
@@ -110,8 +117,13 @@ impl Inspector {
 
     // Where the file stands that is used: as it is kept, where it has the same stamp, else as it is opened.
     fn used<F: Files>(&mut self, alloc: Global, files: &mut F, elf: &Elf) -> Result<usize>
-        ensures used { IfOk result (λ at. UsesAt (told_by (F.contents files.old) (F.stamps files.old)) (elf_asked elf.now) at self.old self.new) }
-        ensures refused { IfErr result (λ e. IsRefused e.kind (Rose (F.faults files.old) (F.faults files.new)) (told_by (F.contents files.old) (F.stamps files.old)) (elf_asked elf.now) self.old × (self.new ≡ self.old)) }
+        ensures used { IfOk result
+            (λ at. UsesAt (told_by (F.contents files.old) (F.stamps files.old))
+            (elf_asked elf.now) at self.old self.new) }
+        ensures refused { IfErr result
+            (λ e. IsRefused e.kind (Rose (F.faults files.old) (F.faults files.new))
+            (told_by (F.contents files.old) (F.stamps files.old)) (elf_asked elf.now) self.old
+            × (self.new ≡ self.old)) }
         ensures contents { F.contents files.new ≡ F.contents files.old }
         ensures stamps { F.stamps files.new ≡ F.stamps files.old }
         ensures count { F.faults files.old ≤ F.faults files.new }
@@ -131,7 +143,8 @@ impl Inspector {
         names: &[String],
     ) -> Result<Found>
         requires { at < length self.old }
-        ensures value { (e : Asked × Opened) → slice_get self.old at ≡ Some e → Gives (λ f. f) result (found_in e.0.debug_syms names.now e.1.images) }
+        ensures value { (e : Asked × Opened) → slice_get self.old at ≡ Some e
+            → Gives (λ f. f) result (found_in e.0.debug_syms names.now e.1.images) }
         ensures same { self.new ≡ self.old }
     {
         self.entries[at].lookup(alloc, orders, names)
@@ -146,7 +159,9 @@ impl Inspector {
     ) -> Result<()>
         requires there { at < length self.old }
         requires goes_on { V.stopped visit.old ≡ false }
-        ensures shows { (e : Asked × Opened) → slice_get self.old at ≡ Some e → ShowsAll (listed_in e.0.debug_syms e.1.images) (V.shown visit.old) (V.shown visit.new) (V.stopped visit.new) result }
+        ensures shows { (e : Asked × Opened) → slice_get self.old at ≡ Some e
+            → ShowsAll (listed_in e.0.debug_syms e.1.images) (V.shown visit.old)
+            (V.shown visit.new) (V.stopped visit.new) result }
         ensures same { self.new ≡ self.old }
     {
         self.entries[at].for_each(alloc, orders, visit)
@@ -160,10 +175,13 @@ impl Inspector {
         elf: &Elf,
         names: &[String],
     ) -> Result<Found>
-        ensures outcome { GivesUsed (λ f. f) result (found_in (elf_asked elf.now).debug_syms names.now)
-            (told_by (F.contents files.old) (F.stamps files.old)) (elf_asked elf.now) self.old self.new
+        ensures outcome { GivesUsed (λ f. f) result
+            (found_in (elf_asked elf.now).debug_syms names.now)
+            (told_by (F.contents files.old) (F.stamps files.old))
+            (elf_asked elf.now) self.old self.new
             ⊎ RefusesFirst result (Rose (F.faults files.old) (F.faults files.new))
-            (told_by (F.contents files.old) (F.stamps files.old)) (elf_asked elf.now) self.old self.new }
+            (told_by (F.contents files.old) (F.stamps files.old))
+            (elf_asked elf.now) self.old self.new }
         ensures contents { F.contents files.new ≡ F.contents files.old }
         ensures stamps { F.stamps files.new ≡ F.stamps files.old }
         ensures count { F.faults files.old ≤ F.faults files.new }
@@ -183,10 +201,13 @@ impl Inspector {
         src: &Source,
         names: &[String],
     ) -> Result<Found>
-        ensures outcome { GivesUsed (λ f. f) result (found_in (asked_of src.now).debug_syms names.now)
-            (told_by (F.contents files.old) (F.stamps files.old)) (asked_of src.now) self.old self.new
+        ensures outcome { GivesUsed (λ f. f) result
+            (found_in (asked_of src.now).debug_syms names.now)
+            (told_by (F.contents files.old) (F.stamps files.old))
+            (asked_of src.now) self.old self.new
             ⊎ RefusesFirst result (Rose (F.faults files.old) (F.faults files.new))
-            (told_by (F.contents files.old) (F.stamps files.old)) (asked_of src.now) self.old self.new }
+            (told_by (F.contents files.old) (F.stamps files.old))
+            (asked_of src.now) self.old self.new }
         ensures contents { F.contents files.new ≡ F.contents files.old }
         ensures stamps { F.stamps files.new ≡ F.stamps files.old }
         ensures count { F.faults files.old ≤ F.faults files.new }
@@ -207,10 +228,14 @@ impl Inspector {
         visit: &mut V,
     ) -> Result<()>
         requires { V.stopped visit.old ≡ false }
-        ensures outcome { ShowsUsed result (listed_in (asked_of src.now).debug_syms) (V.shown visit.old) (V.shown visit.new) (V.stopped visit.new)
-            (told_by (F.contents files.old) (F.stamps files.old)) (asked_of src.now) self.old self.new
-            ⊎ ShowsNothing result (V.shown visit.old) (V.shown visit.new) (V.stopped visit.new) (Rose (F.faults files.old) (F.faults files.new))
-            (told_by (F.contents files.old) (F.stamps files.old)) (asked_of src.now) self.old self.new }
+        ensures outcome { ShowsUsed result (listed_in (asked_of src.now).debug_syms)
+            (V.shown visit.old) (V.shown visit.new) (V.stopped visit.new)
+            (told_by (F.contents files.old) (F.stamps files.old))
+            (asked_of src.now) self.old self.new
+            ⊎ ShowsNothing result (V.shown visit.old) (V.shown visit.new) (V.stopped visit.new)
+            (Rose (F.faults files.old) (F.faults files.new))
+            (told_by (F.contents files.old) (F.stamps files.old))
+            (asked_of src.now) self.old self.new }
         ensures contents { F.contents files.new ≡ F.contents files.old }
         ensures stamps { F.stamps files.new ≡ F.stamps files.old }
         ensures count { F.faults files.old ≤ F.faults files.new }

@@ -80,7 +80,8 @@ pub fn found_of<O: Orders>(
     resolver: &mut ElfResolver<'_>,
     names: &[String],
 ) -> Result<Found>
-    ensures value { Gives (λ f. f) result (all_good (map (infos_named resolver.old.images (has_debug resolver.old)) names.now)) }
+    ensures value { Gives (λ f. f) result
+        (all_good (map (infos_named resolver.old.images (has_debug resolver.old)) names.now)) }
     ensures same { SameBundle resolver.old resolver.new }
 {
     let opts = with_places();

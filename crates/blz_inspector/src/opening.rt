@@ -18,8 +18,9 @@ use std::alloc::Global;
 #[tactic(auto, unfolding(crate::specs::Uses::image_alone))]
 fn image_alone<F: Files>(alloc: Global, files: &mut F, path: &str) -> Result<OwnedBundle>
     ensures good { IfOk result (λ b. OpensAlone (F.contents files.old) path.now (Good b)) }
-    ensures mark { IfErr result (λ e. (e.kind ≡ OutOfMemory) ⊎ HasKindCause e.kind
-        (Rose (F.faults files.old) (F.faults files.new)) (OpensAlone (F.contents files.old) path.now (Broken e.kind))) }
+    ensures mark { IfErr result (λ e. (e.kind ≡ OutOfMemory)
+        ⊎ HasKindCause e.kind (Rose (F.faults files.old) (F.faults files.new))
+        (OpensAlone (F.contents files.old) path.now (Broken e.kind))) }
     ensures contents { F.contents files.new ≡ F.contents files.old }
     ensures stamps { F.stamps files.new ≡ F.stamps files.old }
     ensures count { F.faults files.old ≤ F.faults files.new }
@@ -31,9 +32,12 @@ fn image_alone<F: Files>(alloc: Global, files: &mut F, path: &str) -> Result<Own
 
 /// Opens a file with the companions that its debug information needs, and without it the image alone.
 pub fn opened<F: Files>(alloc: Global, files: &mut F, elf: &Elf) -> Result<OwnedBundle>
-    ensures good { IfOk result (λ b. OpensAsked (told_by (F.contents files.old) (F.stamps files.old)) (elf_asked elf.now) (Good b)) }
-    ensures mark { IfErr result (λ e. (e.kind ≡ OutOfMemory) ⊎ HasKindCause e.kind
-        (Rose (F.faults files.old) (F.faults files.new)) (OpensAsked (told_by (F.contents files.old) (F.stamps files.old)) (elf_asked elf.now) (Broken e.kind))) }
+    ensures good { IfOk result (λ b. OpensAsked
+        (told_by (F.contents files.old) (F.stamps files.old)) (elf_asked elf.now) (Good b)) }
+    ensures mark { IfErr result (λ e. (e.kind ≡ OutOfMemory)
+        ⊎ HasKindCause e.kind (Rose (F.faults files.old) (F.faults files.new))
+        (OpensAsked (told_by (F.contents files.old) (F.stamps files.old)) (elf_asked elf.now)
+        (Broken e.kind))) }
     ensures contents { F.contents files.new ≡ F.contents files.old }
     ensures stamps { F.stamps files.new ≡ F.stamps files.old }
     ensures count { F.faults files.old ≤ F.faults files.new }

@@ -117,7 +117,8 @@ impl ProgramFiles {
 
     /// The file of a number in the table of a unit.
     fn listed(&self, names: &UnitNames, number: u64) -> Option<FilePlaces>
-        ensures { result ≡ option_map (in_unit names.now) (slice_get (arc_value self.now.table) number) }
+        ensures { result
+            ≡ option_map (in_unit names.now) (slice_get (arc_value self.now.table) number) }
     {
         match self.table.get(number) {
             Some(file) => Some(names.place(file)),

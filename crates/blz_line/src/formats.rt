@@ -37,7 +37,8 @@ fn formats_from(
     bytes: &[u8],
     at: usize,
 ) -> Result<(Vec<EntryFormat>, usize)>
-    ensures { Gives (λ r. (r.0.items, r.1)) result (or_mark (formats_in count [] bytes.now at) InvalidDwarf) }
+    ensures { Gives (λ r. (r.0.items, r.1)) result
+        (or_mark (formats_in count [] bytes.now at) InvalidDwarf) }
 {
     let mut formats = Vec::new(alloc);
     let mut offset = at;
@@ -54,7 +55,8 @@ fn formats_from(
 /// The formats of a table, and the offset behind them.
 #[tactic(auto, unfolding(crate::specs::Formats::formats_at))]
 fn formats_at(alloc: Global, bytes: &[u8], at: usize) -> Result<(Vec<EntryFormat>, usize)>
-    ensures { Gives (λ r. (r.0.items, r.1)) result (or_mark (formats_at bytes.now at) InvalidDwarf) }
+    ensures { Gives (λ r. (r.0.items, r.1)) result
+        (or_mark (formats_at bytes.now at) InvalidDwarf) }
 {
     let Some((count, next)) = u8_at(bytes, at) else {
         return Err(broken());
@@ -124,7 +126,8 @@ fn entries_at(
     count: u64,
     at: usize,
 ) -> Result<(Table<FileEntry>, usize)>
-    ensures { Gives (λ r. r) result (or_mark (entries_in encoding (section_view section.now) formats.now count [] at) InvalidDwarf) }
+    ensures { Gives (λ r. r) result (or_mark
+        (entries_in encoding (section_view section.now) formats.now count [] at) InvalidDwarf) }
 {
     let mut table = Table::new(alloc);
     let mut offset = at;
@@ -151,7 +154,8 @@ fn some_entries_at(
     at: usize,
 ) -> Result<(Table<FileEntry>, usize)>
     requires { 0 < count }
-    ensures { Gives (λ r. r) result (or_mark (entries_in encoding (section_view section.now) formats.now count [] at) InvalidDwarf) }
+    ensures { Gives (λ r. r) result (or_mark
+        (entries_in encoding (section_view section.now) formats.now count [] at) InvalidDwarf) }
 {
     let Some((first, next)) = entry_at(encoding, section, formats, at) else {
         return Err(broken());
@@ -180,7 +184,8 @@ fn formatted_at(
     section: &Section<'_, '_>,
     at: usize,
 ) -> Result<(Table<FileEntry>, usize)>
-    ensures { Gives (λ r. r) result (or_mark (formatted_at encoding (section_view section.now) at) InvalidDwarf) }
+    ensures { Gives (λ r. r) result
+        (or_mark (formatted_at encoding (section_view section.now) at) InvalidDwarf) }
 {
     let (formats, next) = formats_at(alloc, section.bytes, at)?;
     let Some((count, start)) = uleb_at(section.bytes, next) else {
@@ -212,7 +217,8 @@ pub fn formatted_paths(
     section: &Section<'_, '_>,
     at: usize,
 ) -> Result<Paths>
-    ensures { Gives (λ r. r) result (or_mark (formatted_paths encoding (section_view section.now) at) InvalidDwarf) }
+    ensures { Gives (λ r. r) result
+        (or_mark (formatted_paths encoding (section_view section.now) at) InvalidDwarf) }
 {
     let (directories, next) = formatted_at(alloc, room, encoding, section, at)?;
     let (files, _) = formatted_at(alloc, room, encoding, section, next)?;

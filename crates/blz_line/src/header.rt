@@ -189,7 +189,8 @@ fn paths_at(
     section: &Section<'_, '_>,
     at: usize,
 ) -> Result<Paths>
-    ensures { Gives (λ p. p) result (or_mark (paths_at encoding (section_view section.now) at) InvalidDwarf) }
+    ensures { Gives (λ p. p) result
+        (or_mark (paths_at encoding (section_view section.now) at) InvalidDwarf) }
 {
     if encoding.version == 5 {
         formatted_paths(alloc, room, encoding, section, at)
@@ -209,9 +210,11 @@ fn fields_at(
     section: &Section<'_, '_>,
     at: usize,
 ) -> Result<LineHeader>
-    ensures value { Gives (λ h. h) result (or_mark (fields_at encoding program end (section_view section.now) at) InvalidDwarf) }
+    ensures value { Gives (λ h. h) result
+        (or_mark (fields_at encoding program end (section_view section.now) at) InvalidDwarf) }
     ensures ready { IfOk result (λ h. IsReady (rules_of h)) }
-    ensures offsets { IfOk result (λ h. (h.program ≡ program) × (h.end ≡ end) × (h.counts + (h.opcode_base - 1) ≤ length section.now.bytes.now)) }
+    ensures offsets { IfOk result (λ h. (h.program ≡ program) × (h.end ≡ end)
+        × (h.counts + (h.opcode_base - 1) ≤ length section.now.bytes.now)) }
 {
     let Some((rules, counts)) = usable_rules_at(encoding, section, at) else {
         return Err(broken());
@@ -245,7 +248,8 @@ pub(crate) fn header_at(
     at: usize,
     address_size: u8,
 ) -> Result<LineHeader>
-    ensures value { Gives (λ h. h) result (or_mark (header_at (section_view section.now) at address_size) InvalidDwarf) }
+    ensures value { Gives (λ h. h) result
+        (or_mark (header_at (section_view section.now) at address_size) InvalidDwarf) }
     ensures ready { IfOk result (λ h. IsReady (rules_of h)) }
     ensures inside { IfOk result (λ h. IsInside h section.now.bytes.now) }
 {
@@ -273,7 +277,8 @@ impl LineHeader {
         at: u64,
         address_size: u8,
     ) -> Result<LineHeader>
-        ensures { Gives (λ h. h) result (or_mark (header_at (section_view sections.now.line) at address_size) InvalidDwarf) }
+        ensures { Gives (λ h. h) result
+            (or_mark (header_at (section_view sections.now.line) at address_size) InvalidDwarf) }
     {
         LineHeader::parse_within(alloc, &mut Room::endless(), sections, at, address_size)
     }
@@ -286,7 +291,8 @@ impl LineHeader {
         at: u64,
         address_size: u8,
     ) -> Result<LineHeader>
-        ensures { Gives (λ h. h) result (or_mark (header_at (section_view sections.now.line) at address_size) InvalidDwarf) }
+        ensures { Gives (λ h. h) result
+            (or_mark (header_at (section_view sections.now.line) at address_size) InvalidDwarf) }
     {
         header_at(alloc, room, &sections.line, at as usize, address_size)
     }

@@ -69,8 +69,10 @@ impl Lines {
         header: &UnitHeader,
         root: &UnitRoot,
     ) -> Result<Option<Lines>>
-        ensures value { Gives (λ lines. option_map (λ (l : OrderedLines). l.table) lines) result (lines_of sections.now header.now root.now) }
-        ensures accepted { IfOk result (λ lines. IfSome lines (λ (l : OrderedLines). IsAccepted O.pair_places (map begin_key (spans_of l.table.sequences)) l.ordered)) }
+        ensures value { Gives (λ lines. option_map (λ (l : OrderedLines). l.table) lines) result
+            (lines_of sections.now header.now root.now) }
+        ensures accepted { IfOk result (λ lines. IfSome lines (λ (l : OrderedLines).
+            IsAccepted O.pair_places (map begin_key (spans_of l.table.sequences)) l.ordered)) }
     {
         let Some(at) = root.line else {
             return Ok(None);
@@ -97,7 +99,8 @@ impl Lines {
     /// The directory and the name of the file of a number, counted from 0; None exactly where the table has no such file.
     /// The texts are those of the sections that were parsed.
     pub fn file<'b>(&self, texts: &Texts<'b>, index: u64) -> Option<(DirPath<'b>, &'b [u8])>
-        ensures { option_map (λ file. (file.0, file.1.now)) result ≡ option_map (file_text texts.now) (slice_get self.now.table.files index) }
+        ensures { option_map (λ file. (file.0, file.1.now)) result
+            ≡ option_map (file_text texts.now) (slice_get self.now.table.files index) }
     {
         let file = self.program.file(&self.names, index)?;
         Some(file_text(texts, &file))
@@ -108,7 +111,8 @@ impl Lines {
     /// The texts are those of the sections that were parsed.
     #[tactic(auto, unfolding(crate::specs::Lookups::row_site))]
     pub fn find_location<'b>(&self, texts: &Texts<'b>, addr: u64) -> Result<Option<Location<'b>>>
-        ensures { Exactly (λ o. option_map location_view o) result (line_at texts.now self.now.table addr) }
+        ensures { Exactly (λ o. option_map location_view o) result
+            (line_at texts.now self.now.table addr) }
     {
         let Some(row) = self.program.row_in(addr) else {
             return Ok(None);

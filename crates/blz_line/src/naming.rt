@@ -99,7 +99,8 @@ impl Namer<'_, '_, '_> {
         room: &mut Room,
         repeated: Option<(u64, FileEntry)>,
     ) -> Result<Table<FilePlaces>>
-        ensures { Gives (λ t. t) result (or_mark (all_files (naming_view self.now) (copies repeated)) InvalidDwarf) }
+        ensures { Gives (λ t. t) result
+            (or_mark (all_files (naming_view self.now) (copies repeated)) InvalidDwarf) }
     {
         let Some((count, entry)) = repeated else {
             return Ok(Table::new(alloc));
@@ -120,7 +121,8 @@ impl Namer<'_, '_, '_> {
         room: &mut Room,
         entries: &Table<FileEntry>,
     ) -> Result<Table<FilePlaces>>
-        ensures { Gives (λ t. t) result (or_mark (all_files (naming_view self.now) entries.now) InvalidDwarf) }
+        ensures { Gives (λ t. t) result
+            (or_mark (all_files (naming_view self.now) entries.now) InvalidDwarf) }
     {
         let (repeated, listed) = entries.parts();
         let mut files = self.equal_files(alloc, room, repeated)?;
@@ -154,8 +156,10 @@ impl Namer<'_, '_, '_> {
         room: &mut Room,
         entries: &Table<FileEntry>,
     ) -> Result<ProgramFiles>
-        ensures table { Gives (λ f. arc_value f.table) result (or_mark (all_files (naming_view self.now) entries.now) InvalidDwarf) }
-        ensures first { IfOk result (λ f. f.first ≡ first_of self.now.version (length entries.now)) }
+        ensures table { Gives (λ f. arc_value f.table) result
+            (or_mark (all_files (naming_view self.now) entries.now) InvalidDwarf) }
+        ensures first { IfOk result
+            (λ f. f.first ≡ first_of self.now.version (length entries.now)) }
     {
         let files = self.all_files(alloc, room, entries)?;
         let table = Arc::new(alloc, files)?;

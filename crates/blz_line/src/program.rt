@@ -106,7 +106,8 @@ impl Given {
 
     #[tactic(auto, unfolding(crate::specs::Program::ended))]
     fn end(&mut self, alloc: Global, registers: Registers) -> std::result::Result<(), AllocError>
-        ensures { IfOk result (λ _. state_of first_registers self.new ≡ ended (state_of registers self.old)) }
+        ensures { IfOk result
+            (λ _. state_of first_registers self.new ≡ ended (state_of registers self.old)) }
     {
         let mut rows = mem::replace(&mut self.rows, Vec::new(alloc));
         // rows are most of what a reader keeps, so no room is left behind them
@@ -134,7 +135,8 @@ pub fn run(
     requires counted { rules.opcode_base ≤ length counts.now + 1 }
     requires ops { 0 < rules.max_ops }
     requires range { 0 < rules.line_range }
-    ensures { GivesState (run_from rules counts.now (section_view section.now) (first_state files) at) result }
+    ensures { GivesState
+        (run_from rules counts.now (section_view section.now) (first_state files) at) result }
 {
     let mut given = Given::new(alloc, files);
     let mut registers = Registers::first();

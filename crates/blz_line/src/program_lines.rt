@@ -79,7 +79,8 @@ fn table_of(
 ) -> Result<Unordered>
     requires ready { IsReady (rules_of header) }
     requires inside { IsInside header sections.now.line.bytes.now }
-    ensures value { Gives table_view result (or_mark (program_table sections.now unit.now root.now header) InvalidDwarf) }
+    ensures value { Gives table_view result
+        (or_mark (program_table sections.now unit.now root.now header) InvalidDwarf) }
     ensures rising { IfOk result (λ t. AreRising (table_view t).sequences) }
 {
     let rules = header.rules();
@@ -112,7 +113,8 @@ fn table_at(
     root: &UnitRoot,
     at: u64,
 ) -> Result<Unordered>
-    ensures value { Gives table_view result (or_mark (program_at sections.now unit.now root.now at) InvalidDwarf) }
+    ensures value { Gives table_view result
+        (or_mark (program_at sections.now unit.now root.now at) InvalidDwarf) }
     ensures rising { IfOk result (λ t. AreRising (table_view t).sequences) }
 {
     let header = header_at(alloc, room, &sections.line, at as usize, unit.address_size)?;
@@ -166,7 +168,8 @@ impl ProgramLines {
     ) -> std::result::Result<ProgramLines, AllocError>
         requires { AreRising (table_view table).sequences }
         ensures table { IfOk result (λ l. l.table ≡ table_view table) }
-        ensures accepted { IfOk result (λ l. IsAccepted O.pair_places (map begin_key (spans_of l.table.sequences)) l.ordered) }
+        ensures accepted { IfOk result (λ l. IsAccepted O.pair_places
+            (map begin_key (spans_of l.table.sequences)) l.ordered) }
     {
         let Unordered { sequences, files } = table;
         let spans = spans_of(alloc, sequences.as_slice())?;
@@ -191,8 +194,10 @@ impl ProgramLines {
         root: &UnitRoot,
         at: u64,
     ) -> Result<ProgramLines>
-        ensures value { Gives (λ p. p.table) result (or_mark (program_at sections.now header.now root.now at) InvalidDwarf) }
-        ensures accepted { IfOk result (λ p. IsAccepted O.pair_places (map begin_key (spans_of p.table.sequences)) p.ordered) }
+        ensures value { Gives (λ p. p.table) result
+            (or_mark (program_at sections.now header.now root.now at) InvalidDwarf) }
+        ensures accepted { IfOk result (λ p. IsAccepted O.pair_places
+            (map begin_key (spans_of p.table.sequences)) p.ordered) }
     {
         let table = table_at(alloc, room, sections, header, root, at)?;
         Ok(ProgramLines::new(alloc, orders, table)?)
@@ -219,7 +224,8 @@ impl ProgramLines {
         orders: &mut O,
     ) -> std::result::Result<ProgramLines, AllocError>
         ensures table { IfOk result (λ p. p.table ≡ self.now.table) }
-        ensures accepted { IfOk result (λ p. IsAccepted O.pair_places (map begin_key (spans_of p.table.sequences)) p.ordered) }
+        ensures accepted { IfOk result (λ p. IsAccepted O.pair_places
+            (map begin_key (spans_of p.table.sequences)) p.ordered) }
     {
         let spans = spans_of(alloc, self.sequences.as_slice())?;
         let ordered = is_accepted(alloc, orders, spans.as_slice())?;
@@ -253,7 +259,8 @@ impl ProgramLines {
 
     /// The file of a number, counted from 0, in a unit with some names.
     pub fn file(&self, names: &UnitNames, index: u64) -> Option<FilePlaces>
-        ensures { result ≡ slice_get (files_by names.now self.now.table.first self.now.table.files) index }
+        ensures { result
+            ≡ slice_get (files_by names.now self.now.table.first self.now.table.files) index }
     {
         self.files.get(names, index)
     }

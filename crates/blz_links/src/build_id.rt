@@ -92,7 +92,8 @@ fn first_build_id<'b, T: HasNotes>(
 // over the segments
 #[tactic(auto, unfolding(crate::specs::BuildIds::segments_build_id))]
 fn segments_build_id<'b>(parser: &mut ElfParser<'b>, order: ByteOrder) -> Result<Option<&'b [u8]>>
-    ensures value { Exactly (option_map (λ id. id.now)) result (segments_build_id order parser.old.image) }
+    ensures value { Exactly (option_map (λ id. id.now)) result
+        (segments_build_id order parser.old.image) }
     ensures same { parser.new ≡ parser.old }
 {
     let segments = parser.program_headers()?;

@@ -122,7 +122,8 @@ impl ChecksumTables {
     /// The register after as many whole words as there are, and how many bytes these have.
     pub fn after_words(&self, register: u32, bytes: &[u8]) -> (u32, usize)
         requires { AreTables self.now }
-        ensures value { checksum_from result.0 (drop result.1 bytes.now) ≡ checksum_from register bytes.now }
+        ensures value { checksum_from result.0 (drop result.1 bytes.now)
+            ≡ checksum_from register bytes.now }
         ensures within { result.1 ≤ length bytes.now }
     {
         let mut register = register;

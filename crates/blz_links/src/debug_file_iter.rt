@@ -44,7 +44,8 @@ impl<'p> DebugFileIter<'p> {
             (option_map (λ l. l.now) canonical_linker.entry) linkee.entry.now
             (option_map (λ id. id.now) build_id.entry) }
         // No candidate has the components of the linker.
-        ensures others { All (HasOther (option_map (λ l. l.now) canonical_linker.entry)) (left_of result) }
+        ensures others { All (HasOther (option_map (λ l. l.now) canonical_linker.entry))
+            (left_of result) }
     {
         DebugFileIter {
             alloc,

@@ -21,7 +21,8 @@ fn linked_data<'b>(
     parser: &mut ElfParser<'b>,
     section: LinkSection,
 ) -> Result<Option<(ByteOrder, &'b [u8])>>
-    ensures value { Exactly (option_map (λ s. (s.0, s.1.now))) result (linked_data parser.old.image (name_of section)) }
+    ensures value { Exactly (option_map (λ s. (s.0, s.1.now))) result
+        (linked_data parser.old.image (name_of section)) }
     ensures same { parser.new ≡ parser.old }
 {
     let Ok(Some(index)) = parser.find_section(section.name()) else {
@@ -36,7 +37,8 @@ fn linked_data<'b>(
 /// is, else as `parse_debug_link` is, by the same text.
 pub fn read_debug_link<'b>(parser: &mut ElfParser<'b>) -> Result<Option<DebugLink<'b>>>
     ensures value { Exactly (option_map link_view) result (debug_link_in parser.old.image) }
-    ensures text { AsChecked link_view debug_link_checks LinkSection.DebugLink parser.old.image result }
+    ensures text { AsChecked link_view debug_link_checks LinkSection.DebugLink
+        parser.old.image result }
     ensures same { parser.new ≡ parser.old }
 {
     let Some((order, bytes)) = linked_data(parser, LinkSection::DebugLink)? else {
@@ -49,7 +51,8 @@ pub fn read_debug_link<'b>(parser: &mut ElfParser<'b>) -> Result<Option<DebugLin
 /// `section_data` is, else as `parse_debug_altlink` is, by the same text.
 pub fn read_debug_altlink<'b>(parser: &mut ElfParser<'b>) -> Result<Option<DebugAltlink<'b>>>
     ensures value { Exactly (option_map altlink_view) result (debug_altlink_in parser.old.image) }
-    ensures text { AsChecked altlink_view (λ _. debug_altlink_checks) LinkSection.DebugAltlink parser.old.image result }
+    ensures text { AsChecked altlink_view
+        (λ _. debug_altlink_checks) LinkSection.DebugAltlink parser.old.image result }
     ensures same { parser.new ≡ parser.old }
 {
     let Some((_, bytes)) = linked_data(parser, LinkSection::DebugAltlink)? else {
@@ -62,7 +65,8 @@ pub fn read_debug_altlink<'b>(parser: &mut ElfParser<'b>) -> Result<Option<Debug
 /// as `parse_debug_sup` is, by the same text.
 pub fn read_debug_sup<'b>(parser: &mut ElfParser<'b>) -> Result<Option<DebugSupInfo<'b>>>
     ensures value { Exactly (option_map sup_view) result (debug_sup_in parser.old.image) }
-    ensures text { AsChecked sup_view debug_sup_checks LinkSection.DebugSup parser.old.image result }
+    ensures text { AsChecked sup_view debug_sup_checks LinkSection.DebugSup
+        parser.old.image result }
     ensures same { parser.new ≡ parser.old }
 {
     let Some((order, bytes)) = linked_data(parser, LinkSection::DebugSup)? else {

@@ -31,7 +31,8 @@ impl<'p> PathPiece<'p> {
 
 // the text before the next slash, and what is behind it
 fn first_part(rest: &str) -> (&str, &str)
-    ensures pieces { (at : ℕ) → pieces_from at rest.now ≡ kept_before (record { offset = at; text = result.0.now })
+    ensures pieces { (at : ℕ)
+        → pieces_from at rest.now ≡ kept_before (record { offset = at; text = result.0.now })
         (pieces_from (at + (length rest.now - length result.1.now)) result.1.now) }
     ensures shorter { 0 < length rest.now → length result.1.now < length rest.now }
 {
@@ -45,7 +46,8 @@ fn first_part(rest: &str) -> (&str, &str)
 fn first_component<'p>(len: usize, rest: &'p str) -> Option<(PathPiece<'p>, &'p str)>
     requires { length rest.now ≤ len }
     ensures value { MatchOption result (pieces_from (len - length rest.now) rest.now ≡ [])
-        (λ r. pieces_from (len - length rest.now) rest.now ≡ piece_view r.0 ∷ pieces_from (len - length r.1.now) r.1.now) }
+        (λ r. pieces_from (len - length rest.now) rest.now
+        ≡ piece_view r.0 ∷ pieces_from (len - length r.1.now) r.1.now) }
     ensures within { IfSome result (λ r. length r.1.now ≤ len) }
 {
     let mut rest = rest;

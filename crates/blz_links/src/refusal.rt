@@ -18,7 +18,8 @@ pub fn invalid(text: &'static str) -> Error
 /// no zero byte follows.
 #[tactic(auto, unfolding(crate::specs::LinkChecks::target))]
 pub fn target_at<'b>(bytes: &'b [u8], at: usize, unended: &'static str) -> Result<(&'b str, usize)>
-    ensures value { seen_by (λ r. (r.0.now, r.1)) result ≡ target bytes.entry.now at unended.entry.now }
+    ensures value { seen_by (λ r. (r.0.now, r.1)) result
+        ≡ target bytes.entry.now at unended.entry.now }
     ensures kind { IfErr result (λ e. e.kind ≡ InvalidData) }
     ensures within { IfOk result (λ r. r.1 ≤ length bytes.entry.now) }
 {

@@ -99,7 +99,8 @@ impl<'p> SearchedLink<'p> {
 
     // the path of the linker's directory
     fn inner(&self, alloc: Global) -> Result<String, AllocError>
-        ensures { IfOk result (λ path. string_bytes path ≡ inner_of self.now (linker_of self.now)) }
+        ensures { IfOk result
+            (λ path. string_bytes path ≡ inner_of self.now (linker_of self.now)) }
     {
         let Some(linker) = self.linker else {
             return Ok(String::new(alloc));
@@ -111,7 +112,8 @@ impl<'p> SearchedLink<'p> {
     // where to go on below the directory at an index, after a path
     fn above(&self, alloc: Global, index: usize, path: &str) -> Result<Stage, AllocError>
         requires { index < length self.now.dirs.now }
-        ensures { IfOk result (λ stage. paths_at self.now stage ≡ after_path self.now index path.now) }
+        ensures { IfOk result
+            (λ stage. paths_at self.now stage ≡ after_path self.now index path.now) }
     {
         let Some(above) = parent(path) else {
             return Ok(Stage::Below(index + 1, self.inner(alloc)?));
@@ -125,7 +127,8 @@ impl<'p> SearchedLink<'p> {
     fn below(&self, alloc: Global, index: usize, path: &str) -> Result<Option<Found>, AllocError>
         ensures { IfOk result (λ found. (stage : Stage)
             → paths_at self.now stage
-            ≡ below_from (drop index (dirs_of self.now)) path.now (inner_of self.now (linker_of self.now)) self.now.linkee.now
+            ≡ below_from (drop index (dirs_of self.now)) path.now
+            (inner_of self.now (linker_of self.now)) self.now.linkee.now
             → Finds self.now stage found) }
     {
         let Some(dir) = self.dirs.get(index) else {
@@ -154,8 +157,8 @@ impl<'p> SearchedLink<'p> {
     /// The next path that is not the linker, and where the search goes on.
     pub fn next_other(&self, alloc: Global, stage: Stage) -> Result<Option<Found>, AllocError>
         ensures found { IfOk result (FindsOther self.now stage) }
-        ensures fewer { IfOk result (λ found.
-            IfSome found (λ f. length (paths_at self.now f.then) < length (paths_at self.now stage))) }
+        ensures fewer { IfOk result (λ found. IfSome found
+            (λ f. length (paths_at self.now f.then) < length (paths_at self.now stage))) }
     {
         let mut stage = stage;
         loop {

@@ -57,7 +57,8 @@ impl RelocationMap {
 
     /// Puts a relocation, which replaces the number at that offset, or adds to it where the addend is implicit.
     pub fn insert(&mut self, offset: u64, addend: u64, implicit: bool) -> Result<(), AllocError>
-        ensures ok { OnOk result (self.new ≡ map.insert self.old offset (relocation_of addend implicit)) }
+        ensures ok { OnOk result
+            (self.new ≡ map.insert self.old offset (relocation_of addend implicit)) }
         ensures err { OnErr result (self.new ≡ self.old) }
     {
         let relocation = make_relocation(addend, implicit);
@@ -72,7 +73,8 @@ impl RelocationMap {
         addend: u64,
         implicit: bool,
     ) -> Result<(), AllocError>
-        ensures ok { OnOk result (self.new ≡ with_absent self.old offset (relocation_of addend implicit)) }
+        ensures ok { OnOk result
+            (self.new ≡ with_absent self.old offset (relocation_of addend implicit)) }
         ensures err { OnErr result (self.new ≡ self.old) }
     {
         let relocation = make_relocation(addend, implicit);
@@ -163,7 +165,8 @@ impl SectionRelocations {
         addend: u64,
         implicit: bool,
     ) -> Result<(), AllocError>
-        ensures ok { OnOk result (self.new ≡ with_relocation self.old target_idx offset (relocation_of addend implicit)) }
+        ensures ok { OnOk result (self.new
+            ≡ with_relocation self.old target_idx offset (relocation_of addend implicit)) }
         ensures err { OnErr result (self.new ≡ self.old) }
     {
         if let Some(map) = self.maps.get_mut(&target_idx) {

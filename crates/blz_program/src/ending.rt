@@ -18,8 +18,10 @@ pub fn finish<S: Sink, E: Sink>(
     out: &mut S,
     err: &mut E,
 ) -> u8
-    ensures ended { HasOutcome result (λ o. EndsBy made o (S.taken out.old) (S.taken out.new) (Rose (S.faults out.old) (S.faults out.new))
-        × TellsLine (Rose (E.faults err.old) (E.faults err.new)) (E.taken err.old) (E.taken err.new) (line_for (texts_of program.now) o)) }
+    ensures ended { HasOutcome result (λ o. EndsBy made o (S.taken out.old) (S.taken out.new)
+        (Rose (S.faults out.old) (S.faults out.new))
+        × TellsLine (Rose (E.faults err.old) (E.faults err.new)) (E.taken err.old)
+        (E.taken err.new) (line_for (texts_of program.now) o)) }
     ensures out_count { S.faults out.old ≤ S.faults out.new }
     ensures err_count { E.faults err.old ≤ E.faults err.new }
 {
@@ -29,7 +31,8 @@ pub fn finish<S: Sink, E: Sink>(
 }
 
 fn written<S: Sink>(made: Result<Vec<u8>, Outcome>, out: &mut S) -> Outcome
-    ensures ended { EndsBy made result (S.taken out.old) (S.taken out.new) (Rose (S.faults out.old) (S.faults out.new)) }
+    ensures ended { EndsBy made result (S.taken out.old) (S.taken out.new)
+        (Rose (S.faults out.old) (S.faults out.new)) }
     ensures count { S.faults out.old ≤ S.faults out.new }
 {
     match made {

@@ -67,8 +67,10 @@ impl Outcome {
 
     /// Writes the line that says how the run ended, without memory; nothing where it went well.
     pub fn tell<E: Sink>(self, program: &Program, err: &mut E) -> Result<(), SinkFault>
-        ensures ok { OnOk result (Appends (E.taken err.old) (E.taken err.new) (line_for (texts_of program.now) self)) }
-        ensures err { OnErr result (AppendsFront (E.taken err.old) (E.taken err.new) (line_for (texts_of program.now) self)) }
+        ensures ok { OnOk result
+            (Appends (E.taken err.old) (E.taken err.new) (line_for (texts_of program.now) self)) }
+        ensures err { OnErr result (AppendsFront (E.taken err.old) (E.taken err.new)
+            (line_for (texts_of program.now) self)) }
         ensures cause { HasCause (E.faults err.old) (E.faults err.new) result }
     {
         match self {
@@ -84,8 +86,10 @@ impl Outcome {
 
 // A refusal of the program, without memory.
 fn write_refusal<E: Sink>(program: &Program, text: &str, err: &mut E) -> Result<(), SinkFault>
-    ensures ok { OnOk result (Appends (E.taken err.old) (E.taken err.new) (said_by (texts_of program.now) text.now)) }
-    ensures err { OnErr result (AppendsFront (E.taken err.old) (E.taken err.new) (said_by (texts_of program.now) text.now)) }
+    ensures ok { OnOk result
+        (Appends (E.taken err.old) (E.taken err.new) (said_by (texts_of program.now) text.now)) }
+    ensures err { OnErr result (AppendsFront (E.taken err.old) (E.taken err.new)
+        (said_by (texts_of program.now) text.now)) }
     ensures cause { HasCause (E.faults err.old) (E.faults err.new) result }
 {
     write_all(err, program.name.as_bytes())?;
@@ -94,8 +98,10 @@ fn write_refusal<E: Sink>(program: &Program, text: &str, err: &mut E) -> Result<
 
 // What is said behind a name or a number.
 fn write_said<E: Sink>(text: &str, err: &mut E) -> Result<(), SinkFault>
-    ensures ok { OnOk result (Appends (E.taken err.old) (E.taken err.new) (codes ": " ++ text.now ++ line_feed)) }
-    ensures err { OnErr result (AppendsFront (E.taken err.old) (E.taken err.new) (codes ": " ++ text.now ++ line_feed)) }
+    ensures ok { OnOk result
+        (Appends (E.taken err.old) (E.taken err.new) (codes ": " ++ text.now ++ line_feed)) }
+    ensures err { OnErr result
+        (AppendsFront (E.taken err.old) (E.taken err.new) (codes ": " ++ text.now ++ line_feed)) }
     ensures cause { HasCause (E.faults err.old) (E.faults err.new) result }
 {
     write_all(err, b": ")?;
@@ -103,8 +109,10 @@ fn write_said<E: Sink>(text: &str, err: &mut E) -> Result<(), SinkFault>
 }
 
 fn write_line<E: Sink>(text: &str, err: &mut E) -> Result<(), SinkFault>
-    ensures ok { OnOk result (Appends (E.taken err.old) (E.taken err.new) (text.now ++ line_feed)) }
-    ensures err { OnErr result (AppendsFront (E.taken err.old) (E.taken err.new) (text.now ++ line_feed)) }
+    ensures ok { OnOk result
+        (Appends (E.taken err.old) (E.taken err.new) (text.now ++ line_feed)) }
+    ensures err { OnErr result
+        (AppendsFront (E.taken err.old) (E.taken err.new) (text.now ++ line_feed)) }
     ensures cause { HasCause (E.faults err.old) (E.faults err.new) result }
 {
     write_all(err, text.as_bytes())?;
@@ -112,8 +120,10 @@ fn write_line<E: Sink>(text: &str, err: &mut E) -> Result<(), SinkFault>
 }
 
 fn write_usage<E: Sink>(program: &Program, err: &mut E) -> Result<(), SinkFault>
-    ensures ok { OnOk result (Appends (E.taken err.old) (E.taken err.new) (usage_line (texts_of program.now))) }
-    ensures err { OnErr result (AppendsFront (E.taken err.old) (E.taken err.new) (usage_line (texts_of program.now))) }
+    ensures ok { OnOk result
+        (Appends (E.taken err.old) (E.taken err.new) (usage_line (texts_of program.now))) }
+    ensures err { OnErr result
+        (AppendsFront (E.taken err.old) (E.taken err.new) (usage_line (texts_of program.now))) }
     ensures cause { HasCause (E.faults err.old) (E.faults err.new) result }
 {
     write_all(err, b"usage: ")?;
@@ -126,8 +136,10 @@ fn write_bad_line<E: Sink>(
     fault: LineFault,
     err: &mut E,
 ) -> Result<(), SinkFault>
-    ensures ok { OnOk result (Appends (E.taken err.old) (E.taken err.new) (bad_line (texts_of program.now) line fault)) }
-    ensures err { OnErr result (AppendsFront (E.taken err.old) (E.taken err.new) (bad_line (texts_of program.now) line fault)) }
+    ensures ok { OnOk result (Appends (E.taken err.old) (E.taken err.new)
+        (bad_line (texts_of program.now) line fault)) }
+    ensures err { OnErr result (AppendsFront (E.taken err.old) (E.taken err.new)
+        (bad_line (texts_of program.now) line fault)) }
     ensures cause { HasCause (E.faults err.old) (E.faults err.new) result }
 {
     write_all(err, program.name.as_bytes())?;
@@ -136,8 +148,10 @@ fn write_bad_line<E: Sink>(
 
 // Where it was, and what is said of that place.
 fn write_place<E: Sink>(line: u64, text: &str, err: &mut E) -> Result<(), SinkFault>
-    ensures ok { OnOk result (Appends (E.taken err.old) (E.taken err.new) (codes ": line " ++ decimal line ++ codes ": " ++ text.now ++ line_feed)) }
-    ensures err { OnErr result (AppendsFront (E.taken err.old) (E.taken err.new) (codes ": line " ++ decimal line ++ codes ": " ++ text.now ++ line_feed)) }
+    ensures ok { OnOk result (Appends (E.taken err.old) (E.taken err.new)
+        (codes ": line " ++ decimal line ++ codes ": " ++ text.now ++ line_feed)) }
+    ensures err { OnErr result (AppendsFront (E.taken err.old) (E.taken err.new)
+        (codes ": line " ++ decimal line ++ codes ": " ++ text.now ++ line_feed)) }
     ensures cause { HasCause (E.faults err.old) (E.faults err.new) result }
 {
     write_all(err, b": line ")?;
@@ -145,8 +159,10 @@ fn write_place<E: Sink>(line: u64, text: &str, err: &mut E) -> Result<(), SinkFa
 }
 
 fn write_number<E: Sink>(number: u64, text: &str, err: &mut E) -> Result<(), SinkFault>
-    ensures ok { OnOk result (Appends (E.taken err.old) (E.taken err.new) (decimal number ++ codes ": " ++ text.now ++ line_feed)) }
-    ensures err { OnErr result (AppendsFront (E.taken err.old) (E.taken err.new) (decimal number ++ codes ": " ++ text.now ++ line_feed)) }
+    ensures ok { OnOk result (Appends (E.taken err.old) (E.taken err.new)
+        (decimal number ++ codes ": " ++ text.now ++ line_feed)) }
+    ensures err { OnErr result (AppendsFront (E.taken err.old) (E.taken err.new)
+        (decimal number ++ codes ": " ++ text.now ++ line_feed)) }
     ensures cause { HasCause (E.faults err.old) (E.faults err.new) result }
 {
     let mut buffer = Buffer::new();

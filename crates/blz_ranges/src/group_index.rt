@@ -43,7 +43,9 @@ fn preferred(
     addr: u64,
     after: &Option<Placed>,
 ) -> Option<Placed>
-    ensures { result ≡ (if (group_is group (Some range.now) && passes addr after.now place range.now.span) then better (record { place = place; span = range.now.span }) best else best) }
+    ensures { result
+        ≡ (if (group_is group (Some range.now) && passes addr after.now place range.now.span)
+        then better (record { place = place; span = range.now.span }) best else best) }
 {
     if range.group == group && passes(addr, after, place, &range.span) {
         Placed {
@@ -65,7 +67,8 @@ fn scan<L: Ledger>(
     after: &Option<Placed>,
     steps: &mut Steps<L>,
 ) -> Option<Placed>
-    ensures best { result ≡ best_by (in_group list.now group (passes addr after.now)) 0 (spans_of list.now) }
+    ensures best { result
+        ≡ best_by (in_group list.now group (passes addr after.now)) 0 (spans_of list.now) }
     ensures later { steps.old ≤ steps.new }
 {
     let mut best: Option<Placed> = None;
@@ -123,7 +126,8 @@ impl GroupIndex {
     /// Of the ranges of a group that cover an address the one with the greatest begin, then the earlier place.
     pub fn best_in<L: Ledger>(&self, group: usize, addr: u64, steps: &mut Steps<L>) -> Option<usize>
         ensures best { result ≡ best_in self.now.list group addr }
-        ensures cost { self.now.ordered ≡ true → AreApartInGroups self.now.list → 2 ^ (steps.new - steps.old) ≤ 4 * (2 * length self.now.list + 1) }
+        ensures cost { self.now.ordered ≡ true → AreApartInGroups self.now.list
+            → 2 ^ (steps.new - steps.old) ≤ 4 * (2 * length self.now.list + 1) }
         ensures later { steps.old ≤ steps.new }
     {
         if self.ordered {

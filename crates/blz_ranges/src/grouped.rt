@@ -132,7 +132,8 @@ pub fn search_order(
     ordered: bool,
 ) -> Result<Vec<Ordered>, AllocError>
     requires { AreKeysOf keys.now list.now }
-    ensures { IfOk result (λ v. ordered ≡ true → IsOrder keys.now places.now → IsIndexOf list.now v.items) }
+    ensures { IfOk result
+        (λ v. ordered ≡ true → IsOrder keys.now places.now → IsIndexOf list.now v.items) }
 {
     if !ordered {
         return Ok(Vec::new(alloc));

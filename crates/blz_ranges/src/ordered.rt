@@ -138,7 +138,8 @@ pub fn last_before<L: Ledger>(
     requires ordered { IsOrdered order.now }
     requires skips { AreSkips order.now skips.now }
     requires within { high ≤ length order.now }
-    ensures best { (after : Option Placed) → IsStart order.now group addr after high → IsFound order.now group addr after result }
+    ensures best { (after : Option Placed) → IsStart order.now group addr after high
+        → IsFound order.now group addr after result }
     ensures cost { IsChain order.now → steps.new ≤ steps.old + 1 }
     ensures later { steps.old ≤ steps.new }
 {

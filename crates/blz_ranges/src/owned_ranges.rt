@@ -55,7 +55,8 @@ impl OwnedRanges {
     ) -> Result<OwnedRanges, AllocError>
         requires { length spans.items ≡ length owners.items }
         ensures ranges { IfOk result (λ x. x.ranges ≡ owned spans.items owners.items) }
-        ensures accepted { IfOk result (λ x. IsAccepted O.pair_places (map begin_key spans.items) x.ordered) }
+        ensures accepted { IfOk result
+            (λ x. IsAccepted O.pair_places (map begin_key spans.items) x.ordered) }
     {
         let index = RangeIndex::build(alloc, orders, spans)?;
         let owners = fitted(owners);
@@ -79,7 +80,8 @@ impl OwnedRanges {
     /// The place of the best range that covers an address.
     pub fn best_at<L: Ledger>(&self, addr: u64, steps: &mut Steps<L>) -> Option<usize>
         ensures best { result ≡ best (items_of self.now.ranges) addr }
-        ensures cost { self.now.ordered ≡ true → AreApart (items_of self.now.ranges) → 2 ^ (steps.new - steps.old) ≤ 4 * (2 * length self.now.ranges + 1) }
+        ensures cost { self.now.ordered ≡ true → AreApart (items_of self.now.ranges)
+            → 2 ^ (steps.new - steps.old) ≤ 4 * (2 * length self.now.ranges + 1) }
         ensures later { steps.old ≤ steps.new }
     {
         self.index.best_at(addr, steps)

@@ -36,7 +36,8 @@ impl RangeIndex {
         entries: Vec<Span>,
     ) -> Result<RangeIndex, AllocError>
         ensures spans { IfOk result (λ x. x.spans ≡ entries.items) }
-        ensures accepted { IfOk result (λ x. IsAccepted O.pair_places (map begin_key entries.items) x.ordered) }
+        ensures accepted { IfOk result
+            (λ x. IsAccepted O.pair_places (map begin_key entries.items) x.ordered) }
     {
         let keys = begin_keys(alloc, entries.as_slice())?;
         let list = one_group(alloc, entries.as_slice())?;
@@ -65,7 +66,8 @@ impl RangeIndex {
     /// Of the ranges that cover an address the one with the greatest begin, then the earlier place.
     pub fn best_at<L: Ledger>(&self, addr: u64, steps: &mut Steps<L>) -> Option<usize>
         ensures best { result ≡ best self.now.spans addr }
-        ensures cost { self.now.ordered ≡ true → AreApart self.now.spans → 2 ^ (steps.new - steps.old) ≤ 4 * (2 * length self.now.spans + 1) }
+        ensures cost { self.now.ordered ≡ true → AreApart self.now.spans
+            → 2 ^ (steps.new - steps.old) ≤ 4 * (2 * length self.now.spans + 1) }
         ensures later { steps.old ≤ steps.new }
     {
         self.index.best_in(0, addr, steps)

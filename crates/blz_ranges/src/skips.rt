@@ -25,7 +25,8 @@ fn skip_before(skips: &[Skip], at: usize) -> Option<Skip>
 
 /// The step over an entry alone, or where the two steps before it are of one length over these as well.
 fn next_skip(order: &[Ordered], skips: &[Skip], end: u64) -> Skip
-    requires entry { (e : Ordered) → slice_get order.now (length skips.now) ≡ Some e → e.span.end ≡ end }
+    requires entry { (e : Ordered) → slice_get order.now (length skips.now) ≡ Some e
+        → e.span.end ≡ end }
     requires skips { AreFirstSkips order.now skips.now }
     ensures { IsSkip order.now (length skips.now) result }
 {

@@ -23,7 +23,8 @@ impl<'r, 's, 'b> Reader<'r, 's, 'b> {
     /// The language of a unit.
     pub fn language(&self, caches: &mut Caches, number: usize) -> Result<SrcLang>
         requires fillable { CanBeFilled self.now caches.old }
-        ensures value { Gives (λ l. l) result (or_invalid (as_read self.now unit_language number)) }
+        ensures value { Gives (λ l. l) result
+            (or_invalid (as_read self.now unit_language number)) }
         ensures fills { (told : Told) → Fills told self.now caches.old caches.new }
     {
         self.fill_root(caches, number)?;

@@ -37,7 +37,8 @@ impl<'r, 's, 'b> Reader<'r, 's, 'b> {
         requires ordered { header.now.entries ≤ header.now.end }
         requires shared { AreShared (side_sections (reader_files self.now) side) shared.old }
         requires packed { IsPackageShared (reader_files self.now) packed.old }
-        ensures value { Gives (built_view (reader_files self.now)) result (or_invalid (side_unit (reader_files self.now) side header.now)) }
+        ensures value { Gives (built_view (reader_files self.now)) result
+            (or_invalid (side_unit (reader_files self.now) side header.now)) }
         ensures fits { IfOk result (BuiltFits (reader_files self.now)) }
         ensures shared { AreShared (side_sections (reader_files self.now) side) shared.new }
         ensures packed { IsPackageShared (reader_files self.now) packed.new }
@@ -66,7 +67,9 @@ impl<'r, 's, 'b> Reader<'r, 's, 'b> {
         requires ordered { header.now.entries ≤ header.now.end }
         requires shared { AreShared (side_sections (reader_files self.now) side) shared.old }
         requires packed { IsPackageShared (reader_files self.now) packed.old }
-        ensures kept { IfOk result (λ c. Kept (BuiltFits (reader_files self.now)) (built_view (reader_files self.now)) c (or_invalid (side_unit (reader_files self.now) side header.now))) }
+        ensures kept { IfOk result
+            (λ c. Kept (BuiltFits (reader_files self.now)) (built_view (reader_files self.now)) c
+            (or_invalid (side_unit (reader_files self.now) side header.now))) }
         ensures full { IfOk result (λ c. is_kept c ≡ true) }
         ensures shared { AreShared (side_sections (reader_files self.now) side) shared.new }
         ensures packed { IsPackageShared (reader_files self.now) packed.new }
@@ -133,7 +136,8 @@ impl<'r, 's, 'b> Reader<'r, 's, 'b> {
         requires readable { IsReadable self.now.dwarf.now }
         requires fits { BuiltFit (reader_files self.now) (reader_table self.now) built.old }
         ensures fits { BuiltFit (reader_files self.now) (reader_table self.now) built.new }
-        ensures filled { IfOk result (λ _. IsFilled (slice_get (caches_of side built.new) number)) }
+        ensures filled { IfOk result
+            (λ _. IsFilled (slice_get (caches_of side built.new) number)) }
     {
         match side {
             Side::File => self.fill_one(room, side, &self.table.kept, &mut built.kept, number),

@@ -22,7 +22,8 @@ fn is_called(texts: &Texts<'_>, name: &str, place: Option<StrPlace>) -> bool
 
 /// The number of the first function of a list that has a name.
 fn first_called(texts: &Texts<'_>, name: &str, functions: &[Function]) -> Option<usize>
-    ensures { result ≡ position (λ (function : Function). is_called texts.now name.now function.name) functions.now }
+    ensures { result ≡ position
+        (λ (function : Function). is_called texts.now name.now function.name) functions.now }
 {
     functions
         .iter()

@@ -52,7 +52,8 @@ fn lengthen(
     number: usize,
 ) -> Result<(), AllocError>
     ensures long { IfOk result (λ _. number < length calls.new.items) }
-    ensures same { (n : ℕ) → or_empty (slice_get calls.new.items n) ≡ or_empty (slice_get calls.old.items n) }
+    ensures same { (n : ℕ)
+        → or_empty (slice_get calls.new.items n) ≡ or_empty (slice_get calls.old.items n) }
 {
     while calls.len() <= number {
         room.take(CALLS)?;

@@ -31,7 +31,8 @@ impl<'r, 's, 'b> Reader<'r, 's, 'b> {
         requires fits { BuiltFor self.now built.old }
         requires filled { IsFilled (slice_get built.old.kept.units.items number) }
         ensures fits { BuiltFor self.now built.new }
-        ensures taken { IsBuilt (reader_files self.now) result (as_read self.now read_unit number) }
+        ensures taken { IsBuilt (reader_files self.now) result
+            (as_read self.now read_unit number) }
     {
         take(&mut built.kept.units, number)
     }
@@ -49,7 +50,8 @@ impl<'r, 's, 'b> Reader<'r, 's, 'b> {
     fn take_unit(&self, room: &mut Room, built: &mut BuiltUnits, number: usize) -> Result<BuiltUnit>
         requires readable { IsReadable self.now.dwarf.now }
         requires fits { BuiltFor self.now built.old }
-        ensures value { Gives (as_seen self.now) result (or_invalid (as_read self.now read_unit number)) }
+        ensures value { Gives (as_seen self.now) result
+            (or_invalid (as_read self.now read_unit number)) }
         ensures right { IfOk result (BuiltFits (reader_files self.now)) }
         ensures fits { BuiltFor self.now built.new }
     {
@@ -84,7 +86,8 @@ impl<'r, 's, 'b> Reader<'r, 's, 'b> {
         requires fits { BuiltFor self.now built.old }
         requires unit { BuiltFits (reader_files self.now) unit.now }
         requires is { as_read self.now read_unit number ≡ Some (as_seen self.now unit.now) }
-        ensures value { Gives (λ l. l) result (or_invalid (as_read self.now lists_in (as_seen self.now unit.now))) }
+        ensures value { Gives (λ l. l) result
+            (or_invalid (as_read self.now lists_in (as_seen self.now unit.now))) }
         ensures fits { BuiltFor self.now built.new }
     {
         let dwarf = lent(&*self.dwarf);
@@ -109,7 +112,8 @@ impl<'r, 's, 'b> Reader<'r, 's, 'b> {
         requires fits { BuiltFor self.now built.old }
         requires unit { BuiltFits (reader_files self.now) unit.now }
         requires is { as_read self.now read_unit number ≡ Some (as_seen self.now unit.now) }
-        ensures value { Gives (λ l. l) result (or_invalid (as_read self.now calls_in place (as_seen self.now unit.now))) }
+        ensures value { Gives (λ l. l) result
+            (or_invalid (as_read self.now calls_in place (as_seen self.now unit.now))) }
         ensures fits { BuiltFor self.now built.new }
     {
         let dwarf = lent(&*self.dwarf);
@@ -131,7 +135,8 @@ impl<'r, 's, 'b> Reader<'r, 's, 'b> {
     ) -> Result<FunctionLists>
         requires readable { IsReadable self.now.dwarf.now }
         requires fits { BuiltFor self.now built.old }
-        ensures value { Gives (λ l. l) result (or_invalid (as_read self.now unit_functions number)) }
+        ensures value { Gives (λ l. l) result
+            (or_invalid (as_read self.now unit_functions number)) }
         ensures fits { BuiltFor self.now built.new }
     {
         let unit = self.take_unit(room, built, number)?;
@@ -151,7 +156,8 @@ impl<'r, 's, 'b> Reader<'r, 's, 'b> {
     ) -> Result<CallLists>
         requires readable { IsReadable self.now.dwarf.now }
         requires fits { BuiltFor self.now built.old }
-        ensures value { Gives (λ l. l) result (or_invalid (as_read self.now place_calls number place)) }
+        ensures value { Gives (λ l. l) result
+            (or_invalid (as_read self.now place_calls number place)) }
         ensures fits { BuiltFor self.now built.new }
     {
         let unit = self.take_unit(room, built, number)?;
@@ -170,7 +176,8 @@ impl<'r, 's, 'b> Reader<'r, 's, 'b> {
         requires readable { IsReadable self.now.dwarf.now }
         requires ordered { header.now.entries ≤ header.now.end }
         requires shared { AreShared (reader_files self.now).main shared.old }
-        ensures value { Gives (λ r. r) result (or_invalid (root_in (reader_files self.now) header.now)) }
+        ensures value { Gives (λ r. r) result
+            (or_invalid (root_in (reader_files self.now) header.now)) }
         ensures shared { AreShared (reader_files self.now).main shared.new }
     {
         let unit = BuiltUnit::of_file(self.alloc, room, self.dwarf, shared, Origin::Main, header)?;

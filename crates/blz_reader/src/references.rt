@@ -213,7 +213,8 @@ impl<'u> References<'u> {
     ) -> References<'u>
         requires readable { IsReadable dwarf }
         requires opened { CanBeOpened unit }
-        requires is { unit_of (files_view dwarf) File (table_view table.now).kept number ≡ Some (open_view unit) }
+        requires is { unit_of (files_view dwarf) File (table_view table.now).kept number
+            ≡ Some (open_view unit) }
         requires fits { BuiltFit (files_view dwarf) (table_view table.now) built }
         ensures { result ≡ record { files = files_view dwarf.entry; table = table_view table.now; unit = open_view unit.entry } }
     {
@@ -268,7 +269,8 @@ impl<'u> References<'u> {
 
     /// The file and the number of the unit that an entry stands in.
     fn number_of(&self, standing: Standing) -> (Side, usize)
-        ensures { unit_of self.now.files result.0 (headers_of result.0 self.now.table) result.1 ≡ unit_in self.now standing }
+        ensures { unit_of self.now.files result.0 (headers_of result.0 self.now.table) result.1
+            ≡ unit_in self.now standing }
     {
         match standing {
             Standing::Own => (Side::File, self.number),

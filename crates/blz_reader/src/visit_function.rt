@@ -26,7 +26,8 @@ pub trait VisitFunction {
 /// Shows the functions of a unit until the visitor breaks.
 pub fn show_functions<W: VisitFunction>(visit: &mut W, unit: usize, functions: &[Function]) -> Flow
     requires { W.stopped visit.old ≡ false }
-    ensures { ShowsUnit (in_unit unit functions.now) (W.shown visit.old) (W.shown visit.new) (W.stopped visit.new) result }
+    ensures { ShowsUnit (in_unit unit functions.now) (W.shown visit.old) (W.shown visit.new)
+        (W.stopped visit.new) result }
 {
     for function in functions {
         if let Flow::Break = visit.visit(unit, function) {

@@ -171,7 +171,8 @@ impl ElfN<Elf64_Sym> {
 
     /// Whether the symbol is of a type that is asked for.
     pub fn matches(&self, type_: SymType) -> bool
-        ensures { result ≡ matches (by_class (λ r. code_of r.st_info) (λ r. code_of r.st_info) self.now) type_ }
+        ensures { result
+            ≡ matches (by_class (λ r. code_of r.st_info) (λ r. code_of r.st_info) self.now) type_ }
     {
         type_.takes(self.type_())
     }

@@ -69,7 +69,8 @@ pub fn replies<'b, O: Orders>(
     resolver: &mut ElfResolver<'b>,
     commands: &[Command],
 ) -> Result<Vec<Reply<'b>>, AllocError>
-    ensures replies { IfOk result (λ v. AreReplies resolver.old.images (has_debug resolver.old) commands.now v.items) }
+    ensures replies { IfOk result
+        (λ v. AreReplies resolver.old.images (has_debug resolver.old) commands.now v.items) }
     ensures same { SameBundle resolver.old resolver.new }
 {
     let mut replies = Vec::with_capacity(alloc, commands.len())?;

@@ -21,7 +21,8 @@ pub(crate) struct CallPlaces<'b> {
 }
 
 fn code_info_if<'b>(location: Option<Location<'b>>) -> Option<CodeInfo<'b>>
-    ensures { option_map shown.site_view result ≡ option_map shown_site (option_map location_view location.entry) }
+    ensures { option_map shown.site_view result
+        ≡ option_map shown_site (option_map location_view location.entry) }
 {
     match location {
         Some(location) => Some(code_info(location)),
@@ -41,8 +42,10 @@ fn moved<'b>(
     calls: Vec<InlinedSite<'b>>,
     last: Option<Location<'b>>,
 ) -> Result<MovedCalls<'b>, AllocError>
-    ensures first { IfOk result (λ m. option_map location_view m.first ≡ site_of_next (map inlined_view calls.entry.items) (option_map location_view last.entry)) }
-    ensures inlined { IfOk result (λ m. map shown.inlined_view m.inlined.items ≡ moved (map inlined_view calls.entry.items) (option_map location_view last.entry)) }
+    ensures first { IfOk result (λ m. option_map location_view m.first ≡ site_of_next
+        (map inlined_view calls.entry.items) (option_map location_view last.entry)) }
+    ensures inlined { IfOk result (λ m. map shown.inlined_view m.inlined.items
+        ≡ moved (map inlined_view calls.entry.items) (option_map location_view last.entry)) }
 {
     let mut inlined = Vec::with_capacity(alloc, calls.len())?;
     let mut site = last;
@@ -79,7 +82,8 @@ fn left<'b>(
     direct: Location<'b>,
 ) -> Result<CallPlaces<'b>, AllocError>
     requires { is_some (site_of_next (map inlined_view calls.items) None) ≡ true }
-    ensures { IfOk result (λ p. places_view p ≡ frames (location_view direct.entry) (map inlined_view calls.entry.items)) }
+    ensures { IfOk result (λ p. places_view p
+        ≡ frames (location_view direct.entry) (map inlined_view calls.entry.items)) }
 {
     let moved = moved(alloc, calls, Some(direct))?;
     Ok(CallPlaces {
@@ -96,7 +100,8 @@ fn kept<'b>(
     direct: Location<'b>,
 ) -> Result<CallPlaces<'b>, AllocError>
     requires { is_some (site_of_next (map inlined_view calls.items) None) ≡ false }
-    ensures { IfOk result (λ p. places_view p ≡ frames (location_view direct.entry) (map inlined_view calls.entry.items)) }
+    ensures { IfOk result (λ p. places_view p
+        ≡ frames (location_view direct.entry) (map inlined_view calls.entry.items)) }
 {
     let moved = moved(alloc, calls, None)?;
     Ok(CallPlaces {
@@ -142,7 +147,8 @@ impl<'b> CallPlaces<'b> {
         direct: Location<'b>,
         calls: InlinedSites<'b>,
     ) -> Result<CallPlaces<'b>, AllocError>
-        ensures { IfOk result (λ p. places_view p ≡ frames (location_view direct.entry) calls.entry) }
+        ensures { IfOk result
+            (λ p. places_view p ≡ frames (location_view direct.entry) calls.entry) }
     {
         let calls = calls.into_vec();
         if calls.is_empty() {

@@ -88,7 +88,8 @@ impl<'b> SectionData<'b> {
         order: ByteOrder,
     ) -> Section<'s, 'b>
         requires { none.now ≡ map.empty }
-        ensures view { section_view result ≡ contents_with order moves.now (located_view self.now) }
+        ensures view { section_view result
+            ≡ contents_with order moves.now (located_view self.now) }
         ensures short { length result.bytes.now < 2 ^ 63 }
     {
         Section {

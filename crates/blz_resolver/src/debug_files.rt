@@ -63,7 +63,8 @@ fn read_sup_if_there<'b>(
     file: &Option<Companion<'b>>,
 ) -> Result<Option<DebugImage<'b>>>
     requires { none.now ≡ map.empty }
-    ensures { Gives (λ o. option_map debug_view o) result (if_there sup_image (option_map companion_view file.now)) }
+    ensures { Gives (λ o. option_map debug_view o) result
+        (if_there sup_image (option_map companion_view file.now)) }
 {
     let Some(file) = file else {
         return Ok(None);
@@ -77,7 +78,8 @@ fn read_package_if_there<'b>(
     alloc: Global,
     file: &Option<Companion<'b>>,
 ) -> Result<Option<Package<'b>>>
-    ensures { Gives (λ o. option_map package_view o) result (if_there package_of (option_map companion_view file.now)) }
+    ensures { Gives (λ o. option_map package_view o) result
+        (if_there package_of (option_map companion_view file.now)) }
 {
     let Some(file) = file else {
         return Ok(None);
@@ -94,7 +96,8 @@ fn sup_of<'s, 'b>(
     none: &'s RelocationMap,
 ) -> Option<Sections<'s, 'b>>
     requires { none.now ≡ map.empty }
-    ensures view { option_map sections_view result ≡ option_map as_sup (option_map debug_view sup.now) }
+    ensures view { option_map sections_view result
+        ≡ option_map as_sup (option_map debug_view sup.now) }
     ensures is_sup { IfSome result IsSup }
 {
     match sup {

@@ -52,7 +52,8 @@ fn is_variable(sym_type: SymType) -> bool
 
 fn read_units<O: Orders>(alloc: Global, orders: &mut O, files: &DebugFiles<'_>) -> Result<Units>
     requires { files.now.none ≡ finite.empty }
-    ensures value { Gives units_table result (or_invalid (units_of (files_in (images_view files.now)))) }
+    ensures value { Gives units_table result
+        (or_invalid (units_of (files_in (images_view files.now)))) }
     ensures fits { IfOk result (UnitsFit (files_in (images_view files.now))) }
     ensures accepted { IfOk result (AnnouncedOrdered O.pair_places) }
     ensures cold { IfOk result AreCold }
@@ -72,7 +73,8 @@ impl<'b> DebugInfo<'b> {
         bundle: &Bundle<'b>,
     ) -> Result<DebugInfo<'b>>
         requires { IsOfDebugFile (bundle_view bundle.now) parser.old }
-        ensures frame { Gives (info_book (bundle_view bundle.now)) result (frame_of (bundle_view bundle.now)) }
+        ensures frame { Gives (info_book (bundle_view bundle.now)) result
+            (frame_of (bundle_view bundle.now)) }
         ensures fits { IfOk result (HasBook (bundle_view bundle.now)) }
         ensures accepted { IfOk result (λ d. AnnouncedOrdered O.pair_places d.units) }
         ensures cold { IfOk result (λ d. AreCold d.units) }
@@ -95,7 +97,8 @@ impl<'b> DebugInfo<'b> {
     ) -> Result<Answer<'b>>
         requires fits { HasBook (bundle_view bundle.now) self.old }
         requires parser { IsOfDebugFile (bundle_view bundle.now) parser.old }
-        ensures value { Gives answer_view result (answer_of (bundle_view bundle.now) true addr opts.now) }
+        ensures value { Gives answer_view result
+            (answer_of (bundle_view bundle.now) true addr opts.now) }
         ensures keeps { KeepsBook (bundle_view bundle.now) self.old self.new }
         ensures same { parser.new ≡ parser.old }
     {
@@ -118,7 +121,8 @@ impl<'b> DebugInfo<'b> {
     ) -> Result<Vec<Answer<'b>>>
         requires fits { HasBook (bundle_view bundle.now) self.old }
         requires parser { IsOfDebugFile (bundle_view bundle.now) parser.old }
-        ensures value { Gives (λ v. map answer_view v.items) result (all_good (map (answers_of (bundle_view bundle.now) true opts.now) addrs.now)) }
+        ensures value { Gives (λ v. map answer_view v.items) result
+            (all_good (map (answers_of (bundle_view bundle.now) true opts.now) addrs.now)) }
         ensures one_each { IfOk result (λ v. length v.items ≡ length addrs.now) }
         ensures keeps { KeepsBook (bundle_view bundle.now) self.old self.new }
         ensures same { parser.new ≡ parser.old }
@@ -142,7 +146,8 @@ impl<'b> DebugInfo<'b> {
     ) -> Result<SymInfos<'b>>
         requires fits { HasBook (bundle_view bundle.now) self.old }
         requires parser { IsOfDebugFile (bundle_view bundle.now) parser.old }
-        ensures value { Gives (λ v. v) result (addresses_of (bundle_view bundle.now) true name.now opts.now) }
+        ensures value { Gives (λ v. v) result
+            (addresses_of (bundle_view bundle.now) true name.now opts.now) }
         ensures keeps { KeepsBook (bundle_view bundle.now) self.old self.new }
         ensures same { parser.new ≡ parser.old }
     {
@@ -167,7 +172,8 @@ impl<'b> DebugInfo<'b> {
     ) -> Result<()>
         requires fits { HasBook (bundle_view bundle.now) self.old }
         requires goes_on { V.stopped visit.old ≡ false }
-        ensures shows { ShowsAll (listing_in (bundle_view bundle.now) true opts.now) (V.shown visit.old) (V.shown visit.new) (V.stopped visit.new) result }
+        ensures shows { ShowsAll (listing_in (bundle_view bundle.now) true opts.now)
+            (V.shown visit.old) (V.shown visit.new) (V.stopped visit.new) result }
         ensures keeps { KeepsBook (bundle_view bundle.now) self.old self.new }
     {
         if is_variable(opts.sym_type) {
@@ -213,7 +219,8 @@ impl<'b> DebugInfo<'b> {
     pub fn rows(&self, bundle: &Bundle<'b>, unit: usize) -> Result<Option<UnitRows<'_, 'b>>>
         requires fits { HasBook (bundle_view bundle.now) self.now }
         requires filled { lines_kept self.now.units unit ≡ true }
-        ensures { Exactly (λ o. option_map rows_view o) result (rows_of (bundle_view bundle.now) true unit) }
+        ensures { Exactly (λ o. option_map rows_view o) result
+            (rows_of (bundle_view bundle.now) true unit) }
     {
         let dwarf = self.files.dwarf();
         let lines = self.units.lines(unit)?;
@@ -231,7 +238,8 @@ impl<'b> DebugInfo<'b> {
         ensures has { HasBook (bundle_view bundle.now) self.new }
         ensures grows { UnitsGrow O.pair_places self.old.units self.new.units }
         ensures is_prepared { IfOk result (λ _. units_prepared self.new.units ≡ true) }
-        ensures stays { units_prepared self.old.units ≡ true → units_prepared self.new.units ≡ true }
+        ensures stays { units_prepared self.old.units ≡ true
+            → units_prepared self.new.units ≡ true }
         ensures want { IfErr result (λ e. e.kind ≡ OutOfMemory) }
     {
         let dwarf = self.files.dwarf();
@@ -256,8 +264,10 @@ impl<'b> DebugInfo<'b> {
         requires is_prepared { units_prepared self.now.units ≡ true }
         requires symbols { parser.now.prepared ≡ true }
         requires opts { asks_inlined_fns opts.now ≡ false }
-        ensures value { Exactly answer_view result (answer_of (bundle_view bundle.now) true addr opts.now) }
-        ensures cost { asks_code_info opts.now ≡ false → LooksFewIn (bundle_view bundle.now) self.now.units addr (steps.new - steps.old) }
+        ensures value { Exactly answer_view result
+            (answer_of (bundle_view bundle.now) true addr opts.now) }
+        ensures cost { asks_code_info opts.now ≡ false
+            → LooksFewIn (bundle_view bundle.now) self.now.units addr (steps.new - steps.old) }
         ensures later { steps.old ≤ steps.new }
     {
         let reader = BookReader {

@@ -30,7 +30,8 @@ impl<'b> BookReader<'_, 'b> {
     // The place of some bytes in the image's file, where it is asked; takes no memory.
     #[tactic(auto, unfolding(crate::specs::FunctionNames::place_if))]
     fn place_if(&self, alloc: Global, asked: bool, addr: u64, size: u64) -> Result<Option<u64>>
-        ensures { Exactly (λ o. o) result (place_if asked (bundle_view self.now.bundle) addr size) }
+        ensures { Exactly (λ o. o) result
+            (place_if asked (bundle_view self.now.bundle) addr size) }
     {
         if !asked {
             return Ok(None);

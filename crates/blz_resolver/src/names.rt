@@ -28,7 +28,8 @@ fn find_addr<'b, O: Orders>(
 ) -> Result<SymInfos<'b>>
     requires parser { IsOf (asked_file (bundle_view bundle.now) (is_some debug.old)) parser.old }
     requires debug { HasBookIf (bundle_view bundle.now) debug.old }
-    ensures value { Gives (λ v. v) result (addresses_of (bundle_view bundle.now) (is_some debug.old) name.now opts.now) }
+    ensures value { Gives (λ v. v) result
+        (addresses_of (bundle_view bundle.now) (is_some debug.old) name.now opts.now) }
     ensures debug { HasBookIf (bundle_view bundle.now) debug.new }
     ensures stay { UnitsStayIf (units_in debug.old) (units_in debug.new) }
     ensures same { parser.new ≡ parser.old }
@@ -52,7 +53,8 @@ fn for_each<'b, O: Orders, V: Visit>(
     requires parser { IsOf (asked_file (bundle_view bundle.now) (is_some debug.old)) parser.old }
     requires debug { HasBookIf (bundle_view bundle.now) debug.old }
     requires goes_on { V.stopped visit.old ≡ false }
-    ensures shows { ShowsAll (listing_in (bundle_view bundle.now) (is_some debug.old) opts.now) (V.shown visit.old) (V.shown visit.new) (V.stopped visit.new) result }
+    ensures shows { ShowsAll (listing_in (bundle_view bundle.now) (is_some debug.old) opts.now)
+        (V.shown visit.old) (V.shown visit.new) (V.stopped visit.new) result }
     ensures debug { HasBookIf (bundle_view bundle.now) debug.new }
     ensures stay { UnitsStayIf (units_in debug.old) (units_in debug.new) }
     ensures same { parser.new ≡ parser.old }
@@ -74,7 +76,8 @@ impl<'b> ElfResolver<'b> {
         name: &str,
         opts: &FindAddrOpts,
     ) -> Result<SymInfos<'b>>
-        ensures value { Gives (λ v. v) result (addresses_of self.old.images (has_debug self.old) name.now opts.now) }
+        ensures value { Gives (λ v. v) result
+            (addresses_of self.old.images (has_debug self.old) name.now opts.now) }
         ensures stays { Stays self.old self.new }
     {
         find_addr(
@@ -98,7 +101,8 @@ impl<'b> ElfResolver<'b> {
         visit: &mut V,
     ) -> Result<()>
         requires { V.stopped visit.old ≡ false }
-        ensures shows { ShowsAll (listing_in self.old.images (has_debug self.old) opts.now) (V.shown visit.old) (V.shown visit.new) (V.stopped visit.new) result }
+        ensures shows { ShowsAll (listing_in self.old.images (has_debug self.old) opts.now)
+            (V.shown visit.old) (V.shown visit.new) (V.stopped visit.new) result }
         ensures stays { Stays self.old self.new }
     {
         for_each(
@@ -115,7 +119,8 @@ impl<'b> ElfResolver<'b> {
     /// The address of a place in the image's file, by the first loaded segment that holds it (ELF gABI, Program Header);
     /// none where no segment does. Refused by the first mark of header and segments: InvalidData or Unsupported.
     pub fn file_offset_to_virt_offset(&mut self, file_offset: u64) -> Result<Option<u64>>
-        ensures value { Exactly (λ o. o) result (image_address_of self.old.images.main.image file_offset) }
+        ensures value { Exactly (λ o. o) result
+            (image_address_of self.old.images.main.image file_offset) }
         ensures same { self.new ≡ self.old }
     {
         let mut parser = ElfParser::from_mem(self.alloc, self.bundle.image, self.bundle.module);

@@ -32,7 +32,9 @@ fn prepare_units<'b, O: Orders>(
     ensures is_prepared { IfOk result (λ _. ArePrepared debug.new) }
     ensures want { IfErr result (λ e. e.kind ≡ OutOfMemory) }
     ensures stays { ArePrepared debug.old → ArePrepared debug.new }
-    ensures rows { IfOk result (λ _. (unit : ℕ) → unit < unit_count_of (bundle_view bundle.now) (is_some debug.new) → lines_in (units_in debug.new) unit ≡ true) }
+    ensures rows { IfOk result
+        (λ _. (unit : ℕ) → unit < unit_count_of (bundle_view bundle.now) (is_some debug.new)
+        → lines_in (units_in debug.new) unit ≡ true) }
 {
     match debug {
         Some(info) => info.prepare(alloc, orders, bundle),
@@ -45,8 +47,11 @@ impl<'b> ElfResolver<'b> {
     /// OutOfMemory is refused.
     pub fn prepare<O: Orders>(&mut self, alloc: Global, orders: &mut O) -> Result<()>
         ensures is_prepared { IfOk result (λ _. self.new.prepared ≡ true) }
-        ensures refused { IfErr result (λ e. (e.kind ≡ OutOfMemory) × (self.new.prepared ≡ self.old.prepared)) }
-        ensures rows { IfOk result (λ _. (unit : ℕ) → unit < unit_count_of self.new.images (has_debug self.new) → rows_filled self.new unit ≡ true) }
+        ensures refused { IfErr result
+            (λ e. (e.kind ≡ OutOfMemory) × (self.new.prepared ≡ self.old.prepared)) }
+        ensures rows { IfOk result
+            (λ _. (unit : ℕ) → unit < unit_count_of self.new.images (has_debug self.new)
+            → rows_filled self.new unit ≡ true) }
         ensures grows { Grows O.pair_places self.old self.new }
     {
         prepare_units(alloc, orders, &self.bundle, &mut self.debug)?;
@@ -73,9 +78,11 @@ impl<'b> ElfResolver<'b> {
     ) -> Result<Answer<'b>>
         requires is_prepared { self.now.prepared ≡ true }
         requires opts { asks_inlined_fns opts.now ≡ false }
-        ensures value { Exactly answer_view result (answer_of self.now.images (has_debug self.now) addr opts.now) }
+        ensures value { Exactly answer_view result
+            (answer_of self.now.images (has_debug self.now) addr opts.now) }
         ensures kinds { IfErr result (λ e. IsFormatKind e.kind) }
-        ensures cost { asks_code_info opts.now ≡ false → LooksFewIf self.now.images self.now.units addr (steps.new - steps.old) }
+        ensures cost { asks_code_info opts.now ≡ false
+            → LooksFewIf self.now.images self.now.units addr (steps.new - steps.old) }
         ensures later { steps.old ≤ steps.new }
     {
         match &self.debug {

@@ -56,7 +56,8 @@ fn find_sym<'b, O: Orders>(
 ) -> Result<Answer<'b>>
     requires parser { IsOf (asked_file (bundle_view bundle.now) (is_some debug.old)) parser.old }
     requires debug { HasBookIf (bundle_view bundle.now) debug.old }
-    ensures value { Gives answer_view result (answer_of (bundle_view bundle.now) (is_some debug.old) addr opts.now) }
+    ensures value { Gives answer_view result
+        (answer_of (bundle_view bundle.now) (is_some debug.old) addr opts.now) }
     ensures debug { HasBookIf (bundle_view bundle.now) debug.new }
     ensures stay { UnitsStayIf (units_in debug.old) (units_in debug.new) }
     ensures same { parser.new ≡ parser.old }
@@ -121,7 +122,8 @@ impl<'b> ElfResolver<'b> {
         addr: u64,
         opts: &FindSymOpts,
     ) -> Result<Answer<'b>>
-        ensures value { Gives answer_view result (answer_of self.old.images (has_debug self.old) addr opts.now) }
+        ensures value { Gives answer_view result
+            (answer_of self.old.images (has_debug self.old) addr opts.now) }
         ensures stays { Stays self.old self.new }
         ensures kinds { IfErr result (λ e. IsMemoryOrFormat e.kind) }
     {

@@ -27,7 +27,8 @@ pub struct UnitRows<'r, 'b> {
 impl<'r, 'b> UnitRows<'r, 'b> {
     // Some lines with the texts that they name.
     pub(crate) fn with_texts(lines: Option<&'r Lines>, texts: Texts<'b>) -> Option<UnitRows<'r, 'b>>
-        ensures { option_map rows_view result ≡ option_map (λ l. rows_with texts.entry l.now.table) lines.entry }
+        ensures { option_map rows_view result
+            ≡ option_map (λ l. rows_with texts.entry l.now.table) lines.entry }
     {
         match lines {
             Some(lines) => Some(UnitRows { lines, texts }),
@@ -44,7 +45,8 @@ impl<'r, 'b> UnitRows<'r, 'b> {
 
     /// The directory and the name of the file of a number, counted from 0; None exactly where there is no such file.
     pub fn file(&self, index: u64) -> Option<(DirPath<'b>, &'b [u8])>
-        ensures { option_map (λ file. (file.0, file.1.now)) result ≡ slice_get (rows_view self.now).files index }
+        ensures { option_map (λ file. (file.0, file.1.now)) result
+            ≡ slice_get (rows_view self.now).files index }
     {
         self.lines.file(&self.texts, index)
     }
@@ -89,7 +91,8 @@ fn filled_rows<'r, 'b>(
 ) -> Result<Option<UnitRows<'r, 'b>>>
     requires book { HasBookIf (bundle_view bundle.now) debug.now }
     requires filled { lines_in (units_in debug.now) unit ≡ true }
-    ensures { Exactly (λ o. option_map rows_view o) result (rows_of (bundle_view bundle.now) (is_some debug.now) unit) }
+    ensures { Exactly (λ o. option_map rows_view o) result
+        (rows_of (bundle_view bundle.now) (is_some debug.now) unit) }
 {
     match debug {
         Some(info) => info.rows(bundle, unit),
@@ -125,7 +128,8 @@ impl<'b> ElfResolver<'b> {
     /// InvalidDwarf exactly where they have no value; takes no memory.
     pub fn filled_unit_rows(&self, unit: usize) -> Result<Option<UnitRows<'_, 'b>>>
         requires { rows_filled self.now unit ≡ true }
-        ensures { Exactly (λ o. option_map rows_view o) result (rows_of self.now.images (has_debug self.now) unit) }
+        ensures { Exactly (λ o. option_map rows_view o) result
+            (rows_of self.now.images (has_debug self.now) unit) }
     {
         filled_rows(&self.bundle, &self.debug, unit)
     }
@@ -139,7 +143,8 @@ impl<'b> ElfResolver<'b> {
         unit: usize,
     ) -> Result<Option<UnitRows<'_, 'b>>>
         requires { unit < unit_count_of self.old.images (has_debug self.old) }
-        ensures { Gives (λ o. option_map rows_view o) result (rows_of self.old.images (has_debug self.old) unit) }
+        ensures { Gives (λ o. option_map rows_view o) result
+            (rows_of self.old.images (has_debug self.old) unit) }
     {
         self.fill_unit_rows(alloc, orders, unit)?;
         self.filled_unit_rows(unit)

@@ -22,7 +22,8 @@ pub fn symbolize<'b, O: Orders>(
     addrs: &[u64],
     opts: &FindSymOpts,
 ) -> Result<Vec<Answer<'b>>>
-    ensures value { Gives (λ v. map answer_view v.items) result (scan_of (bundle_view bundle.now) addrs.now opts.now) }
+    ensures value { Gives (λ v. map answer_view v.items) result
+        (scan_of (bundle_view bundle.now) addrs.now opts.now) }
     ensures one_each { IfOk result (λ v. length v.items ≡ length addrs.now) }
     ensures kinds { IfErr result (λ e. IsMemoryOrFormat e.kind) }
 {
@@ -37,7 +38,8 @@ fn scanned<'b, O: Orders>(
     addrs: &[u64],
     opts: &FindSymOpts,
 ) -> Result<Vec<Answer<'b>>>
-    ensures value { Gives (λ v. map answer_view v.items) result (scan_of (bundle_view bundle.now) addrs.now opts.now) }
+    ensures value { Gives (λ v. map answer_view v.items) result
+        (scan_of (bundle_view bundle.now) addrs.now opts.now) }
     ensures one_each { IfOk result (λ v. length v.items ≡ length addrs.now) }
 {
     let file = bundle.debug_file();

@@ -99,7 +99,8 @@ fn sup_again<'b>(
     moves: Option<SectionRelocations>,
 ) -> Option<DebugImage<'b>>
     requires { SupFits (option_map companion_view file.now) moves }
-    ensures { if_there sup_image (option_map companion_view file.now) ≡ Good (option_map debug_view result) }
+    ensures { if_there sup_image (option_map companion_view file.now)
+        ≡ Good (option_map debug_view result) }
 {
     let Some(file) = file else {
         return None;
@@ -112,7 +113,8 @@ fn sup_again<'b>(
 
 fn package_again<'b>(alloc: Global, file: &Option<Companion<'b>>) -> Option<Package<'b>>
     requires { IsThere (if_there package_of (option_map companion_view file.now)) }
-    ensures { if_there package_of (option_map companion_view file.now) ≡ Good (option_map package_view result) }
+    ensures { if_there package_of (option_map companion_view file.now)
+        ≡ Good (option_map package_view result) }
 {
     let file = (*file)?;
     let mut parser = ElfParser::from_mem(alloc, file.image, file.module);

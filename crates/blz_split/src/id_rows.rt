@@ -36,7 +36,9 @@ impl IdRows {
     ) -> Result<(), AllocError>
         requires fit { TablesFit (length index.now) tables.now }
         requires there { slot < tables.now.slots }
-        ensures { IfOk result (λ _. (n : ℕ) → HasRows order index.now tables.now n (slot + 1) self.old.rows → HasRows order index.now tables.now (suc n) slot self.new.rows) }
+        ensures { IfOk result
+            (λ _. (n : ℕ) → HasRows order index.now tables.now n (slot + 1) self.old.rows
+            → HasRows order index.now tables.now (suc n) slot self.new.rows) }
     {
         let row = tables.row(order, index, slot);
         if row > 0 {

@@ -209,7 +209,8 @@ impl<'b> Package<'b> {
     fn unit_of_row(&self, tables: &Tables, row: Option<u32>) -> Result<Option<SplitUnit>>
         requires fit { TablesFit (length self.now.index.now) tables.now }
         requires row { IfSome row (λ r. 0 < r) }
-        ensures value { Exactly (λ u. u) result (or_mark (unit_of_row (package_view self.now) tables.now row) InvalidDwarf) }
+        ensures value { Exactly (λ u. u) result
+            (or_mark (unit_of_row (package_view self.now) tables.now row) InvalidDwarf) }
         ensures fit { IfOk result (IfPiecesFit (package_view self.now)) }
     {
         let Some(row) = row else {
@@ -229,7 +230,8 @@ impl<'b> Package<'b> {
     /// contributions lies outside.
     #[tactic(auto, unfolding(crate::specs::PackageParts::split_unit))]
     pub fn find_cu(&self, id: u64) -> Result<Option<SplitUnit>>
-        ensures value { Exactly (λ u. u) result (or_mark (split_unit (package_view self.now) id) InvalidDwarf) }
+        ensures value { Exactly (λ u. u) result
+            (or_mark (split_unit (package_view self.now) id) InvalidDwarf) }
         ensures fit { IfOk result (IfPiecesFit (package_view self.now)) }
     {
         let tables = tables_of(self.order, self.index)?;
@@ -250,7 +252,8 @@ impl<'b> Package<'b> {
     #[tactic(auto, unfolding(crate::specs::PackageParts::split_unit))]
     pub fn find_by(&self, rows: &IdRows, id: u64) -> Result<Option<SplitUnit>>
         requires { AreRowsOf (package_view self.now) rows.now }
-        ensures value { Exactly (λ u. u) result (or_mark (split_unit (package_view self.now) id) InvalidDwarf) }
+        ensures value { Exactly (λ u. u) result
+            (or_mark (split_unit (package_view self.now) id) InvalidDwarf) }
         ensures fit { IfOk result (IfPiecesFit (package_view self.now)) }
     {
         let tables = tables_of(self.order, self.index)?;
@@ -266,7 +269,8 @@ impl<'b> Package<'b> {
         none: &'s RelocationMap,
     ) -> Sections<'s, 'b>
         requires { PiecesFit (package_view self.now) unit.now }
-        ensures { sections_view result ≡ split_sections (package_view self.now) unit.now (sections_view main.now) none.now }
+        ensures { sections_view result
+            ≡ split_sections (package_view self.now) unit.now (sections_view main.now) none.now }
     {
         Sections {
             abbrev: self.section(part_of(self.abbrev, &unit.abbrev), none),
@@ -287,7 +291,8 @@ impl<'b> Package<'b> {
     }
 
     fn section<'s>(&self, bytes: &'b [u8], moves: &'s RelocationMap) -> Section<'s, 'b>
-        ensures { section_view result ≡ record { bytes = bytes.now; moves = moves.now; order = self.now.order } }
+        ensures { section_view result
+            ≡ record { bytes = bytes.now; moves = moves.now; order = self.now.order } }
     {
         Section {
             bytes,

@@ -132,9 +132,11 @@ impl Tables {
     #[tactic(auto, unfolding(crate::specs::Contributions::first_in))]
     fn find_slot(&self, order: ByteOrder, index: &[u8], id: u64) -> Option<usize>
         requires { TablesFit (length index.now) self.now }
-        ensures value { result ≡ first_in (is_slot_of order index.now self.now id) self.now.slots 0 }
+        ensures value { result
+            ≡ first_in (is_slot_of order index.now self.now id) self.now.slots 0 }
         ensures there { IfSome result (λ slot. slot < self.now.slots) }
-        ensures passes { IfSome result (λ slot. is_slot_of order index.now self.now id slot ≡ true) }
+        ensures passes { IfSome result
+            (λ slot. is_slot_of order index.now self.now id slot ≡ true) }
     {
         for slot in 0..self.slots {
             if self.is_slot_of(order, index, id, slot) {
@@ -155,7 +157,8 @@ impl Tables {
     #[tactic(auto, unfolding(crate::specs::Contributions::first_in))]
     fn find_column(&self, order: ByteOrder, index: &[u8], kind: u32) -> Option<usize>
         requires { TablesFit (length index.now) self.now }
-        ensures value { result ≡ first_in (is_column_of order index.now self.now kind) self.now.columns 0 }
+        ensures value { result
+            ≡ first_in (is_column_of order index.now self.now kind) self.now.columns 0 }
         ensures there { IfSome result (λ column. column < self.now.columns) }
     {
         for column in 0..self.columns {

@@ -96,7 +96,8 @@ fn listed_name<'b>(strings: &'b [u8], listed: &[SymbolName], index: usize) -> &'
 
 /// Whether the name at an index is below another.
 fn is_below(strings: &[u8], listed: &[SymbolName], index: usize, name: &[u8]) -> bool
-    ensures { result ≡ is_gt (name_cmp name.now (listed_name (named_in strings.now listed.now) index)) }
+    ensures { result
+        ≡ is_gt (name_cmp name.now (listed_name (named_in strings.now listed.now) index)) }
 {
     name.cmp(listed_name(strings, listed, index)).is_gt()
 }
@@ -118,7 +119,8 @@ fn search<'b>(
     name: &str,
 ) -> Result<Vec<NamedSymbol<'b>>, AllocError>
     requires { AreSorted (named_in strings.now listed.now) places.now }
-    ensures { IfOk result (λ v. map named_view v.items ≡ filter (is_called name.now) (named_in strings.now listed.now)) }
+    ensures { IfOk result (λ v. map named_view v.items
+        ≡ filter (is_called name.now) (named_in strings.now listed.now)) }
 {
     let wanted = Wanted::Called(name);
     let begin = count_below(strings, listed, places, name.as_bytes());
@@ -140,7 +142,8 @@ fn scan<'b>(
     listed: &[SymbolName],
     wanted: &Wanted<'_>,
 ) -> Result<Vec<NamedSymbol<'b>>, AllocError>
-    ensures { IfOk result (λ v. map named_view v.items ≡ filter (passes wanted.now) (named_in strings.now listed.now)) }
+    ensures { IfOk result (λ v. map named_view v.items
+        ≡ filter (passes wanted.now) (named_in strings.now listed.now)) }
 {
     let mut found = Vec::new(alloc);
     for name in listed {
@@ -159,7 +162,9 @@ impl KeptNames {
     ) -> blz_error::Result<KeptNames>
         requires symtab { IfSome symtab (λ t. TableFits image.now t.now) }
         requires table { TableFits image.now table.now }
-        ensures value { Gives (names_view image.now) result (asked_names (option_map (λ t. table_view image.now t.now) symtab.entry) (table_view image.now table.now)) }
+        ensures value { Gives (names_view image.now) result
+            (asked_names (option_map (λ t. table_view image.now t.now) symtab.entry)
+            (table_view image.now table.now)) }
         ensures fits { IfOk result (NamesFit image.now) }
         ensures unasked { IfOk result (λ n. is_asked n.order ≡ false) }
     {
@@ -207,7 +212,8 @@ impl KeptNames {
         wanted: &Wanted<'_>,
     ) -> Result<Vec<NamedSymbol<'b>>, AllocError>
         requires { NamesFit image.now self.now }
-        ensures { IfOk result (λ v. map named_view v.items ≡ filter (passes wanted.now) (names_view image.now self.now)) }
+        ensures { IfOk result (λ v. map named_view v.items
+            ≡ filter (passes wanted.now) (names_view image.now self.now)) }
     {
         let strings = self.strings_in(image);
         match (wanted, &self.order) {

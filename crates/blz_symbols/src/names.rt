@@ -77,8 +77,11 @@ impl Wanted<'_> {
         listed: &mut Vec<NamedSymbol<'b>>,
         named: NamedSymbol<'b>,
     ) -> std::result::Result<(), AllocError>
-        ensures ok { IfOk result (λ _. map named_view listed.new.items ≡ with_named (passes self.now) (map named_view listed.old.items) (named_view named.entry)) }
-        ensures err { IfErr result (λ _. (map named_view listed.new.items ≡ map named_view listed.old.items) × (passes self.now (named_view named.entry) ≡ true)) }
+        ensures ok { IfOk result (λ _. map named_view listed.new.items ≡ with_named
+            (passes self.now) (map named_view listed.old.items) (named_view named.entry)) }
+        ensures err { IfErr result
+            (λ _. (map named_view listed.new.items ≡ map named_view listed.old.items)
+            × (passes self.now (named_view named.entry) ≡ true)) }
     {
         if self.takes(&named) {
             listed.push(named)?;
@@ -107,7 +110,8 @@ fn is_excluded(image: &[u8], symtab: &Table, symbol: &Symbol) -> bool
 /// Whether the name of a symbol is read.
 fn is_asked(image: &[u8], symtab: Option<&Table>, symbol: &Symbol) -> bool
     requires { IfSome symtab (λ t. TableFits image.now t.now) }
-    ensures { result ≡ is_asked (option_map (λ t. table_view image.now t.now) symtab.entry) symbol.now }
+    ensures { result
+        ≡ is_asked (option_map (λ t. table_view image.now t.now) symtab.entry) symbol.now }
 {
     if !symbol.is_typed() {
         return false;
@@ -145,7 +149,9 @@ fn ask_symbol(
     symbol: &Symbol,
 ) -> Result<()>
     requires { IfSome symtab (λ t. TableFits image.now t.now) }
-    ensures { Gives (λ _. named_in strings.now names.new.items) result (with_symbol (is_asked (option_map (λ t. table_view image.now t.now) symtab.entry)) strings.now (named_in strings.now names.old.items) symbol.now) }
+    ensures { Gives (λ _. named_in strings.now names.new.items) result
+        (with_symbol (is_asked (option_map (λ t. table_view image.now t.now) symtab.entry))
+        strings.now (named_in strings.now names.old.items) symbol.now) }
 {
     if !is_asked(image, symtab, symbol) {
         return Ok(());
@@ -163,7 +169,9 @@ pub fn asked_names(
 ) -> Result<Vec<SymbolName>>
     requires symtab { IfSome symtab (λ t. TableFits image.now t.now) }
     requires table { TableFits image.now table.now }
-    ensures { Gives (λ v. named_in (span_in image.now table.now.strings) v.items) result (asked_names (option_map (λ t. table_view image.now t.now) symtab.entry) (table_view image.now table.now)) }
+    ensures { Gives (λ v. named_in (span_in image.now table.now.strings) v.items) result
+        (asked_names (option_map (λ t. table_view image.now t.now) symtab.entry)
+        (table_view image.now table.now)) }
 {
     let symbols = Records::open(image, table.symbols);
     let strings = table.strings_in(image);

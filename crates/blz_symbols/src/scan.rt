@@ -21,7 +21,8 @@ fn answers(symbol: &Symbol, question: &Question, greatest: u64) -> bool
 
 /// The greatest value of the candidates so far, and of one more symbol.
 fn greater(greatest: u64, symbol: &Symbol, addr: u64) -> u64
-    ensures { result ≡ (if is_candidate addr symbol.now then max greatest symbol.now.value else greatest) }
+    ensures { result
+        ≡ (if is_candidate addr symbol.now then max greatest symbol.now.value else greatest) }
 {
     if is_candidate(symbol, addr) {
         greatest.max(symbol.value)

@@ -56,7 +56,8 @@ fn count_below(typed: &[Symbol], places: &[usize], value: u64) -> usize
 /// The symbol that answers a question, by an order.
 fn search(typed: &[Symbol], places: &[usize], question: &Question) -> Option<Symbol>
     requires accepted { IsSearchable typed.now places.now }
-    requires typed { (i : ℕ) → i < length typed.now → is_typed (get_or typed.now i no_symbol) ≡ true }
+    requires typed { (i : ℕ) → i < length typed.now
+        → is_typed (get_or typed.now i no_symbol) ≡ true }
     ensures { result ≡ covering question.now typed.now }
 {
     let end = count_up_to(typed, places, question.addr);

@@ -46,7 +46,8 @@ fn strings_of(image: &[u8], section: Option<Section>) -> Result<Span>
 /// The table of the section of that name, with the strings of another.
 #[tactic(auto, unfolding(blz_image::specs::SymbolTables::table_named))]
 fn table_named(image: &Image<'_>, name: &str, strings_name: &str) -> Result<Table>
-    ensures value { Exactly (table_view image.now.image) result (table_named image.now name.now strings_name.now) }
+    ensures value { Exactly (table_view image.now.image) result
+        (table_named image.now name.now strings_name.now) }
     ensures fits { IfOk result (TableFits image.now.image) }
     ensures unasked { IfOk result (λ t. (t.sorted ≡ None) × (t.asked ≡ false)) }
 {
@@ -117,8 +118,10 @@ impl Table {
         ensures asked { self.new.asked ≡ true }
         ensures before { is_some self.old.sorted ≡ true → self.new.sorted ≡ self.old.sorted }
         ensures first { self.old.asked ≡ false → OnOk result (self.new.sorted ≡ self.old.sorted) }
-        ensures sorted { IfOk result (λ _. self.old.asked ≡ true → is_some self.new.sorted ≡ true) }
-        ensures refused { IfErr result (λ _. (self.old.asked ≡ true) × (self.new.sorted ≡ self.old.sorted)) }
+        ensures sorted { IfOk result
+            (λ _. self.old.asked ≡ true → is_some self.new.sorted ≡ true) }
+        ensures refused { IfErr result
+            (λ _. (self.old.asked ≡ true) × (self.new.sorted ≡ self.old.sorted)) }
     {
         if self.asked {
             return self.sort(alloc, orders, image);

@@ -74,8 +74,10 @@ fn command<'a>(alloc: Global) -> Result<Command<'a>, AllocError>
 /// The matches of the words, of which the first is the program's name. Usage comes only where the simple command does not
 /// take them, and else OutOfMemory.
 pub fn matches_for<'a>(alloc: Global, words: &'a [&'a str]) -> Result<ArgMatches<'a>, Outcome>
-    ensures ok { IfOk result (λ m. rows_of (found_of m) ≡ matches_of tool_app (map (λ w. w.now) words.entry.now)) }
-    ensures err { IfErr result (λ o. (o ≡ Outcome.OutOfMemory) ⊎ ((o ≡ Outcome.Usage) × (takes tool_app (map (λ w. w.now) words.entry.now) ≡ false))) }
+    ensures ok { IfOk result
+        (λ m. rows_of (found_of m) ≡ matches_of tool_app (map (λ w. w.now) words.entry.now)) }
+    ensures err { IfErr result (λ o. (o ≡ Outcome.OutOfMemory)
+        ⊎ ((o ≡ Outcome.Usage) × (takes tool_app (map (λ w. w.now) words.entry.now) ≡ false))) }
 {
     match parsed(alloc, words) {
         Ok(matches) => Ok(matches),
@@ -87,8 +89,10 @@ pub fn matches_for<'a>(alloc: Global, words: &'a [&'a str]) -> Result<ArgMatches
 }
 
 fn parsed<'a>(alloc: Global, words: &'a [&'a str]) -> Result<ArgMatches<'a>, Error>
-    ensures ok { IfOk result (λ m. rows_of (found_of m) ≡ matches_of tool_app (map (λ w. w.now) words.entry.now)) }
-    ensures err { IfErr result (λ e. takes tool_app (map (λ w. w.now) words.entry.now) ≡ true → kind_of e ≡ ErrorKind.OutOfMemory) }
+    ensures ok { IfOk result
+        (λ m. rows_of (found_of m) ≡ matches_of tool_app (map (λ w. w.now) words.entry.now)) }
+    ensures err { IfErr result (λ e. takes tool_app (map (λ w. w.now) words.entry.now) ≡ true
+        → kind_of e ≡ ErrorKind.OutOfMemory) }
 {
     let wanted = command(alloc)?;
     wanted.try_get_matches_from(words)
@@ -122,7 +126,8 @@ fn value<'a>(matches: &ArgMatches<'a>, id: &str) -> Option<&'a str>
 }
 
 fn values<'m, 'a>(matches: &'m ArgMatches<'a>, id: &str) -> Option<&'m [&'a str]>
-    ensures { option_map (λ t. map (λ w. w.now) t.now) result ≡ all_of id.now (rows_of (found_of matches.now)) }
+    ensures { option_map (λ t. map (λ w. w.now) t.now) result
+        ≡ all_of id.now (rows_of (found_of matches.now)) }
 {
     matches.get_strs(id)
 }
@@ -135,8 +140,9 @@ fn choose<'m, 'a>(
     path: Option<&'a str>,
     addrs: Option<&'m [&'a str]>,
 ) -> WordForm<'m, 'a>
-    ensures { form_view result ≡ form_by basic lines (option_map (λ t. t.now) dirs.entry) (option_map (λ t. t.now) demo.entry)
-        (option_map (λ t. t.now) path.entry) (words_in addrs.entry) }
+    ensures { form_view result ≡ form_by basic lines (option_map (λ t. t.now) dirs.entry)
+        (option_map (λ t. t.now) demo.entry) (option_map (λ t. t.now) path.entry)
+        (words_in addrs.entry) }
 {
     match demo {
         Some(number) => {

@@ -64,7 +64,8 @@ fn prepared_tally<O: Orders>(
     n: u32,
 ) -> Result<Tally>
     requires { n ≤ 100000 }
-    ensures { Gives (λ t. t) result (tally_part (all_good (map (answers_of resolver.old.images (has_debug resolver.old) CodeInfo) (asked_addresses n)))) }
+    ensures { Gives (λ t. t) result (tally_part (all_good (map
+        (answers_of resolver.old.images (has_debug resolver.old) CodeInfo) (asked_addresses n)))) }
 {
     resolver.prepare(alloc, orders)?;
     counted::<Brand>(resolver, n, Blank::new(1))
@@ -77,7 +78,8 @@ fn counted<L: Ledger>(resolver: &ElfResolver<'_>, n: u32, blank: Blank) -> Resul
     requires some { 0 < blank.parts }
     requires is_prepared { resolver.now.prepared ≡ true }
     requires few { n ≤ 100000 }
-    ensures { Exactly (λ t. t) result (tally_part (all_good (map (answers_of resolver.now.images (has_debug resolver.now) CodeInfo) (asked_addresses n)))) }
+    ensures { Exactly (λ t. t) result (tally_part (all_good (map
+        (answers_of resolver.now.images (has_debug resolver.now) CodeInfo) (asked_addresses n)))) }
 {
     let mut steps: Steps<L> = Steps::new(blank);
     let mut tally = Tally::new();

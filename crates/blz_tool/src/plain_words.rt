@@ -27,7 +27,8 @@ fn are_plain(words: &[&str]) -> bool
 /// The form of the program's name and words after it of which none begins with a hyphen; None where one does, or where
 /// there is none.
 pub fn plain_form<'m, 'a>(given: &'m [&'a str]) -> Option<WordForm<'m, 'a>>
-    ensures { IfSome result (λ form. form_view form ≡ form_of (matches_of tool_app (map (λ w. w.now) given.entry.now))) }
+    ensures { IfSome result (λ form. form_view form
+        ≡ form_of (matches_of tool_app (map (λ w. w.now) given.entry.now))) }
 {
     match given {
         [_, path, addrs @ ..] if is_plain(path) && are_plain(addrs) => Some(WordForm::Lookup(

@@ -55,8 +55,8 @@ pub fn run<F: Files, O: Orders, S: Sink, E: Sink>(
 
     // Where the simple command takes the words, the contents are told and nothing counted a fault, a text gives 0 and a
     // mark 1, or there was no memory.
-    ensures complete { is_taken (map string_bytes words.now) ≡ true → IsKnown (F.contents files.old)
-        (λ c. found_for c (asked (map string_bytes words.now)))
+    ensures complete { is_taken (map string_bytes words.now) ≡ true
+        → IsKnown (F.contents files.old) (λ c. found_for c (asked (map string_bytes words.now)))
         (Rose (F.faults files.old) (F.faults files.new))
         (Rose (S.faults out.old) (S.faults out.new)) result }
 
@@ -80,7 +80,8 @@ pub fn run<F: Files, O: Orders, S: Sink, E: Sink>(
 
 // Puts the program's name before the words, which `clap` takes for it.
 fn named_words<'w>(alloc: Global, words: &'w [String]) -> Result<Vec<&'w str>, AllocError>
-    ensures { IfOk result (λ v. map (λ w. w.now) v.items ≡ named (map string_bytes words.entry.now)) }
+    ensures { IfOk result
+        (λ v. map (λ w. w.now) v.items ≡ named (map string_bytes words.entry.now)) }
 {
     let mut given = Vec::with_capacity(alloc, words.len() + 1)?;
     given.push("blz_tool")?;
@@ -199,7 +200,8 @@ fn answers_text<O: Orders>(
     bundle: &OwnedBundle,
     question: &Question<'_>,
 ) -> blz_error::Result<Vec<u8>>
-    ensures value { Gives (λ v. v.items) result (text_for (question_view question.now) bundle.now) }
+    ensures value { Gives (λ v. v.items) result
+        (text_for (question_view question.now) bundle.now) }
     ensures kinds { IfErr result (λ e. IsMemoryOrFormat e.kind) }
 {
     let bundle = bundle.bundle();

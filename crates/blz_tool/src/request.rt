@@ -41,9 +41,11 @@ pub enum Request<'a> {
 /// What the program's name and the words after it ask for, or None where they are not of their form. Usage comes only where
 /// the simple command does not take them, and else OutOfMemory.
 pub fn request_in<'a>(alloc: Global, given: &'a [&'a str]) -> Result<Option<Request<'a>>, Outcome>
-    ensures value { IfOk result (λ request. request_view request ≡ asked_named (map (λ w. w.now) given.entry.now)) }
+    ensures value { IfOk result
+        (λ request. request_view request ≡ asked_named (map (λ w. w.now) given.entry.now)) }
     ensures few { IfOk result (λ request. IsFew request) }
-    ensures refused { IfErr result (λ o. (o ≡ Outcome.OutOfMemory) ⊎ ((o ≡ Outcome.Usage) × (takes tool_app (map (λ w. w.now) given.entry.now) ≡ false))) }
+    ensures refused { IfErr result (λ o. (o ≡ Outcome.OutOfMemory)
+        ⊎ ((o ≡ Outcome.Usage) × (takes tool_app (map (λ w. w.now) given.entry.now) ≡ false))) }
 {
     if let Some(form) = plain_form(given) {
         return request_by(alloc, &form);
@@ -103,7 +105,8 @@ fn demo_of<'a>(number: &str) -> Option<Request<'a>>
 
 // The address of each word, or None where a word is none.
 fn addresses(alloc: Global, words: Option<&[&str]>) -> Result<Option<Vec<u64>>, AllocError>
-    ensures { IfOk result (λ r. option_map (λ v. v.items) r ≡ each_address (words_in words.entry)) }
+    ensures { IfOk result
+        (λ r. option_map (λ v. v.items) r ≡ each_address (words_in words.entry)) }
 {
     match words {
         Some(words) => addresses_in(alloc, words),
@@ -112,7 +115,8 @@ fn addresses(alloc: Global, words: Option<&[&str]>) -> Result<Option<Vec<u64>>, 
 }
 
 fn addresses_in(alloc: Global, words: &[&str]) -> Result<Option<Vec<u64>>, AllocError>
-    ensures { IfOk result (λ r. option_map (λ v. v.items) r ≡ each_address (map (λ w. w.now) words.now)) }
+    ensures { IfOk result
+        (λ r. option_map (λ v. v.items) r ≡ each_address (map (λ w. w.now) words.now)) }
 {
     let mut addrs = Vec::with_capacity(alloc, words.len())?;
     for word in words {
@@ -125,7 +129,8 @@ fn addresses_in(alloc: Global, words: &[&str]) -> Result<Option<Vec<u64>>, Alloc
 }
 
 fn dirs_given(alloc: Global, list: Option<&str>) -> Result<Option<Vec<String>>, AllocError>
-    ensures { IfOk result (λ dirs. option_map (λ dirs. map string_bytes dirs.items) dirs ≡ option_map dirs_in (option_map (λ t. t.now) list.entry)) }
+    ensures { IfOk result (λ dirs. option_map (λ dirs. map string_bytes dirs.items) dirs
+        ≡ option_map dirs_in (option_map (λ t. t.now) list.entry)) }
 {
     match list {
         Some(list) => Ok(Some(dirs_in(alloc, list)?)),
@@ -151,7 +156,8 @@ fn dirs_in(alloc: Global, list: &str) -> Result<Vec<String>, AllocError>
 // What stands before the first colon, and what follows it.
 fn first_dir(list: &str) -> Option<(&str, &str)>
     ensures none { IfNone result (list.now ≡ []) }
-    ensures some { IfSome result (λ pair. pieces_of 58 list.now ≡ pair.0.now ∷ pieces_of 58 pair.1.now) }
+    ensures some { IfSome result
+        (λ pair. pieces_of 58 list.now ≡ pair.0.now ∷ pieces_of 58 pair.1.now) }
     ensures shorter { IfSome result (λ pair. length pair.1.now < length list.now) }
 {
     if list.is_empty() {

@@ -24,7 +24,8 @@ pub fn text(alloc: Global, addrs: &[u64], answers: &[Answer<'_>]) -> Result<Vec<
 }
 
 fn push_line(out: &mut Vec<u8>, addr: u64, answer: &Answer<'_>) -> Result<(), AllocError>
-    ensures { OnOk result (out.new.items ≡ out.old.items ++ line_of addr (answer_view answer.now)) }
+    ensures { OnOk result
+        (out.new.items ≡ out.old.items ++ line_of addr (answer_view answer.now)) }
 {
     push_hex(out, addr)?;
     out.push(b' ')?;
@@ -69,7 +70,8 @@ fn push_name(out: &mut Vec<u8>, name: &str) -> Result<(), AllocError>
 }
 
 fn push_calls(out: &mut Vec<u8>, calls: &[InlinedFn<'_>]) -> Result<(), AllocError>
-    ensures { OnOk result (out.new.items ≡ out.old.items ++ calls_text (map inlined_view calls.now)) }
+    ensures { OnOk result
+        (out.new.items ≡ out.old.items ++ calls_text (map inlined_view calls.now)) }
 {
     for call in calls {
         push_call(out, call)?;
@@ -89,7 +91,8 @@ fn push_call(out: &mut Vec<u8>, call: &InlinedFn<'_>) -> Result<(), AllocError>
 
 // Where it stands in a source, where that is known.
 fn push_place(out: &mut Vec<u8>, place: &Option<CodeInfo<'_>>) -> Result<(), AllocError>
-    ensures { OnOk result (out.new.items ≡ out.old.items ++ place_text (option_map site_view place.now)) }
+    ensures { OnOk result
+        (out.new.items ≡ out.old.items ++ place_text (option_map site_view place.now)) }
 {
     match place {
         Some(info) => {

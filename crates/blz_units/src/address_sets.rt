@@ -49,7 +49,8 @@ fn sorted_by_unit(
     alloc: Global,
     sets: &[ArangeSet],
 ) -> std::result::Result<Option<Vec<ArangeSet>>, AllocError>
-    ensures { IfOk result (λ r. IsByUnit sets.now (unwrap_or (option_map (λ sorted. sorted.items) r) sets.now)) }
+    ensures { IfOk result
+        (λ r. IsByUnit sets.now (unwrap_or (option_map (λ sorted. sorted.items) r) sets.now)) }
 {
     if are_rising(sets) {
         return Ok(None);
@@ -79,7 +80,8 @@ fn append_pairs(
     set: ArangeSet,
     out: &mut Vec<Span>,
 ) -> std::result::Result<(), AllocError>
-    ensures { OnOk result (out.new.items ≡ out.old.items ++ pairs_of (section_view aranges.now) set) }
+    ensures { OnOk result
+        (out.new.items ≡ out.old.items ++ pairs_of (section_view aranges.now) set) }
 {
     let mut set = set;
     while let Some(span) = set.next_range(aranges) {
@@ -97,7 +99,8 @@ fn append_for(
     set: ArangeSet,
     out: &mut Vec<Span>,
 ) -> std::result::Result<(), AllocError>
-    ensures { OnOk result (out.new.items ≡ out.old.items ++ ranges_for (section_view aranges.now) start set) }
+    ensures { OnOk result
+        (out.new.items ≡ out.old.items ++ ranges_for (section_view aranges.now) start set) }
 {
     if set.unit == start {
         return append_pairs(room, aranges, set, out);
@@ -113,7 +116,8 @@ fn append_named(
     start: u64,
     out: &mut Vec<Span>,
 ) -> std::result::Result<(), AllocError>
-    ensures { OnOk result (out.new.items ≡ out.old.items ++ named (section_view aranges.now) start sets.now) }
+    ensures { OnOk result
+        (out.new.items ≡ out.old.items ++ named (section_view aranges.now) start sets.now) }
 {
     for set in sets {
         append_for(room, aranges, start, *set, out)?;
@@ -141,7 +145,8 @@ fn append_within(
     out: &mut Vec<Span>,
 ) -> std::result::Result<(), AllocError>
     requires { IsExtent start sets.now extent.0 extent.1 }
-    ensures { OnOk result (out.new.items ≡ out.old.items ++ named (section_view aranges.now) start sets.now) }
+    ensures { OnOk result
+        (out.new.items ≡ out.old.items ++ named (section_view aranges.now) start sets.now) }
 {
     let (from, to) = extent;
     append_named(room, &sets[from..to], aranges, start, out)
@@ -176,7 +181,8 @@ impl AddressSets {
         start: usize,
         out: &mut Vec<Span>,
     ) -> std::result::Result<(), AllocError>
-        ensures { OnOk result (out.new.items ≡ out.old.items ++ named (section_view aranges.now) start self.now) }
+        ensures { OnOk result
+            (out.new.items ≡ out.old.items ++ named (section_view aranges.now) start self.now) }
     {
         let start = start as u64;
         let sets = self.by_unit();

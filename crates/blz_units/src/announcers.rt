@@ -96,7 +96,8 @@ impl<'u> Announcers<'u> {
     pub(crate) fn next_unit<L: Ledger>(&mut self, steps: &mut Steps<L>) -> Option<usize>
         ensures unit { result ≡ slice_get self.old.left 0 }
         ensures left { self.new ≡ record self.old { left = drop 1 self.old.left; fresh = false } }
-        ensures cost { self.old.fresh ≡ true → TakesFew self.old.announced (steps.new - steps.old) }
+        ensures cost { self.old.fresh ≡ true
+            → TakesFew self.old.announced (steps.new - steps.old) }
         ensures later { steps.old ≤ steps.new }
     {
         let place = next_place(self.announced, self.addr, self.turn, steps);

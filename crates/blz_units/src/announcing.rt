@@ -93,7 +93,8 @@ fn lines_of(
     unit: &OpenUnit<'_, '_>,
 ) -> Result<Option<Lines>>
     requires { AreShared (open_view unit.now).sections shared.old }
-    ensures value { Gives (λ lines. option_map (λ (l : OrderedLines). l.table) lines) result (or_invalid (lines_in (open_view unit.now))) }
+    ensures value { Gives (λ lines. option_map (λ (l : OrderedLines). l.table) lines) result
+        (or_invalid (lines_in (open_view unit.now))) }
     ensures shared { AreShared (open_view unit.now).sections shared.new }
 {
     shared.lines(
@@ -115,7 +116,9 @@ fn append_lines(
     out: &mut Vec<Span>,
 ) -> Result<()>
     requires { AreShared (open_view unit.now).sections shared.old }
-    ensures value { MatchResult result (λ _. out.new.items ≡ out.old.items ++ sequences_of (lines_in (open_view unit.now))) (λ e. e.kind ≡ OutOfMemory) }
+    ensures value { MatchResult result
+        (λ _. out.new.items ≡ out.old.items ++ sequences_of (lines_in (open_view unit.now)))
+        (λ e. e.kind ≡ OutOfMemory) }
     ensures shared { AreShared (open_view unit.now).sections shared.new }
 {
     match lines_of(alloc, room, shared, unit) {
@@ -137,7 +140,8 @@ fn append_root(
     out: &mut Vec<Span>,
 ) -> Result<()>
     requires { AreShared (open_view unit.now).sections shared.old }
-    ensures value { Gives (λ _. out.new.items) result (or_invalid (root_behind (open_view unit.now) out.old.items)) }
+    ensures value { Gives (λ _. out.new.items) result
+        (or_invalid (root_behind (open_view unit.now) out.old.items)) }
     ensures shared { AreShared (open_view unit.now).sections shared.new }
 {
     if unit.append_ranges(room, &unit.root.ranges, out)? {
@@ -159,7 +163,8 @@ fn append_unit(
     requires fits { BuiltFits (files_view dwarf.now) unit.now }
     requires main { unit.now.origin ≡ Main }
     requires shared { AreShared (files_view dwarf.now).main shared.old }
-    ensures value { Gives (λ _. out.new.items) result (or_invalid (root_behind (built_view (files_view dwarf.now) unit.now) out.old.items)) }
+    ensures value { Gives (λ _. out.new.items) result
+        (or_invalid (root_behind (built_view (files_view dwarf.now) unit.now) out.old.items)) }
     ensures shared { AreShared (files_view dwarf.now).main shared.new }
 {
     append_root(alloc, room, shared, &unit.open(dwarf), out)
@@ -168,7 +173,8 @@ fn append_unit(
 /// What is kept of a unit that was built: nothing where its functions may stand in a package.
 fn kept_of(dwarf: &Dwarf<'_, '_>, header: &UnitHeader, unit: BuiltUnit) -> Cache<BuiltUnit>
     requires fits { BuiltFits (files_view dwarf.now) unit }
-    requires is { or_invalid (built (files_view dwarf.now).main header.now) ≡ Good (built_view (files_view dwarf.now) unit) }
+    requires is { or_invalid (built (files_view dwarf.now).main header.now)
+        ≡ Good (built_view (files_view dwarf.now) unit) }
     ensures { IsPartOf (files_view dwarf.now) header.now result }
 {
     if may_be_split(dwarf, header) {
@@ -190,7 +196,8 @@ fn append_built(
     requires readable { IsReadable dwarf.now }
     requires in_place { IsInPlace header.now }
     requires shared { AreShared (files_view dwarf.now).main shared.old }
-    ensures value { Gives (λ kept. (out.new.items, is_some kept)) result (or_invalid (added_to out.old.items (by_root (built (files_view dwarf.now).main header.now)))) }
+    ensures value { Gives (λ kept. (out.new.items, is_some kept)) result (or_invalid
+        (added_to out.old.items (by_root (built (files_view dwarf.now).main header.now)))) }
     ensures part { IfOk result (λ kept. IfSome kept (IsPartOf (files_view dwarf.now) header.now)) }
     ensures shared { AreShared (files_view dwarf.now).main shared.new }
 {
@@ -220,7 +227,8 @@ pub fn append_announced(
     requires readable { IsReadable dwarf.now }
     requires in_place { IsInPlace header.now }
     requires shared { AreShared (files_view dwarf.now).main shared.old }
-    ensures value { Gives (λ kept. (out.new.items, is_some kept)) result (or_invalid (added_to out.old.items (announces (files_view dwarf.now).main sets.now header.now))) }
+    ensures value { Gives (λ kept. (out.new.items, is_some kept)) result (or_invalid
+        (added_to out.old.items (announces (files_view dwarf.now).main sets.now header.now))) }
     ensures part { IfOk result (λ kept. IfSome kept (IsPartOf (files_view dwarf.now) header.now)) }
     ensures shared { AreShared (files_view dwarf.now).main shared.new }
 {

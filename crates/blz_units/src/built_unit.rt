@@ -49,7 +49,8 @@ fn has_id(kind: UnitKind) -> bool
 #[tactic(auto, unfolding(crate::specs::BuiltUnits::reading, crate::specs::BuiltUnits::pieces_of))]
 pub fn may_be_split(dwarf: &Dwarf<'_, '_>, header: &UnitHeader) -> bool
     ensures value { result ≡ has_id header.now.kind && is_some dwarf.now.package }
-    ensures whole { result ≡ false → reading (files_view dwarf.now) header.now ≡ built (files_view dwarf.now).main header.now }
+    ensures whole { result ≡ false → reading (files_view dwarf.now) header.now
+        ≡ built (files_view dwarf.now).main header.now }
 {
     match header.kind {
         UnitKind::Skeleton | UnitKind::SplitCompile => dwarf.package.is_some(),
@@ -67,7 +68,8 @@ fn check_lines(
     line: Option<u64>,
 ) -> Result<()>
     requires { AreShared (sections_view sections.now) shared.old }
-    ensures value { Gives (λ _. tt) result (or_invalid (has_lines (sections_view sections.now) header.now line)) }
+    ensures value { Gives (λ _. tt) result
+        (or_invalid (has_lines (sections_view sections.now) header.now line)) }
     ensures shared { AreShared (sections_view sections.now) shared.new }
 {
     match line {
@@ -79,7 +81,8 @@ fn check_lines(
 /// The header of the first unit of a section, which has to be there.
 #[tactic(auto, unfolding(crate::specs::BuiltUnits::first_unit))]
 fn first_header(sections: &Sections<'_, '_>) -> Result<UnitHeader>
-    ensures value { Exactly (λ h. h) result (or_invalid (first_unit (sections_view sections.now))) }
+    ensures value { Exactly (λ h. h) result
+        (or_invalid (first_unit (sections_view sections.now))) }
     ensures ordered { IfOk result (λ h. h.entries ≤ h.end) }
 {
     let mut headers = UnitHeaders::new(sections.info);
@@ -96,7 +99,8 @@ fn parse_root(
     abbreviations: &Abbreviations,
 ) -> Result<UnitRoot>
     requires { sections.now.shift + length sections.now.info.bytes.now < 2 ^ 64 }
-    ensures { Exactly (λ r. r) result (or_invalid (root_of (lying (sections_view sections.now)) header.now abbreviations.now)) }
+    ensures { Exactly (λ r. r) result
+        (or_invalid (root_of (lying (sections_view sections.now)) header.now abbreviations.now)) }
 {
     UnitRoot::parse(sections, header, abbreviations)
 }
@@ -109,7 +113,8 @@ fn root_of(
     abbreviations: &Abbreviations,
 ) -> Result<UnitRoot>
     requires { sections.now.shift + length sections.now.info.bytes.now < 2 ^ 64 }
-    ensures { Gives (λ r. r) result (or_invalid (root_of (lying (sections_view sections.now)) header.now abbreviations.now)) }
+    ensures { Gives (λ r. r) result
+        (or_invalid (root_of (lying (sections_view sections.now)) header.now abbreviations.now)) }
 {
     room.take(attribute_words(sections, header, abbreviations))?;
     match parse_root(sections, header, abbreviations) {
@@ -135,7 +140,9 @@ fn read(
 ) -> Result<(Arc<Abbreviations>, UnitRoot)>
     requires fits { sections.now.shift + length sections.now.info.bytes.now < 2 ^ 64 }
     requires shared { AreShared (sections_view sections.now) shared.old }
-    ensures value { Gives (λ r. parts_of (sections_view sections.now) header.now (arc_value r.0, r.1)) result (or_invalid (built (sections_view sections.now) header.now)) }
+    ensures value { Gives
+        (λ r. parts_of (sections_view sections.now) header.now (arc_value r.0, r.1)) result
+        (or_invalid (built (sections_view sections.now) header.now)) }
     ensures shared { AreShared (sections_view sections.now) shared.new }
 {
     let abbreviations = shared.table(alloc, room, sections, header)?;
@@ -153,8 +160,10 @@ fn pieces_of(
     header: &UnitHeader,
 ) -> Result<Option<SplitUnit>>
     requires { IsPackageShared (files_view dwarf.now) packed.old }
-    ensures value { Gives (λ p. p) result (or_invalid (pieces_of (files_view dwarf.now) header.now)) }
-    ensures inside { IfOk result (λ o. IfSome o (λ p. IsInside (files_view dwarf.now).«package» (Split p))) }
+    ensures value { Gives (λ p. p) result
+        (or_invalid (pieces_of (files_view dwarf.now) header.now)) }
+    ensures inside { IfOk result
+        (λ o. IfSome o (λ p. IsInside (files_view dwarf.now).«package» (Split p))) }
     ensures packed { IsPackageShared (files_view dwarf.now) packed.new }
 {
     if !has_id(header.kind) {
@@ -193,7 +202,8 @@ impl BuiltUnit {
         requires inside { IsInside (files_view dwarf.now).«package» origin }
         requires ordered { header.now.entries ≤ header.now.end }
         requires shared { AreShared (sections_from (files_view dwarf.now) origin) shared.old }
-        ensures value { Gives (built_view (files_view dwarf.now)) result (or_invalid (built (sections_from (files_view dwarf.now) origin) header.now)) }
+        ensures value { Gives (built_view (files_view dwarf.now)) result
+            (or_invalid (built (sections_from (files_view dwarf.now) origin) header.now)) }
         ensures fits { IfOk result (BuiltFits (files_view dwarf.now)) }
         ensures origin { IfOk result (λ u. u.origin ≡ origin) }
         ensures shared { AreShared (sections_from (files_view dwarf.now) origin) shared.new }
@@ -232,7 +242,8 @@ impl BuiltUnit {
     ) -> Result<BuiltUnit>
         requires readable { IsReadable dwarf.now }
         requires inside { IsInside (files_view dwarf.now).«package» (Split pieces) }
-        ensures value { Gives (built_view (files_view dwarf.now)) result (or_invalid (split_built (sections_from (files_view dwarf.now) (Split pieces)) main.now)) }
+        ensures value { Gives (built_view (files_view dwarf.now)) result (or_invalid
+            (split_built (sections_from (files_view dwarf.now) (Split pieces)) main.now)) }
         ensures fits { IfOk result (BuiltFits (files_view dwarf.now)) }
     {
         let origin = Origin::Split(pieces);
@@ -258,7 +269,8 @@ impl BuiltUnit {
         requires ordered { header.now.entries ≤ header.now.end }
         requires shared { AreShared (files_view dwarf.now).main shared.old }
         requires packed { IsPackageShared (files_view dwarf.now) packed.old }
-        ensures value { Gives (built_view (files_view dwarf.now)) result (or_invalid (reading (files_view dwarf.now) header.now)) }
+        ensures value { Gives (built_view (files_view dwarf.now)) result
+            (or_invalid (reading (files_view dwarf.now) header.now)) }
         ensures fits { IfOk result (BuiltFits (files_view dwarf.now)) }
         ensures shared { AreShared (files_view dwarf.now).main shared.new }
         ensures packed { IsPackageShared (files_view dwarf.now) packed.new }

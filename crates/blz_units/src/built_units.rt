@@ -103,7 +103,8 @@ pub fn look<'u, 'b>(
     requires readable { IsReadable dwarf.now }
     requires fits { AllBuilt (files_view dwarf.now) side units.now caches.now }
     requires filled { IsFilled (slice_get caches.now number) }
-    ensures value { Exactly open_view result (or_invalid (unit_of (files_view dwarf.now) side units.now number)) }
+    ensures value { Exactly open_view result
+        (or_invalid (unit_of (files_view dwarf.now) side units.now number)) }
     ensures opened { IfOk result CanBeOpened }
 {
     match caches.get(number) {

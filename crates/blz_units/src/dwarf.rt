@@ -61,7 +61,8 @@ fn strings_in<'u, 's, 'b>(strings: &'u Option<Section<'s, 'b>>) -> Option<Sectio
 /// Sections for as long as they are lent.
 fn sections_in<'u, 's, 'b>(sections: &'u Sections<'s, 'b>) -> Sections<'u, 'b>
     ensures view { sections_view result ≡ sections_view sections.now }
-    ensures end { result.shift + length result.info.bytes.now ≡ sections.now.shift + length sections.now.info.bytes.now }
+    ensures end { result.shift + length result.info.bytes.now
+        ≡ sections.now.shift + length sections.now.info.bytes.now }
 {
     Sections {
         abbrev: section_in(&sections.abbrev),
@@ -89,7 +90,8 @@ fn sections_of<'s, 'b>(
     none: &'s RelocationMap,
 ) -> Sections<'s, 'b>
     requires { PiecesFit (package_view parts.now) pieces.now }
-    ensures view { sections_view result ≡ split_sections (package_view parts.now) pieces.now (sections_view main.now) none.now }
+    ensures view { sections_view result
+        ≡ split_sections (package_view parts.now) pieces.now (sections_view main.now) none.now }
     ensures fits { result.shift + length result.info.bytes.now < 2 ^ 64 }
 {
     let whole = parts.info();

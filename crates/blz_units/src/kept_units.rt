@@ -88,7 +88,8 @@ impl KeptUnits {
         requires in_place { IsInPlace header }
         requires behind { EndBefore self.kept header.start }
         requires fits { SideFits (files_view dwarf.now) File self.kept built.old }
-        ensures value { Gives (λ k. k) result (or_invalid (with_unit (files_view dwarf.now).main sets.now self header)) }
+        ensures value { Gives (λ k. k) result
+            (or_invalid (with_unit (files_view dwarf.now).main sets.now self header)) }
         ensures behind { IfOk result (λ k. EndBefore k.kept header.end) }
         ensures fits { IfOk result (λ k. SideFits (files_view dwarf.now) File k.kept built.new) }
     {
@@ -123,7 +124,8 @@ impl KeptUnits {
         sets: &AddressSets,
     ) -> Result<(KeptUnits, SideUnits)>
         requires { IsReadable dwarf.now }
-        ensures value { Gives (λ r. r.0) result (or_invalid (units_kept (files_view dwarf.now).main sets.now)) }
+        ensures value { Gives (λ r. r.0) result
+            (or_invalid (units_kept (files_view dwarf.now).main sets.now)) }
         ensures fits { IfOk result (λ r. SideFits (files_view dwarf.now) File r.0.kept r.1) }
     {
         let mut headers = UnitHeaders::new(dwarf.main.info);

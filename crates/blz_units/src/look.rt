@@ -124,7 +124,8 @@ pub fn language_of(units: &[UnitCaches], number: usize) -> Result<SrcLang>
 /// The number of the function whose range is the best that covers an address.
 fn best_function<L: Ledger>(functions: &Functions, addr: u64, steps: &mut Steps<L>) -> Option<usize>
     ensures best { result ≡ best_owner functions.now.ranges addr }
-    ensures cost { functions.now.ordered ≡ true → AreApart (items_of functions.now.ranges) → 2 ^ (steps.new - steps.old) ≤ 4 * (2 * length functions.now.ranges + 1) }
+    ensures cost { functions.now.ordered ≡ true → AreApart (items_of functions.now.ranges)
+        → 2 ^ (steps.new - steps.old) ≤ 4 * (2 * length functions.now.ranges + 1) }
     ensures later { steps.old ≤ steps.new }
 {
     match functions.find_address(addr, steps) {
@@ -141,7 +142,10 @@ pub fn function_at<L: Ledger>(
     steps: &mut Steps<L>,
 ) -> Result<Option<usize>>
     ensures value { Repeats (λ n. n) result (kept_best units.now addr number) }
-    ensures cost { has_order (functions_at units.now number) ≡ true → AreApart (items_of (ranges_in (functions_at units.now number))) → 2 ^ (steps.new - steps.old) ≤ 4 * (2 * length (ranges_in (functions_at units.now number)) + 1) }
+    ensures cost { has_order (functions_at units.now number) ≡ true
+        → AreApart (items_of (ranges_in (functions_at units.now number)))
+        → 2 ^ (steps.new - steps.old)
+        ≤ 4 * (2 * length (ranges_in (functions_at units.now number)) + 1) }
     ensures later { steps.old ≤ steps.new }
 {
     match functions_of(units, number) {
@@ -168,7 +172,8 @@ pub fn location_at<'b>(
     number: usize,
     addr: u64,
 ) -> Result<Option<Location<'b>>>
-    ensures { Repeats (λ o. option_map location_view o) result (kept_line texts.now units.now addr number) }
+    ensures { Repeats (λ o. option_map location_view o) result
+        (kept_line texts.now units.now addr number) }
 {
     match lines_of(units, number)? {
         Some(lines) => lines.find_location(texts, addr),
@@ -235,7 +240,8 @@ pub fn site_at<'b>(
     call: &InlinedFunction,
     file: u64,
 ) -> Result<Option<Location<'b>>>
-    ensures { Repeats (λ o. option_map location_view o) result (kept_site texts.now units.now number call.now file) }
+    ensures { Repeats (λ o. option_map location_view o) result
+        (kept_site texts.now units.now number call.now file) }
 {
     let Some(lines) = lines_of(units, number)? else {
         return Ok(None);

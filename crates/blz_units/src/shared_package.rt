@@ -56,7 +56,8 @@ impl SharedPackage {
         id: u64,
     ) -> Result<Option<SplitUnit>>
         requires { AreRows (package_view parts.now) self.old.rows }
-        ensures value { Gives (λ p. p) result (or_invalid (split_unit (package_view parts.now) id)) }
+        ensures value { Gives (λ p. p) result
+            (or_invalid (split_unit (package_view parts.now) id)) }
         ensures fit { IfOk result (IfPiecesFit (package_view parts.now)) }
         ensures rows { AreRows (package_view parts.now) self.new.rows }
     {

@@ -53,7 +53,8 @@ fn read_table(
     sections: &Sections<'_, '_>,
     header: &UnitHeader,
 ) -> Result<Arc<Abbreviations>>
-    ensures { Gives arc_value result (or_invalid (abbreviations (sections_view sections.now).«abbrev».bytes header.now.«abbrev»)) }
+    ensures { Gives arc_value result (or_invalid
+        (abbreviations (sections_view sections.now).«abbrev».bytes header.now.«abbrev»)) }
 {
     let table = Abbreviations::parse_for(
         alloc,
@@ -73,7 +74,8 @@ fn read_header(
     at: u64,
     address_size: u8,
 ) -> Result<()>
-    ensures { Gives (λ _. tt) result (or_invalid (line_header (sections_view sections.now) at address_size)) }
+    ensures { Gives (λ _. tt) result
+        (or_invalid (line_header (sections_view sections.now) at address_size)) }
 {
     LineHeader::parse_within(alloc, room, sections, at, address_size)?;
     Ok(())
@@ -112,7 +114,8 @@ impl SharedParts {
         table: &Arc<Abbreviations>,
     ) -> std::result::Result<(), AllocError>
         requires shared { AreShared (sections_view sections.now) self.old }
-        requires table { abbreviations (sections_view sections.now).«abbrev».bytes header.now.«abbrev» ≡ Some (arc_value table.now) }
+        requires table { abbreviations (sections_view sections.now).«abbrev».bytes
+            header.now.«abbrev» ≡ Some (arc_value table.now) }
         ensures { AreShared (sections_view sections.now) self.new }
     {
         let table = Arc::try_clone(table)?;
@@ -129,7 +132,8 @@ impl SharedParts {
         header: &UnitHeader,
     ) -> Result<Arc<Abbreviations>>
         requires { AreShared (sections_view sections.now) self.old }
-        ensures value { Gives arc_value result (or_invalid (abbreviations (sections_view sections.now).«abbrev».bytes header.now.«abbrev»)) }
+        ensures value { Gives arc_value result (or_invalid
+            (abbreviations (sections_view sections.now).«abbrev».bytes header.now.«abbrev»)) }
         ensures shared { AreShared (sections_view sections.now) self.new }
     {
         let table = read_table(alloc, room, sections, header)?;
@@ -146,7 +150,8 @@ impl SharedParts {
         header: &UnitHeader,
     ) -> Result<Arc<Abbreviations>>
         requires { AreShared (sections_view sections.now) self.old }
-        ensures value { Gives arc_value result (or_invalid (abbreviations (sections_view sections.now).«abbrev».bytes header.now.«abbrev»)) }
+        ensures value { Gives arc_value result (or_invalid
+            (abbreviations (sections_view sections.now).«abbrev».bytes header.now.«abbrev»)) }
         ensures shared { AreShared (sections_view sections.now) self.new }
     {
         let kept = self.kept_table(header)?;
@@ -192,7 +197,8 @@ impl SharedParts {
         address_size: u8,
     ) -> Result<()>
         requires { AreShared (sections_view sections.now) self.old }
-        ensures value { Gives (λ _. tt) result (or_invalid (line_header (sections_view sections.now) at address_size)) }
+        ensures value { Gives (λ _. tt) result
+            (or_invalid (line_header (sections_view sections.now) at address_size)) }
         ensures shared { AreShared (sections_view sections.now) self.new }
     {
         if self.has_header(at, address_size) {
@@ -215,8 +221,10 @@ impl SharedParts {
         root: &UnitRoot,
     ) -> Result<Option<Lines>>
         requires { AreShared (sections_view sections.now) self.old }
-        ensures value { Gives (λ lines. option_map (λ (l : OrderedLines). l.table) lines) result (lines_of sections.now header.now root.now) }
-        ensures accepted { IfOk result (λ lines. IfSome lines (λ (l : OrderedLines). IsAccepted O.pair_places (map begin_key (spans_of l.table.sequences)) l.ordered)) }
+        ensures value { Gives (λ lines. option_map (λ (l : OrderedLines). l.table) lines) result
+            (lines_of sections.now header.now root.now) }
+        ensures accepted { IfOk result (λ lines. IfSome lines (λ (l : OrderedLines).
+            IsAccepted O.pair_places (map begin_key (spans_of l.table.sequences)) l.ordered)) }
         ensures shared { AreShared (sections_view sections.now) self.new }
     {
         self.programs

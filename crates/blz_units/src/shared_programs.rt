@@ -39,7 +39,8 @@ impl SharedPrograms {
         key: ProgramKey,
         program: Option<ProgramLines>,
     ) -> std::result::Result<(), AllocError>
-        ensures { (s : FileSections) → IsProgramAt s key program → ArePrograms s self.old → ArePrograms s self.new }
+        ensures { (s : FileSections) → IsProgramAt s key program → ArePrograms s self.old
+            → ArePrograms s self.new }
     {
         self.kept.insert(key, program)?;
         Ok(())
@@ -47,7 +48,8 @@ impl SharedPrograms {
 
     /// Keeps that the program of a key has no value, if that is why it can't be read.
     fn keep_fault(&mut self, key: ProgramKey, fault: &Error) -> std::result::Result<(), AllocError>
-        ensures { (s : FileSections) → (fault.now.kind ≢ OutOfMemory → IsProgramAt s key None) → ArePrograms s self.old → ArePrograms s self.new }
+        ensures { (s : FileSections) → (fault.now.kind ≢ OutOfMemory → IsProgramAt s key None)
+            → ArePrograms s self.old → ArePrograms s self.new }
     {
         match fault.kind() {
             ErrorKind::OutOfMemory => Ok(()),
@@ -67,8 +69,10 @@ impl SharedPrograms {
         at: u64,
     ) -> Result<ProgramLines>
         requires { ArePrograms (sections_view sections.now) self.old }
-        ensures value { Gives (λ p. p.table) result (or_mark (program_at sections.now header.now root.now at) InvalidDwarf) }
-        ensures accepted { IfOk result (λ p. IsAccepted O.pair_places (map begin_key (spans_of p.table.sequences)) p.ordered) }
+        ensures value { Gives (λ p. p.table) result
+            (or_mark (program_at sections.now header.now root.now at) InvalidDwarf) }
+        ensures accepted { IfOk result (λ p. IsAccepted O.pair_places
+            (map begin_key (spans_of p.table.sequences)) p.ordered) }
         ensures kept { ArePrograms (sections_view sections.now) self.new }
     {
         let key = program_key(header, root, at);
@@ -98,8 +102,10 @@ impl SharedPrograms {
         at: u64,
     ) -> Result<ProgramLines>
         requires { ArePrograms (sections_view sections.now) self.old }
-        ensures value { Gives (λ p. p.table) result (or_mark (program_at sections.now header.now root.now at) InvalidDwarf) }
-        ensures accepted { IfOk result (λ p. IsAccepted O.pair_places (map begin_key (spans_of p.table.sequences)) p.ordered) }
+        ensures value { Gives (λ p. p.table) result
+            (or_mark (program_at sections.now header.now root.now at) InvalidDwarf) }
+        ensures accepted { IfOk result (λ p. IsAccepted O.pair_places
+            (map begin_key (spans_of p.table.sequences)) p.ordered) }
         ensures kept { ArePrograms (sections_view sections.now) self.new }
     {
         match self.kept.get(&program_key(header, root, at)) {
@@ -124,8 +130,10 @@ impl SharedPrograms {
         root: &UnitRoot,
     ) -> Result<Option<Lines>>
         requires { ArePrograms (sections_view sections.now) self.old }
-        ensures value { Gives (λ lines. option_map (λ (l : OrderedLines). l.table) lines) result (lines_of sections.now header.now root.now) }
-        ensures accepted { IfOk result (λ lines. IfSome lines (λ (l : OrderedLines). IsAccepted O.pair_places (map begin_key (spans_of l.table.sequences)) l.ordered)) }
+        ensures value { Gives (λ lines. option_map (λ (l : OrderedLines). l.table) lines) result
+            (lines_of sections.now header.now root.now) }
+        ensures accepted { IfOk result (λ lines. IfSome lines (λ (l : OrderedLines).
+            IsAccepted O.pair_places (map begin_key (spans_of l.table.sequences)) l.ordered)) }
         ensures kept { ArePrograms (sections_view sections.now) self.new }
     {
         let Some(at) = root.line else {

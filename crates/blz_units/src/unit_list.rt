@@ -78,7 +78,8 @@ impl UnitList {
     pub fn push(&mut self, header: UnitHeader) -> Result<(), AllocError>
         requires in_place { IsInPlace header }
         requires behind { EndBefore self.old header.start }
-        ensures { MatchResult result (λ _. self.new ≡ self.old ++ header ∷ []) (λ _. self.new ≡ self.old) }
+        ensures { MatchResult result (λ _. self.new ≡ self.old ++ header ∷ [])
+            (λ _. self.new ≡ self.old) }
     {
         self.headers.push(header)?;
         Ok(())
@@ -88,7 +89,8 @@ impl UnitList {
     pub fn push_but_types(&mut self, header: UnitHeader) -> Result<(), AllocError>
         requires in_place { IsInPlace header }
         requires behind { EndBefore self.old header.start }
-        ensures { MatchResult result (λ _. self.new ≡ self.old ++ no_types (header ∷ [])) (λ _. self.new ≡ self.old) }
+        ensures { MatchResult result (λ _. self.new ≡ self.old ++ no_types (header ∷ []))
+            (λ _. self.new ≡ self.old) }
     {
         if is_type(header.kind) {
             return Ok(());

@@ -62,7 +62,8 @@ fn sup_units(alloc: Global, room: &mut Room, sup: &Option<Sections<'_, '_>>) -> 
 
 /// Asks for the units of a supplementary file. InvalidDwarf exactly where their headers have no value.
 pub fn check_sup_units(alloc: Global, sup: &Option<Sections<'_, '_>>) -> Result<()>
-    ensures { Gives (λ _. tt) result (or_invalid (sups_checked (option_map sections_view sup.now))) }
+    ensures { Gives (λ _. tt) result
+        (or_invalid (sups_checked (option_map sections_view sup.now))) }
 {
     sup_units(alloc, &mut Room::endless(), sup)?;
     Ok(())
@@ -80,9 +81,12 @@ impl UnitTable {
         dwarf: &Dwarf<'_, '_>,
     ) -> Result<(UnitTable, SideUnits)>
         requires { IsReadable dwarf.now }
-        ensures table { Gives (λ r. table_view r.0) result (or_invalid (units_of (files_view dwarf.now))) }
-        ensures fits { IfOk result (λ r. SideFits (files_view dwarf.now) File (table_view r.0).kept r.1) }
-        ensures accepted { IfOk result (λ r. IsAccepted O.pair_places (map begin_key (items_of r.0.announced.ranges)) r.0.announced.ordered) }
+        ensures table { Gives (λ r. table_view r.0) result
+            (or_invalid (units_of (files_view dwarf.now))) }
+        ensures fits { IfOk result
+            (λ r. SideFits (files_view dwarf.now) File (table_view r.0).kept r.1) }
+        ensures accepted { IfOk result (λ r. IsAccepted O.pair_places
+            (map begin_key (items_of r.0.announced.ranges)) r.0.announced.ordered) }
     {
         let sups = sup_units(alloc, room, &dwarf.sup)?;
         let sets = AddressSets::read(alloc, dwarf.main.aranges)?;
@@ -101,7 +105,8 @@ impl UnitTable {
     /// InvalidDwarf exactly where no kept unit begins below the offset, one begins at it, or it does not lie among the
     /// entries of the last that begins below it.
     pub fn find_unit(&self, offset: u64) -> Result<(usize, usize)>
-        ensures { Exactly (λ p. p) result (or_invalid (unit_at (table_view self.now).kept offset)) }
+        ensures { Exactly (λ p. p) result
+            (or_invalid (unit_at (table_view self.now).kept offset)) }
     {
         match self.kept.find(offset) {
             Some(place) => Ok(place),
@@ -111,7 +116,8 @@ impl UnitTable {
 
     /// The same among the units of the supplementary file, but for its type units.
     pub fn find_sup_unit(&self, offset: u64) -> Result<(usize, usize)>
-        ensures { Exactly (λ p. p) result (or_invalid (unit_at (table_view self.now).sups offset)) }
+        ensures { Exactly (λ p. p) result
+            (or_invalid (unit_at (table_view self.now).sups offset)) }
     {
         match self.sups.find(offset) {
             Some(place) => Ok(place),

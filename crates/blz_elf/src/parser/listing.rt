@@ -24,7 +24,9 @@ impl ElfParser<'_> {
         visit: &mut V,
     ) -> Result<()>
         requires { V.stopped visit.old ≡ false }
-        ensures shows { ShowsAll (image_symbols self.old.image opts.now.sym_type opts.now.file_offset) (V.shown visit.old) (V.shown visit.new) (V.stopped visit.new) result }
+        ensures shows { ShowsAll
+            (image_symbols self.old.image opts.now.sym_type opts.now.file_offset)
+            (V.shown visit.old) (V.shown visit.new) (V.stopped visit.new) result }
         ensures same { self.new ≡ self.old }
     {
         let parts = self.parts()?;

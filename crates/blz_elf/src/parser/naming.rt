@@ -29,7 +29,8 @@ impl<'b> ElfParser<'b> {
         name: &str,
         opts: &FindAddrOpts,
     ) -> Result<SymInfos<'b>>
-        ensures value { Gives (λ v. v) result (image_addresses self.old.image self.old.module_name name.now opts.now.file_offset) }
+        ensures value { Gives (λ v. v) result
+            (image_addresses self.old.image self.old.module_name name.now opts.now.file_offset) }
         ensures same { self.new ≡ self.old }
     {
         let parts = self.parts()?;

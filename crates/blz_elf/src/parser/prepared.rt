@@ -66,7 +66,8 @@ impl<'b> ElfParser<'b> {
     #[tactic(auto, unfolding(blz_symbols::specs::SymbolRule::image_symbol, blz_image::specs::SymbolTables::image_table))]
     pub fn find_sym_prepared(&self, addr: u64) -> Result<Answer<'b>>
         requires { self.now.prepared ≡ true }
-        ensures { Exactly answer_view result (image_symbol self.now.image self.now.module_name addr) }
+        ensures { Exactly answer_view result
+            (image_symbol self.now.image self.now.module_name addr) }
     {
         match &self.warm.frame {
             Cache::Value(frame) => look_both(

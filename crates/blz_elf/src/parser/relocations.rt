@@ -77,7 +77,8 @@ impl ElfParser<'_> {
         alloc: Global,
         targets: &[Option<usize>],
     ) -> Result<SectionRelocations>
-        ensures value { Gives (λ m. m) result (maps_in targets.now (image_relocations self.old.image)) }
+        ensures value { Gives (λ m. m) result
+            (maps_in targets.now (image_relocations self.old.image)) }
         ensures same { self.new ≡ self.old }
     {
         let header = self.header()?;

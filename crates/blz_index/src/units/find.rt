@@ -15,14 +15,16 @@ impl Units {
     /// InvalidDwarf exactly where no unit begins below the offset, one begins at it, or it does not lie among the entries
     /// of the last that begins below it.
     pub fn find_unit(&self, offset: u64) -> Result<(usize, usize)>
-        ensures { Exactly (λ p. p) result (or_invalid (unit_at (units_table self.now).kept offset)) }
+        ensures { Exactly (λ p. p) result
+            (or_invalid (unit_at (units_table self.now).kept offset)) }
     {
         self.table.find_unit(offset)
     }
 
     /// The same among the units of the supplementary file, but for its type units.
     pub fn find_sup_unit(&self, offset: u64) -> Result<(usize, usize)>
-        ensures { Exactly (λ p. p) result (or_invalid (unit_at (units_table self.now).sups offset)) }
+        ensures { Exactly (λ p. p) result
+            (or_invalid (unit_at (units_table self.now).sups offset)) }
     {
         self.table.find_sup_unit(offset)
     }

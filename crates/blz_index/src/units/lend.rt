@@ -24,7 +24,8 @@ impl Units {
     /// The functions of a unit, with their ranges; Some exactly where they are kept.
     pub fn unit_functions(&self, unit: usize) -> Option<&Functions>
         ensures kept { option_map (λ x. x.now) result ≡ value_in (functions_cache self.now unit) }
-        ensures value { IfSome result (λ x. (f : Files) → UnitsFit f self.now → unit_functions f (units_table self.now) unit ≡ Some (lists_view x.now)) }
+        ensures value { IfSome result (λ x. (f : Files) → UnitsFit f self.now
+            → unit_functions f (units_table self.now) unit ≡ Some (lists_view x.now)) }
     {
         look::functions_there(self.caches.units.as_slice(), unit)
     }
@@ -41,7 +42,8 @@ impl Units {
     ) -> Result<&Functions>
         requires asked { CanBeAsked dwarf.now self.old }
         requires there { unit < length (units_table self.old).kept }
-        ensures { Gives (λ x. lists_view x.now) result (or_invalid (as_read dwarf.now self.old unit_functions unit)) }
+        ensures { Gives (λ x. lists_view x.now) result
+            (or_invalid (as_read dwarf.now self.old unit_functions unit)) }
     {
         self.fill_functions(alloc, orders, dwarf, unit)?;
         match self.unit_functions(unit) {
@@ -77,8 +79,11 @@ impl Units {
     /// have no value; takes no memory.
     pub fn lines(&self, unit: usize) -> Result<Option<&Lines>>
         requires { lines_kept self.now unit ≡ true }
-        ensures value { (f : Files) → UnitsFit f self.now → Exactly (λ o. option_map (λ l. l.now.table) o) result (or_invalid (unit_lines f (units_table self.now) unit)) }
-        ensures kept { Repeats (λ o. option_map (λ l. l.now) o) result (kept_part (lines_cache self.now unit)) }
+        ensures value { (f : Files) → UnitsFit f self.now
+            → Exactly (λ o. option_map (λ l. l.now.table) o) result
+            (or_invalid (unit_lines f (units_table self.now) unit)) }
+        ensures kept { Repeats (λ o. option_map (λ l. l.now) o) result
+            (kept_part (lines_cache self.now unit)) }
     {
         match look::lines_of(self.caches.units.as_slice(), unit) {
             Ok(Some(lines)) => Ok(Some(lines)),
@@ -99,7 +104,8 @@ impl Units {
     ) -> Result<Option<&Lines>>
         requires asked { CanBeAsked dwarf.now self.old }
         requires there { unit < length (units_table self.old).kept }
-        ensures { Gives (λ o. option_map (λ l. l.now.table) o) result (or_invalid (as_read dwarf.now self.old unit_lines unit)) }
+        ensures { Gives (λ o. option_map (λ l. l.now.table) o) result
+            (or_invalid (as_read dwarf.now self.old unit_lines unit)) }
     {
         self.fill_lines(alloc, orders, dwarf, unit)?;
         self.lines(unit)
@@ -116,7 +122,8 @@ impl Units {
         function: usize,
     ) -> Result<()>
         requires asked { CanBeAsked dwarf.now self.old }
-        ensures value { Gives (λ _. calls_told (calls_cache self.new unit function)) result (or_invalid (calls_listed (as_read dwarf.now self.old function_calls unit function))) }
+        ensures value { Gives (λ _. calls_told (calls_cache self.new unit function)) result
+            (or_invalid (calls_listed (as_read dwarf.now self.old function_calls unit function))) }
         ensures there { IfOk result (λ _. calls_kept self.new unit function ≡ true) }
         ensures leaves { Leaves O.pair_places dwarf.now self.old self.new }
     {
@@ -130,8 +137,10 @@ impl Units {
 
     /// The inlined calls of a function of a unit; Some exactly where they are kept.
     pub fn inlined_functions(&self, unit: usize, function: usize) -> Option<&InlinedFunctions>
-        ensures kept { option_map (λ x. x.now) result ≡ value_in (calls_cache self.now unit function) }
-        ensures value { IfSome result (λ x. (f : Files) → UnitsFit f self.now → function_calls f (units_table self.now) unit function ≡ Some (calls_view x.now)) }
+        ensures kept { option_map (λ x. x.now) result
+            ≡ value_in (calls_cache self.now unit function) }
+        ensures value { IfSome result (λ x. (f : Files) → UnitsFit f self.now
+            → function_calls f (units_table self.now) unit function ≡ Some (calls_view x.now)) }
     {
         look::calls_there(self.caches.units.as_slice(), unit, function)
     }
@@ -149,7 +158,8 @@ impl Units {
     ) -> Result<&InlinedFunctions>
         requires asked { CanBeAsked dwarf.now self.old }
         requires there { unit < length (units_table self.old).kept }
-        ensures { Gives (λ x. calls_view x.now) result (or_invalid (as_read dwarf.now self.old function_calls unit function)) }
+        ensures { Gives (λ x. calls_view x.now) result
+            (or_invalid (as_read dwarf.now self.old function_calls unit function)) }
     {
         self.fill_inlined_functions(alloc, orders, dwarf, unit, function)?;
         match self.inlined_functions(unit, function) {

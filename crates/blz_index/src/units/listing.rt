@@ -43,7 +43,8 @@ impl Units {
         unit: usize,
     ) -> Result<()>
         requires asked { CanBeAsked dwarf.now self.old }
-        ensures value { Gives (λ _. kept_list self.new unit) result (or_invalid (listed (as_read dwarf.now self.old unit_functions unit))) }
+        ensures value { Gives (λ _. kept_list self.new unit) result
+            (or_invalid (listed (as_read dwarf.now self.old unit_functions unit))) }
         ensures there { IfOk result (λ _. functions_kept self.new unit ≡ true) }
         ensures leaves { Leaves O.pair_places dwarf.now self.old self.new }
     {
@@ -72,7 +73,8 @@ impl Units {
         name: &str,
     ) -> Result<Vec<(usize, usize)>>
         requires asked { CanBeAsked dwarf.now self.old }
-        ensures value { Gives (λ v. v.items) result (or_invalid (as_read dwarf.now self.old (functions_named dwarf.now.texts) name.now)) }
+        ensures value { Gives (λ v. v.items) result
+            (or_invalid (as_read dwarf.now self.old (functions_named dwarf.now.texts) name.now)) }
         ensures there { IfOk result (λ v. AllKept self.new v.items) }
         ensures leaves { Leaves O.pair_places dwarf.now self.old self.new }
     {
@@ -96,7 +98,9 @@ impl Units {
     ) -> Result<()>
         requires asked { CanBeAsked dwarf.now self.old }
         requires goes_on { W.stopped visit.old ≡ false }
-        ensures shows { ShowsUnits (as_read dwarf.now self.old all_functions) (as_read dwarf.now self.old all_shown) (W.shown visit.old) (W.shown visit.new) (W.stopped visit.new) result }
+        ensures shows { ShowsUnits (as_read dwarf.now self.old all_functions)
+            (as_read dwarf.now self.old all_shown) (W.shown visit.old) (W.shown visit.new)
+            (W.stopped visit.new) result }
         ensures leaves { Leaves O.pair_places dwarf.now self.old self.new }
     {
         let reader = Reader {

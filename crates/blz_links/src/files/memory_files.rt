@@ -48,7 +48,8 @@ impl MemoryFiles {
 
     /// Puts bytes on a path, in place of those that it held.
     pub fn put(&mut self, path: &str, contents: Vec<u8>) -> Result<(), AllocError>
-        ensures ok { OnOk result (self.new ≡ record self.old { puts = (path.now, contents.items) ∷ self.old.puts }) }
+        ensures ok { OnOk result
+            (self.new ≡ record self.old { puts = (path.now, contents.items) ∷ self.old.puts }) }
         ensures err { OnErr result (self.new ≡ self.old) }
     {
         let path = String::from_str(self.alloc, path)?;
@@ -58,7 +59,8 @@ impl MemoryFiles {
 
     /// Makes the call with that number fail.
     pub fn fail_at(&mut self, call: u64, denied: bool) -> Result<(), AllocError>
-        ensures ok { OnOk result (self.new ≡ record self.old { failing = (call, denied) ∷ self.old.failing }) }
+        ensures ok { OnOk result
+            (self.new ≡ record self.old { failing = (call, denied) ∷ self.old.failing }) }
         ensures err { OnErr result (self.new ≡ self.old) }
     {
         self.failing.push_front((call, denied))?;
@@ -117,7 +119,8 @@ fn listed(failing: &VecDeque<(u64, bool)>, call: u64) -> Option<bool>
 }
 
 fn last_put<'m>(puts: &'m VecDeque<(String, Vec<u8>)>, path: &str) -> Option<&'m Vec<u8>>
-    ensures { option_copied result ≡ option_map (λ e. e.1) (find (λ e. bytes_eq path.now (string_bytes e.0)) puts.now.items) }
+    ensures { option_copied result
+        ≡ option_map (λ e. e.1) (find (λ e. bytes_eq path.now (string_bytes e.0)) puts.now.items) }
 {
     puts.iter()
         .find(|entry| path == entry.0.as_str())
