@@ -56,7 +56,7 @@ fn section<'s, 'b>(
 ) -> Result<Section<'s, 'b>> {
     Ok(Section {
         bytes: parser.data_named(name)?,
-        moves: none,
+        relocations: none,
         order: parser.order()?,
     })
 }

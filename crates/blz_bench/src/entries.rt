@@ -4,7 +4,7 @@ ghost use Rattle.std.specs.Prelude.{◌+◌, ◌<◌, ◌^◌, length};
 use crate::debug_sections::{sections_of, units_of};
 use blz_entry::{Abbreviations, Entries, Sections, UnitHeader, UnitRoot, attr_string};
 use blz_error::Result;
-use blz_moves::RelocationMap;
+use blz_relocations::RelocationMap;
 use std::alloc::Global;
 
 const NAME: u64 = 0x03;

@@ -9,7 +9,7 @@ use blz_bytes::ByStdSort;
 use blz_entry::Sections;
 use blz_error::Result;
 use blz_index::{Dwarf, Units};
-use blz_moves::RelocationMap;
+use blz_relocations::RelocationMap;
 use std::alloc::Global;
 use std::time::CpuClock;
 

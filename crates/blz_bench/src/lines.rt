@@ -3,7 +3,7 @@ use crate::debug_sections::{root_of, sections_of, units_of};
 use blz_bytes::ByStdSort;
 use blz_error::Result;
 use blz_line::Lines;
-use blz_moves::RelocationMap;
+use blz_relocations::RelocationMap;
 use std::alloc::Global;
 
 /// How much some line programs give.

@@ -4,7 +4,7 @@ use blz_bytes::{ByStdSort, bytes_to_path};
 use blz_entry::{Sections, Texts};
 use blz_error::Result;
 use blz_line::{LineSequence, Lines};
-use blz_moves::RelocationMap;
+use blz_relocations::RelocationMap;
 use std::alloc::Global;
 use std::fmt::Write;
 

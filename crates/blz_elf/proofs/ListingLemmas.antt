@@ -5,8 +5,8 @@ use Rattle.blz_error.specs.declared.kind.ErrorKind.{ErrorKind}
 use Rattle.blz_error.specs.declared.kind.ErrorKind.TheVariants.{OutOfMemory}
 use Rattle.blz_model.specs.Part.{Part, Fails}
 use Rattle.blz_elf.specs.Infos.{Info}
-use Rattle.blz_moves.specs.declared.flow.Flow.{Flow}
-use Rattle.blz_moves.specs.declared.flow.Flow.TheVariants.{Continue, Break}
+use Rattle.blz_relocations.specs.declared.flow.Flow.{Flow}
+use Rattle.blz_relocations.specs.declared.flow.Flow.TheVariants.{Continue, Break}
 use Rattle.blz_elf.specs.Listings.{Listing, broken_by, listing_if, then_also, Told, Shown, Shows, IsShown, Breaks, IsRefused}
 
 pub shown_none : (old : Told) → Shown old old []

@@ -9,8 +9,8 @@ use Rattle.blz_image.specs.Images.{Elf, elf_of}
 use Rattle.blz_elf.specs.Infos.{Info, info_of}
 use Rattle.blz_symbols.specs.NameRule.{Named, is_of_type, listed_names}
 use Rattle.blz_image.specs.declared.symbols.TableKind.TheVariants.{Symtab, Dynsym}
-use Rattle.blz_moves.specs.declared.flow.Flow.{Flow}
-use Rattle.blz_moves.specs.declared.flow.Flow.TheVariants.{Continue, Break}
+use Rattle.blz_relocations.specs.declared.flow.Flow.{Flow}
+use Rattle.blz_relocations.specs.declared.flow.Flow.TheVariants.{Continue, Break}
 
 -- the infos before the first mark, and that mark
 pub record Listing : Type 0 where

@@ -16,7 +16,7 @@ use Rattle.blz_image.specs.declared.symbols.TableKind.{TableKind}
 use Rattle.blz_image.specs.declared.symbols.TableKind.TheVariants.{Symtab, Dynsym}
 use Rattle.blz_image.specs.SymbolTables.{image_table}
 use Rattle.blz_image.specs.RelocationTables.{image_relocations}
-use Rattle.blz_moves.specs.Relocations.{SectionMap}
+use Rattle.blz_relocations.specs.Relocations.{SectionMap}
 use Rattle.blz_symbols.specs.declared.name_order.KeptNames.{KeptNames}
 use Rattle.blz_symbols.specs.NameOrders.{NamesFit, names_view}
 use Rattle.blz_symbols.specs.NameRule.{image_symbol_names}

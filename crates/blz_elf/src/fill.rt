@@ -26,7 +26,7 @@ use blz_image::relocating::relocations;
 use blz_image::span::Rows;
 use blz_image::symbols::TableKind;
 use blz_model::{Cache, Reason};
-use blz_moves::SectionRelocations;
+use blz_relocations::SectionRelocations;
 use blz_records::SymType;
 use blz_symbols::question::Question;
 use blz_symbols::table::{Table, read_table};

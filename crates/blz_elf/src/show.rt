@@ -18,7 +18,7 @@ use blz_bytes::Orders;
 use blz_error::Result;
 use blz_image::image::Image;
 use blz_model::Cache;
-use blz_moves::Flow;
+use blz_relocations::Flow;
 use blz_symbols::name_order::KeptNames;
 use blz_symbols::names::{NamedSymbol, Wanted};
 use blz_symbols::table::Table;

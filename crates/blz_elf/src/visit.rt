@@ -1,12 +1,12 @@
 //! To whom a listing is shown.
 ghost use Rattle.std.specs.Prelude.{◌≡◌, ◌≤◌, ◌++◌, ◌∷◌, [], List, Option, Bool, false, map, IfSome, OnOk, OnErr, ◌⊎◌, length};
-ghost use Rattle.blz_moves.specs.Flows.{is_break};
+ghost use Rattle.blz_relocations.specs.Flows.{is_break};
 ghost use Rattle.blz_elf.specs.Infos.{Info, info_view};
 ghost use Rattle.blz_elf.specs.OwnedInfos.{owned_view};
 ghost use Rattle.blz_elf.specs.Visits.{ShowsOne, is_last, told_unless, with_info, without_info};
 
 use crate::sym_info::{SymInfo, SymInfoBuf};
-use blz_moves::Flow;
+use blz_relocations::Flow;
 use std::alloc::{AllocError, Global};
 use std::marker::Model;
 

@@ -3,7 +3,7 @@ use blz_image::header::Header;
 use blz_image::image::Frame;
 use blz_image::span::Rows;
 use blz_model::Cache;
-use blz_moves::SectionRelocations;
+use blz_relocations::SectionRelocations;
 use blz_symbols::name_order::KeptNames;
 use blz_symbols::table::Table;
 use std::alloc::Global;

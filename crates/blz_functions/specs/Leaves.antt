@@ -17,7 +17,7 @@ use Rattle.blz_info.specs.FileSections.{FileSections}
 
 -- a section that lies anywhere
 abbrev pub at_rest : Contents → Section
-at_rest c = record { bytes = record { ref_ptr = (0, 0); now = c.bytes }; moves = record { ref_ptr = (0, 0); now = c.moves }; order = c.order }
+at_rest c = record { bytes = record { ref_ptr = (0, 0); now = c.bytes }; relocations = record { ref_ptr = (0, 0); now = c.relocations }; order = c.order }
 
 -- sections that lie anywhere
 abbrev pub lying : FileSections → Sections

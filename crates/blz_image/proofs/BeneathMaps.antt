@@ -8,8 +8,8 @@ use Rattle.std.proofs.lemmas.List.{at_drop_more}
 use Rattle.blz_image.specs.RelocationTables.{Entry, effect_of, put_entry, value_at}
 use Rattle.blz_image.specs.TargetTables.{beneath, put_absent}
 use Rattle.blz_image.specs.declared.symbols.Symbol.{Symbol}
-use Rattle.blz_moves.specs.declared.relocation.Relocation.{Relocation}
-use Rattle.blz_moves.specs.Relocations.{OffsetMap, SectionMap, section_map}
+use Rattle.blz_relocations.specs.declared.relocation.Relocation.{Relocation}
+use Rattle.blz_relocations.specs.Relocations.{OffsetMap, SectionMap, section_map}
 use Rattle.blz_image.proofs.MapLooks.{first, first-none, first-first, given, get-insert-first, get-with_absent, section_map-with_relocation}
 
 abbrev effect : List Symbol → Entry → Relocation

@@ -5,8 +5,8 @@ use Rattle.std.specs.Cmp.{nat_cmp_total, unsigned_tied}
 use Rattle.std.specs.FinMap.{FinMap, empty, get, insert, get-insert}
 use Rattle.std.specs.Option.{unwrap_or}
 use Rattle.std.specs.Ordering.{nat_cmp}
-use Rattle.blz_moves.specs.declared.relocation.Relocation.{Relocation}
-use Rattle.blz_moves.specs.Relocations.{OffsetMap, SectionMap, section_map, with_absent, with_relocation}
+use Rattle.blz_relocations.specs.declared.relocation.Relocation.{Relocation}
+use Rattle.blz_relocations.specs.Relocations.{OffsetMap, SectionMap, section_map, with_absent, with_relocation}
 
 -- the first of two that is there
 abbrev pub first : {X : Type 0} → Option X → Option X → Option X

@@ -18,7 +18,7 @@ use Rattle.blz_image.specs.declared.read_places.ReadPlaces.{ReadPlaces}
 use Rattle.blz_image.specs.declared.span.Rows.{Rows}
 use Rattle.blz_image.specs.declared.symbols.Symbol.{Symbol}
 use Rattle.blz_image.specs.declared.table.RelocationTable.{RelocationTable}
-use Rattle.blz_moves.specs.Relocations.{OffsetMap}
+use Rattle.blz_relocations.specs.Relocations.{OffsetMap}
 use Rattle.blz_image.proofs.BeneathMaps.{beneath-known, entry-beneath, known-beneath}
 
 some_is : (x y : ℕ) → Some x ≡ Some y → x ≡ y

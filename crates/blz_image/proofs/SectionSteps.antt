@@ -5,7 +5,7 @@ use Rattle.blz_error.specs.declared.kind.ErrorKind.{ErrorKind}
 use Rattle.blz_model.specs.Part.{Part, Good, Broken}
 use Rattle.blz_image.specs.declared.format.Format.{Format}
 use Rattle.blz_image.specs.declared.section.Section.{Section}
-use Rattle.blz_moves.specs.Relocations.{SectionMap}
+use Rattle.blz_relocations.specs.Relocations.{SectionMap}
 use Rattle.blz_image.specs.RelocationTables.{with_section, with_sections}
 
 pub section_on : (f : Format) (bytes : List ℕ) (sections : List Section) (i : ℕ) (s : Section) (m n : SectionMap) (total : Part SectionMap) → i < length sections → ((d : Section) → get_or sections i d ≡ s) → with_section f bytes sections m s ≡ Good n → with_sections f bytes sections (drop i sections) m ≡ total → with_sections f bytes sections (drop (i + 1) sections) n ≡ total

@@ -19,7 +19,7 @@ use Rattle.blz_image.specs.declared.entries.EntryKind.{EntryKind}
 use Rattle.blz_image.specs.declared.format.Format.{Format}
 use Rattle.blz_image.specs.declared.section.Section.{Section}
 use Rattle.blz_image.specs.declared.symbols.Symbol.{Symbol}
-use Rattle.blz_moves.specs.Relocations.{OffsetMap, SectionMap, maps_of, section_map, with_map}
+use Rattle.blz_relocations.specs.Relocations.{OffsetMap, SectionMap, maps_of, section_map, with_map}
 use Rattle.blz_image.proofs.Folds.{fold_more}
 use Rattle.blz_image.proofs.BeneathMaps.{alone, get-beneath, get-fold, put_at, section_map-fold}
 use Rattle.blz_image.proofs.MapLooks.{first, first-none, first-first}

@@ -8,7 +8,7 @@ use Rattle.blz_image.specs.declared.format.Format.{Format}
 use Rattle.blz_image.specs.declared.read_places.ReadPlaces as code
 use Rattle.blz_image.specs.Formats.{word_at}
 use Rattle.blz_image.specs.RelocationTables.{entry_size}
-use Rattle.blz_moves.specs.Relocations.{OffsetMap}
+use Rattle.blz_relocations.specs.Relocations.{OffsetMap}
 
 -- A run ends with the entry at its key, and its value is how many entries of that size lie before it. Each of them passes.
 abbrev pub AllRead : ℕ → (ℕ → Bool) → BTreeMap ℕ ℕ → Type 0

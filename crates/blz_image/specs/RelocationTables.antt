@@ -10,15 +10,15 @@ use Rattle.blz_image.specs.declared.format.Class.TheVariants.{Elf32, Elf64}
 use Rattle.blz_image.specs.declared.format.Format.{Format}
 use Rattle.blz_image.specs.declared.entries.EntryKind.{EntryKind}
 use Rattle.blz_image.specs.declared.entries.EntryKind.TheVariants.{Rela, Rel}
-use Rattle.blz_moves.specs.declared.relocation.Relocation.{Relocation}
-use Rattle.blz_moves.specs.declared.relocation.Relocation.TheVariants.{Replaces, Adds}
+use Rattle.blz_relocations.specs.declared.relocation.Relocation.{Relocation}
+use Rattle.blz_relocations.specs.declared.relocation.Relocation.TheVariants.{Replaces, Adds}
 use Rattle.blz_image.specs.Formats.{word, word_at, symbol_size, rela_size, rel_size}
 use Rattle.blz_image.specs.Headers.{Header, header_of}
 use Rattle.blz_image.specs.Sections.{sections_of, records_of}
 use Rattle.blz_image.specs.declared.section.Section.{Section}
 use Rattle.blz_image.specs.SymbolTables.{symbol_at}
 use Rattle.blz_image.specs.declared.symbols.Symbol.{Symbol}
-use Rattle.blz_moves.specs.Relocations.{SectionMap, maps_of, with_relocation}
+use Rattle.blz_relocations.specs.Relocations.{SectionMap, maps_of, with_relocation}
 
 -- an entry: the place of the field, the index of the symbol, and the addend where the entry has one
 pub record Entry : Type 0 where
@@ -109,8 +109,8 @@ image_relocations image = do
 
 -- of some relocations those of some sections
 abbrev pub maps_in : List (Option ℕ) → Part SectionMap → Part SectionMap
-maps_in targets moves = moves >>= λ all. Good (maps_of targets all)
+maps_in targets relocations = relocations >>= λ all. Good (maps_of targets all)
 
 -- the mark that they have
 abbrev pub mark_in : Part SectionMap → Part (Unit {0})
-mark_in moves = moves >>= λ all. Good tt
+mark_in relocations = relocations >>= λ all. Good tt

@@ -15,7 +15,7 @@ use Rattle.blz_image.specs.Places.{RowsFit, symbols_in}
 use Rattle.blz_image.specs.RelocationTables.{Entry, effect_of, entry_at, entry_kind, entry_size, value_at}
 use Rattle.blz_image.specs.Sections.{records_of}
 use Rattle.blz_image.specs.SymbolTables.{symbol_at}
-use Rattle.blz_moves.specs.Relocations.{OffsetMap, with_absent}
+use Rattle.blz_relocations.specs.Relocations.{OffsetMap, with_absent}
 
 -- the entries of a section of relocations, and the symbols that they name
 pub record Table : Type 0 where

@@ -1,7 +1,7 @@
 //! What an entry of relocations does.
 ghost use Rattle.std.specs.Prelude.{◌≡◌};
 ghost use Rattle.blz_image.specs.RelocationTables.{effect_of, value_at};
-ghost use Rattle.blz_moves.specs.Relocations.{relocation_of};
+ghost use Rattle.blz_relocations.specs.Relocations.{relocation_of};
 
 use crate::entries::Entry;
 use crate::symbols::Symbols;

@@ -2,7 +2,7 @@
 ghost use Rattle.std.specs.Prelude.{◌≡◌, ◌+◌, ◌*◌, ◌<◌, ◌≤◌, ℕ, Bool, true, List, OnOk};
 ghost use Rattle.blz_image.specs.ReadPlaces.{AllRead, AreRead};
 ghost use Rattle.blz_image.specs.declared.format.Format.{Format};
-ghost use Rattle.blz_moves.specs.Relocations.{OffsetMap};
+ghost use Rattle.blz_relocations.specs.Relocations.{OffsetMap};
 
 use crate::span::{Rows, place_of};
 use std::alloc::{AllocError, Global};

@@ -22,7 +22,7 @@ use crate::table::table_of;
 use crate::target;
 use blz_constants::elf::ET_REL;
 use blz_error::Result;
-use blz_moves::SectionRelocations;
+use blz_relocations::SectionRelocations;
 use std::alloc::{AllocError, Global};
 
 /// Puts one entry of the section `target`.

@@ -17,7 +17,7 @@ use crate::section::{Section, SectionTable};
 use crate::span::place_of;
 use crate::symbols::Symbols;
 use crate::table::{RelocationTable, table_of};
-use blz_moves::RelocationMap;
+use blz_relocations::RelocationMap;
 use std::alloc::{AllocError, Global};
 use std::collections::BTreeMap;
 

@@ -11,7 +11,7 @@ use Rattle.blz_model.specs.LebNumbers.{leb_in, uleb, sleb, fits_i64, signed}
 use Rattle.blz_model.specs.Reads.{Read, ◌>>=◌, number}
 use Rattle.blz_model.specs.Texts.{c_string, text_at}
 use Rattle.blz_bytes.specs.Pieces.{zero_ended}
-use Rattle.blz_moves.specs.Relocations.{relocated}
+use Rattle.blz_relocations.specs.Relocations.{relocated}
 use Rattle.blz_info.specs.Attributes.{form_for, direct_attribute, attribute, attributes}
 use Rattle.blz_info.specs.Contents.{Contents, moved_number, address_at, offset_at, offset_len, skipped, block, field_at, bytes_in}
 use Rattle.blz_info.specs.Forms.{text_here, value_by, made}
@@ -90,7 +90,7 @@ sleb_ahead bytes at = bind_ahead bytes at (leb_in 10 bytes at) (λ r. fits_i64 (
 
 moved_ahead : (n : ℕ) (s : Contents) (at : ℕ) → Ahead s.bytes at (moved_number n s at)
 unfolding moved_number
-moved_ahead n s at = map_ahead s.bytes at (number s.order n s.bytes at) (λ x. relocated (map.get s.moves at) x.0) (number_ahead s.order n s.bytes at)
+moved_ahead n s at = map_ahead s.bytes at (number s.order n s.bytes at) (λ x. relocated (map.get s.relocations at) x.0) (number_ahead s.order n s.bytes at)
 
 address_ahead : (size : ℕ) (s : Contents) (at : ℕ) → Ahead s.bytes at (address_at size s at)
 unfolding address_at
@@ -174,5 +174,5 @@ address_past size s at = elim (cases_Bool (eqb size 4)) [
   ]
 ]
   where
-    fixed_past : (n : ℕ) → 0 < n → (s : Contents) (at : ℕ) → Past {A = ℕ} s.bytes at (number s.order n s.bytes at >>= λ x. Some (relocated (map.get s.moves at) x.0, x.1))
+    fixed_past : (n : ℕ) → 0 < n → (s : Contents) (at : ℕ) → Past {A = ℕ} s.bytes at (number s.order n s.bytes at >>= λ x. Some (relocated (map.get s.relocations at) x.0, x.1))
     fixed_past n some s at = elim (cases_Bool (leb (at + n) (length s.bytes))) [ inl t ↦ rw t (omega arith, leb-true _ _ t) | inr f ↦ rw f tt ]

@@ -5,7 +5,7 @@ use Rattle.std.specs.FinMap as map
 use Rattle.std.proofs.Common.{ap}
 use Rattle.blz_model.specs.declared.byte_order.ByteOrder.{ByteOrder}
 use Rattle.blz_model.specs.declared.byte_order.ByteOrder.TheVariants.{Little, Big}
-use Rattle.blz_moves.specs.Relocations.{OffsetMap, relocation_code}
+use Rattle.blz_relocations.specs.Relocations.{OffsetMap, relocation_code}
 use Rattle.blz_info.specs.Contents.{Contents}
 use Rattle.blz_info.specs.Abbrevs.{Abbrev}
 use Rattle.blz_info.specs.Headers.{UnitList}
@@ -30,7 +30,7 @@ same_order Little = refl
 same_order Big = refl
 
 abbrev pub contents_code : Coded Contents
-contents_code = code_by ((List ℕ × OffsetMap) × Bool) (coded× (coded× (coded_list coded_ℕ) (map.code coded_ℕ relocation_code)) coded_bool) (λ c. ((c.bytes, c.moves), is_big c.order)) (λ p. record { bytes = p.0.0; moves = p.0.1; order = order_of p.1 }) (λ c. ap (λ (o : ByteOrder). record { bytes = c.bytes; moves = c.moves; order = o }) (same_order c.order))
+contents_code = code_by ((List ℕ × OffsetMap) × Bool) (coded× (coded× (coded_list coded_ℕ) (map.code coded_ℕ relocation_code)) coded_bool) (λ c. ((c.bytes, c.relocations), is_big c.order)) (λ p. record { bytes = p.0.0; relocations = p.0.1; order = order_of p.1 }) (λ c. ap (λ (o : ByteOrder). record { bytes = c.bytes; relocations = c.relocations; order = o }) (same_order c.order))
 
 abbrev pub unit_list_code : Coded UnitList
 unit_list_code = code_by (Contents × ℕ) (coded× contents_code coded_ℕ) (λ u. (u.section, u.place)) (λ p. record { section = p.0; place = p.1 }) (λ _. refl)

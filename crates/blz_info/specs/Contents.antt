@@ -4,7 +4,7 @@ use Rattle.blz_model.specs.declared.byte_order.ByteOrder.{ByteOrder}
 use Rattle.blz_model.specs.Reads.{Read, ◌>>=◌, number}
 use Rattle.blz_model.specs.LebNumbers.{uleb}
 use Rattle.std.specs.FinMap as map
-use Rattle.blz_moves.specs.Relocations.{OffsetMap, relocated}
+use Rattle.blz_relocations.specs.Relocations.{OffsetMap, relocated}
 use Rattle.blz_info.specs.declared.section.Section.{Section}
 use Rattle.blz_info.specs.declared.encoding.Encoding.{Encoding}
 use Rattle.blz_info.specs.declared.form.Width.{Width}
@@ -15,16 +15,16 @@ use Rattle.blz_info.specs.declared.form.Field.TheVariants.{Nothing, Fixed, Addre
 -- a section without where its bytes and relocations lie in memory
 pub record Contents : Type 0 where
   pub bytes : List ℕ
-  pub moves : OffsetMap
+  pub relocations : OffsetMap
   pub order : ByteOrder
 
 -- a section by its bytes, its relocations and its byte order
 abbrev pub section_view : Section → Contents
-section_view s = record { bytes = s.bytes.now; moves = s.moves.now; order = s.order }
+section_view s = record { bytes = s.bytes.now; relocations = s.relocations.now; order = s.order }
 
 -- a section up to a place, or whole where it ends before
 abbrev pub cut : ℕ → Contents → Contents
-cut end s = record { bytes = take end s.bytes; moves = s.moves; order = s.order }
+cut end s = record { bytes = take end s.bytes; relocations = s.relocations; order = s.order }
 
 -- A place is not before another one, and lies in the bytes, or at their end, if that one does.
 abbrev pub StaysIn : List ℕ → ℕ → ℕ → Type 0
@@ -38,7 +38,7 @@ number_at n s at = number s.order n s.bytes at
 unfoldable pub moved_number : ℕ → Contents → ℕ → Read ℕ
 moved_number n s at = do
   x ← number_at n s at
-  Some (relocated (map.get s.moves at) x.0, x.1)
+  Some (relocated (map.get s.relocations at) x.0, x.1)
 
 -- An address has four or eight bytes.
 unfoldable pub address_at : ℕ → Contents → ℕ → Read ℕ

@@ -48,7 +48,7 @@ fn moved_at(width: Width, section: &Section<'_, '_>, at: usize) -> Option<(u64, 
     ensures within { IfSome result (λ r. (at < r.1) × (r.1 ≤ length section.now.bytes.now)) }
 {
     let (value, next) = fixed_at(width, section, at)?;
-    Some((section.moves.relocate(at as u64, value), next))
+    Some((section.relocations.relocate(at as u64, value), next))
 }
 
 /// An address of four or eight bytes.

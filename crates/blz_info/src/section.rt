@@ -4,7 +4,7 @@ ghost use Rattle.std.specs.Prelude.{◌≡◌, ◌≤◌, length};
 ghost use Rattle.blz_info.specs.Contents.{section_view, cut};
 
 use blz_model::ByteOrder;
-use blz_moves::RelocationMap;
+use blz_relocations::RelocationMap;
 
 /// The bytes of a section, its relocations and the byte order of its file.
 #[derive(Clone, Copy)]
@@ -12,7 +12,7 @@ pub struct Section<'s, 'b> {
     /// The section's bytes.
     pub bytes: &'b [u8],
     /// What is done to the addresses and offsets in them.
-    pub moves: &'s RelocationMap,
+    pub relocations: &'s RelocationMap,
     /// The order of their numbers.
     pub order: ByteOrder,
 }
@@ -62,7 +62,7 @@ pub fn cut<'s, 'b>(section: &Section<'s, 'b>, end: usize) -> Section<'s, 'b>
     }
     Section {
         bytes: &section.bytes[..end],
-        moves: section.moves,
+        relocations: section.relocations,
         order: section.order,
     }
 }

@@ -6,7 +6,7 @@ use blz_entry::{
 };
 use blz_error::{ErrorKind, IntoError, Result};
 use blz_line::{LineHeader, LineRow, Lines};
-use blz_moves::RelocationMap;
+use blz_relocations::RelocationMap;
 use std::alloc::Global;
 use std::test::Fail;
 
@@ -43,10 +43,10 @@ const ENDLESS: &[u8] =
     b"\x29\0\0\0\x05\0\x08\0\x21\0\0\0\x01\x01\x01\xfb\x0e\x0d\0\x01\x01\x01\x01\0\0\0\x01\0\0\x01\
     \0\0\x01\x01\x19\xff\xff\xff\xff\xff\xff\xff\xff\xff\x01";
 
-fn section<'s, 'b>(bytes: &'b [u8], moves: &'s RelocationMap, order: ByteOrder) -> Section<'s, 'b> {
+fn section<'s, 'b>(bytes: &'b [u8], relocations: &'s RelocationMap, order: ByteOrder) -> Section<'s, 'b> {
     Section {
         bytes,
-        moves,
+        relocations,
         order,
     }
 }
@@ -54,17 +54,17 @@ fn section<'s, 'b>(bytes: &'b [u8], moves: &'s RelocationMap, order: ByteOrder) 
 /// Sections of which all but the lines and their strings are empty.
 fn sections<'s, 'b>(
     line: &'b [u8],
-    moves: &'s RelocationMap,
+    relocations: &'s RelocationMap,
     order: ByteOrder,
 ) -> Sections<'s, 'b> {
-    let empty = section(b"", moves, order);
+    let empty = section(b"", relocations, order);
     Sections {
         abbrev: empty,
         addr: empty,
         aranges: empty,
         info: empty,
-        line: section(line, moves, order),
-        line_str: section(LINE_STRINGS, moves, order),
+        line: section(line, relocations, order),
+        line_str: section(LINE_STRINGS, relocations, order),
         ranges: empty,
         rnglists: empty,
         strings: empty,
@@ -129,11 +129,11 @@ fn root() -> UnitRoot {
 }
 
 fn parsed(alloc: Global, line: &[u8], order: ByteOrder) -> Result<Option<Lines>> {
-    let moves = RelocationMap::new(alloc);
+    let relocations = RelocationMap::new(alloc);
     Lines::parse(
         alloc,
         &mut AsTheyStand,
-        &sections(line, &moves, order),
+        &sections(line, &relocations, order),
         &unit(),
         &root(),
     )
@@ -243,8 +243,8 @@ fn the_file_of_a_compiler(rt: HostRuntime) -> std::result::Result<(), Fail> {
 fn a_count_that_no_byte_backs(rt: HostRuntime) -> std::result::Result<(), Fail> {
     let mut checks = Checks::new();
     let alloc = rt.alloc();
-    let moves = RelocationMap::new(alloc);
-    let sections = sections(ENDLESS, &moves, ByteOrder::Little);
+    let relocations = RelocationMap::new(alloc);
+    let sections = sections(ENDLESS, &relocations, ByteOrder::Little);
     let header = LineHeader::parse(alloc, &sections, 0, 8).expect(&rt, "refused");
     checks.same(header.version, 5);
     match parsed(alloc, ENDLESS, ByteOrder::Little) {

@@ -3,7 +3,7 @@ use Rattle.std.specs.Prelude.{ℕ, zero, suc, ◌+◌, Bool, Option, Some, None,
 use Rattle.std.specs.Coded.{Coded, coded_ℕ}
 use Rattle.std.specs.FinMap as map
 use Rattle.std.specs.Option.{option_map}
-use Rattle.blz_moves.specs.Relocations.{OffsetMap, relocation_code}
+use Rattle.blz_relocations.specs.Relocations.{OffsetMap, relocation_code}
 use Rattle.blz_model.specs.Reads.{◌>>=◌}
 use Rattle.blz_info.specs.declared.text.StrPlace.{StrPlace}
 use Rattle.blz_info.specs.declared.value.AttrValue.{AttrValue}

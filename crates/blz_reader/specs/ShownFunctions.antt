@@ -3,8 +3,8 @@ use Rattle.std.specs.Prelude.{◌≡◌, ◌≢◌, ℕ, ◌+◌, ◌<◌, zero,
 use Rattle.blz_error.specs.Fault.{Fault}
 use Rattle.blz_error.specs.declared.kind.ErrorKind.{ErrorKind}
 use Rattle.blz_error.specs.declared.kind.ErrorKind.TheVariants.{OutOfMemory, InvalidDwarf}
-use Rattle.blz_moves.specs.declared.flow.Flow.{Flow}
-use Rattle.blz_moves.specs.declared.flow.Flow.TheVariants.{Continue, Break}
+use Rattle.blz_relocations.specs.declared.flow.Flow.{Flow}
+use Rattle.blz_relocations.specs.declared.flow.Flow.TheVariants.{Continue, Break}
 use Rattle.blz_functions.specs.declared.functions.Function.{Function}
 use Rattle.blz_units.specs.BuiltUnits.{Files}
 use Rattle.blz_functions.specs.FunctionList.{Lists}

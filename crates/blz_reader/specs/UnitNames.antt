@@ -7,7 +7,7 @@ use Rattle.blz_model.specs.declared.cache.Cache.{Cache}
 use Rattle.blz_model.specs.declared.cache.Cache.TheVariants.{Empty, Value, Mark}
 use Rattle.blz_info.specs.Marks.{or_invalid}
 use Rattle.blz_info.specs.declared.text.Texts.{Texts}
-use Rattle.blz_moves.specs.declared.flow.Flow.{Flow}
+use Rattle.blz_relocations.specs.declared.flow.Flow.{Flow}
 use Rattle.blz_functions.specs.declared.functions.Function.{Function}
 use Rattle.blz_units.specs.declared.caches.UnitCaches.{UnitCaches}
 use Rattle.blz_functions.specs.FunctionList.{Lists}

@@ -10,7 +10,7 @@ fn section<'u>(section: &'u Section<'_, '_>) -> Section<'u, 'u>
 {
     Section {
         bytes: section.bytes,
-        moves: section.moves,
+        relocations: section.relocations,
         order: section.order,
     }
 }

@@ -14,7 +14,7 @@ use crate::reader::Reader;
 use crate::visit_function::{VisitFunction, show_functions};
 use blz_bytes::Orders;
 use blz_error::Result;
-use blz_moves::Flow;
+use blz_relocations::Flow;
 use blz_units::caches::Caches;
 use blz_units::look::functions_of;
 use std::alloc::AllocError;

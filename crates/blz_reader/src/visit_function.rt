@@ -1,12 +1,12 @@
 //! To whom the functions of units are shown.
 ghost use Rattle.std.specs.Prelude.{◌≡◌, ℕ, List, Option, Bool, false};
-ghost use Rattle.blz_moves.specs.Flows.{is_break};
+ghost use Rattle.blz_relocations.specs.Flows.{is_break};
 ghost use Rattle.blz_reader.specs.ShownFunctions.{ShowsMore, ShowsUnit, one_shown};
 ghost use Rattle.blz_units.specs.UnitAnswers.{in_unit};
 ghost use Rattle.blz_functions.specs.declared.functions.Function.{Function};
 
 use blz_functions::Function;
-use blz_moves::Flow;
+use blz_relocations::Flow;
 
 /// Is shown the functions of units, one after the other, until it answers Break.
 pub trait VisitFunction {

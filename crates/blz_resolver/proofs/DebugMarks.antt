@@ -54,7 +54,7 @@ marks_debug_parts bytes =
 
 marks_debug_image : (bytes : List ℕ) → Marks (debug_image bytes)
 unfolding debug_image
-marks_debug_image bytes = marks_bind _ _ (marks_elf bytes) (λ elf. marks_bind _ _ (marks_relocations bytes) (λ moves. marks_bind _ _ (marks_debug_parts bytes) (λ parts. marks_good _)))
+marks_debug_image bytes = marks_bind _ _ (marks_elf bytes) (λ elf. marks_bind _ _ (marks_relocations bytes) (λ relocations. marks_bind _ _ (marks_debug_parts bytes) (λ parts. marks_good _)))
 
 marks_sup_image : (bytes : List ℕ) → Marks (sup_image bytes)
 unfolding sup_image

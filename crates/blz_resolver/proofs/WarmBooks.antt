@@ -6,7 +6,7 @@ use Rattle.blz_elf.specs.Warm as elf
 use Rattle.blz_model.specs.Part.{Good, ◌>>=◌}
 use Rattle.blz_model.proofs.PartLemmas.{bind_good}
 use Rattle.blz_image.specs.Images.{elf_of}
-use Rattle.blz_moves.specs.Relocations.{SectionMap, maps_of}
+use Rattle.blz_relocations.specs.Relocations.{SectionMap, maps_of}
 use Rattle.blz_image.specs.RelocationTables.{image_relocations}
 use Rattle.blz_info.specs.Marks.{or_invalid}
 use Rattle.blz_split.specs.PackageParts.{PackageParts, package_of, package_view}
@@ -20,7 +20,7 @@ use Rattle.blz_resolver.specs.FileViews.{images_view}
 use Rattle.blz_bundle.specs.Images.{NamedImage, ImageSet, debug_file}
 use Rattle.blz_resolver.specs.Resolver.{Fits, HasBook, ArePrepared, units_in}
 use Rattle.blz_resolver.specs.Sources.{asked_file}
-use Rattle.blz_resolver.specs.WarmFits.{IsThere, IsSupWith, SupFits, WarmBook, WarmBookIf, WarmFits, ArePreparedIn, moves_in, warm_units_in}
+use Rattle.blz_resolver.specs.WarmFits.{IsThere, IsSupWith, SupFits, WarmBook, WarmBookIf, WarmFits, ArePreparedIn, relocations_in, warm_units_in}
 use Rattle.blz_resolver.specs.declared.debug_info.DebugInfo.{DebugInfo}
 use Rattle.blz_resolver.specs.declared.debug_image.DebugImage as image
 use Rattle.blz_resolver.specs.declared.warm.Warm.{Warm}
@@ -30,10 +30,10 @@ use Rattle.blz_resolver.proofs.SameTexts.{good_is}
 pub parts_there : (bytes : List ℕ) (d : DebugImage) → debug_image bytes ≡ Good d → debug_parts bytes ≡ Good d.parts
 unfolding debug_image
 parts_there bytes d is =
-    let a = bind_good (elf_of bytes) (λ elf. image_relocations bytes >>= λ moves. debug_parts bytes >>= λ parts. Good (record { parts = parts; moves = maps_of (section_numbers parts) moves })) d is in
-    let b = bind_good (image_relocations bytes) (λ moves. debug_parts bytes >>= λ parts. Good (record { parts = parts; moves = maps_of (section_numbers parts) moves })) d a.2 in
-    let c = bind_good (debug_parts bytes) (λ parts. Good (record { parts = parts; moves = maps_of (section_numbers parts) b.0 })) d b.2 in
-    let e : record { parts = c.0; moves = maps_of (section_numbers c.0) b.0 } ≡ d = good_is _ _ (Good d) (sym c.2) refl in
+    let a = bind_good (elf_of bytes) (λ elf. image_relocations bytes >>= λ relocations. debug_parts bytes >>= λ parts. Good (record { parts = parts; relocations = maps_of (section_numbers parts) relocations })) d is in
+    let b = bind_good (image_relocations bytes) (λ relocations. debug_parts bytes >>= λ parts. Good (record { parts = parts; relocations = maps_of (section_numbers parts) relocations })) d a.2 in
+    let c = bind_good (debug_parts bytes) (λ parts. Good (record { parts = parts; relocations = maps_of (section_numbers parts) b.0 })) d b.2 in
+    let e : record { parts = c.0; relocations = maps_of (section_numbers c.0) b.0 } ≡ d = good_is _ _ (Good d) (sym c.2) refl in
     c.1 ∙ ap (λ (x : DebugImage). Good x.parts) e
 
 sup_debug : (bytes : List ℕ) (d : DebugImage) → sup_image bytes ≡ Good d → debug_image bytes ≡ Good d
@@ -43,34 +43,34 @@ sup_debug bytes d is =
     let b = bind_good (or_invalid (sups_checked (Some (as_sup a.0)))) (λ checked. Good a.0) d a.2 in
     a.1 ∙ b.2
 
-same_image : (d : DebugImage) (parts : DebugParts) (moves : SectionMap) → d.parts ≡ parts → d.moves ≡ moves → d ≡ record { parts = parts; moves = moves }
-same_image d parts moves p m = ap (λ (q : DebugParts). record { parts = q; moves = d.moves }) p ∙ ap (λ (q : SectionMap). record { parts = parts; moves = q }) m
+same_image : (d : DebugImage) (parts : DebugParts) (relocations : SectionMap) → d.parts ≡ parts → d.relocations ≡ relocations → d ≡ record { parts = parts; relocations = relocations }
+same_image d parts relocations p m = ap (λ (q : DebugParts). record { parts = q; relocations = d.relocations }) p ∙ ap (λ (q : SectionMap). record { parts = parts; relocations = q }) m
 
 -- ---- the supplementary file
 
-pub sup_there : (bytes : List ℕ) (moves : SectionMap) → IsSupWith bytes moves → IsThere (debug_parts bytes)
-sup_there bytes moves fits = record { value = fits.debug.parts; is = parts_there bytes fits.debug (sup_debug bytes fits.debug fits.is) }
+pub sup_there : (bytes : List ℕ) (relocations : SectionMap) → IsSupWith bytes relocations → IsThere (debug_parts bytes)
+sup_there bytes relocations fits = record { value = fits.debug.parts; is = parts_there bytes fits.debug (sup_debug bytes fits.debug fits.is) }
 
-pub sup_is : (bytes : List ℕ) (moves : SectionMap) (parts : DebugParts) → IsSupWith bytes moves → debug_parts bytes ≡ Good parts → sup_image bytes ≡ Good (record { parts = parts; moves = moves })
-sup_is bytes moves parts fits is =
+pub sup_is : (bytes : List ℕ) (relocations : SectionMap) (parts : DebugParts) → IsSupWith bytes relocations → debug_parts bytes ≡ Good parts → sup_image bytes ≡ Good (record { parts = parts; relocations = relocations })
+sup_is bytes relocations parts fits is =
     let same : fits.debug.parts ≡ parts = good_is _ _ (debug_parts bytes) (parts_there bytes fits.debug (sup_debug bytes fits.debug fits.is)) is in
-    fits.is ∙ ap (λ (d : DebugImage). Good d) (same_image fits.debug parts moves same fits.moves_are)
+    fits.is ∙ ap (λ (d : DebugImage). Good d) (same_image fits.debug parts relocations same fits.relocations_are)
 
 some_is : {A : Type 0} (x y : A) → Some x ≡ Some y → x ≡ y
 some_is x y e = cc
 
-pub sup_with : (file : NamedImage) (moves : SectionMap) → SupFits (Some file) (Some moves) → IsSupWith file.image moves
-sup_with file moves fits =
+pub sup_with : (file : NamedImage) (relocations : SectionMap) → SupFits (Some file) (Some relocations) → IsSupWith file.image relocations
+sup_with file relocations fits =
     let a = bind_good (sup_image file.image) (λ x. Good (Some x)) fits.debug fits.is in
     let e : Some a.0 ≡ fits.debug = good_is _ _ (Good fits.debug) (sym a.2) refl in
-    record { debug = a.0; is = a.1; moves_are = some_is _ _ (ap moves_in e ∙ fits.moves_are) }
+    record { debug = a.0; is = a.1; relocations_are = some_is _ _ (ap relocations_in e ∙ fits.relocations_are) }
 
-none_there : (debug : Option DebugImage) → moves_in debug ≡ None → debug ≡ None
+none_there : (debug : Option DebugImage) → relocations_in debug ≡ None → debug ≡ None
 none_there None e = refl
 none_there (Some d) e = absurd cc
 
 pub without_moves : (file : Option NamedImage) → SupFits file None → if_there sup_image file ≡ Good None
-without_moves file fits = fits.is ∙ ap (λ (d : Option DebugImage). Good d) (none_there fits.debug fits.moves_are)
+without_moves file fits = fits.is ∙ ap (λ (d : Option DebugImage). Good d) (none_there fits.debug fits.relocations_are)
 
 -- ---- all
 
@@ -94,37 +94,37 @@ others_there images debug is =
 
 -- the bundle's debug information again, from its parts
 pub images_again : (images : ImageSet) (w : WarmDebug) (parts : DebugParts) (sup : Option DebugImage) (package_parts : Option PackageParts) → (it : WarmBook images w) → debug_parts (debug_file images).image ≡ Good parts
-    → if_there sup_image images.supplementary ≡ Good sup → if_there package_of images.package_file ≡ Good package_parts → it.debug ≡ record { main = record { parts = parts; moves = w.main }; sup = sup; package_parts = package_parts }
+    → if_there sup_image images.supplementary ≡ Good sup → if_there package_of images.package_file ≡ Good package_parts → it.debug ≡ record { main = record { parts = parts; relocations = w.main }; sup = sup; package_parts = package_parts }
 images_again images w parts sup package_parts it main_is sup_is package_is =
     let others = others_there images it.debug it.is in
-    let m : it.debug.main ≡ record { parts = parts; moves = w.main } = same_image it.debug.main parts w.main (good_is _ _ (debug_parts (debug_file images).image) (parts_there (debug_file images).image it.debug.main (main_there images it.debug it.is)) main_is) it.moves in
+    let m : it.debug.main ≡ record { parts = parts; relocations = w.main } = same_image it.debug.main parts w.main (good_is _ _ (debug_parts (debug_file images).image) (parts_there (debug_file images).image it.debug.main (main_there images it.debug it.is)) main_is) it.relocations in
     let s : it.debug.sup ≡ sup = good_is _ _ (if_there sup_image images.supplementary) others.0 sup_is in
     let p : it.debug.package_parts ≡ package_parts = good_is _ _ (if_there package_of images.package_file) others.1 package_is in
     ap (λ (x : DebugImage). record { main = x; sup = it.debug.sup; package_parts = it.debug.package_parts }) m
-    ∙ ap (λ (x : Option DebugImage). record { main = record { parts = parts; moves = w.main }; sup = x; package_parts = it.debug.package_parts }) s
-    ∙ ap (λ (x : Option PackageParts). record { main = record { parts = parts; moves = w.main }; sup = sup; package_parts = x }) p
+    ∙ ap (λ (x : Option DebugImage). record { main = record { parts = parts; relocations = w.main }; sup = x; package_parts = it.debug.package_parts }) s
+    ∙ ap (λ (x : Option PackageParts). record { main = record { parts = parts; relocations = w.main }; sup = sup; package_parts = x }) p
 
 -- the relocations that are kept of a supplementary file
-pub moves_kept : (sup : Option image.DebugImage) → moves_in (option_map debug_view sup) ≡ option_map (λ (d : image.DebugImage). d.moves) sup
+pub moves_kept : (sup : Option image.DebugImage) → relocations_in (option_map debug_view sup) ≡ option_map (λ (d : image.DebugImage). d.relocations) sup
 moves_kept None = refl
 moves_kept (Some d) = refl
 
 -- debug information that was read again has the bundle's book
-pub book_again : (images : ImageSet) (w : WarmDebug) (d : DebugInfo) → (it : WarmBook images w) → d.files.none ≡ finite.empty → debug_parts (debug_file images).image ≡ Good (parts_view d.files.main.«data») → d.files.main.moves ≡ w.main → d.units ≡ w.units
+pub book_again : (images : ImageSet) (w : WarmDebug) (d : DebugInfo) → (it : WarmBook images w) → d.files.none ≡ finite.empty → debug_parts (debug_file images).image ≡ Good (parts_view d.files.main.«data») → d.files.main.relocations ≡ w.main → d.units ≡ w.units
     → if_there sup_image images.supplementary ≡ Good (option_map debug_view d.files.sup) → if_there package_of images.package_file ≡ Good (option_map package_view d.files.«package») → HasBook images d
-book_again images w d it none main moves units sup package_parts =
+book_again images w d it none main relocations units sup package_parts =
     let same : it.debug ≡ images_view d.files =
     images_again images w (parts_view d.files.main.«data») (option_map debug_view d.files.sup) (option_map package_view d.files.«package») it main sup package_parts
-    ∙ ap (λ (m : SectionMap). record { main = record { parts = parts_view d.files.main.«data»; moves = m }; sup = option_map debug_view d.files.sup; package_parts = option_map package_view d.files.«package» }) (sym moves) in
+    ∙ ap (λ (m : SectionMap). record { main = record { parts = parts_view d.files.main.«data»; relocations = m }; sup = option_map debug_view d.files.sup; package_parts = option_map package_view d.files.«package» }) (sym relocations) in
     let P : DebugImages → Type 0 = λ x. UnitsFit (files_in x) w.units in
     let Q : Units → Type 0 = λ u. UnitsFit (files_in (images_view d.files)) u in
     record { none = none; files = it.is ∙ ap (λ (x : DebugImages). Good x) same; units = subst Q (sym units) (subst P same it.units) }
 
 -- a resolver's debug information, without its images
-pub warm_book : (images : ImageSet) (d : DebugInfo) (w : WarmDebug) → HasBook images d → w.main ≡ d.files.main.moves → w.sup ≡ option_map (λ (i : image.DebugImage). i.moves) d.files.sup → w.units ≡ d.units → WarmBook images w
+pub warm_book : (images : ImageSet) (d : DebugInfo) (w : WarmDebug) → HasBook images d → w.main ≡ d.files.main.relocations → w.sup ≡ option_map (λ (i : image.DebugImage). i.relocations) d.files.sup → w.units ≡ d.units → WarmBook images w
 warm_book images d w has main sup units =
     let Q : Units → Type 0 = λ u. UnitsFit (files_in (images_view d.files)) u in
-    record { debug = images_view d.files; is = has.files; moves = sym main; sup_moves = moves_kept d.files.sup ∙ sym sup; units = subst Q (sym units) has.units }
+    record { debug = images_view d.files; is = has.files; relocations = sym main; sup_relocations = moves_kept d.files.sup ∙ sym sup; units = subst Q (sym units) has.units }
 
 -- ---- a resolver
 

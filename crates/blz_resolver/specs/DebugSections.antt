@@ -4,7 +4,7 @@ use Rattle.std.specs.FinMap as map
 use Rattle.blz_model.specs.declared.byte_order.ByteOrder.{ByteOrder}
 use Rattle.blz_model.specs.Part.{Part, Good, ◌>>=◌}
 use Rattle.blz_image.specs.Images.{elf_of, image_order, image_section, image_section_data, image_data_named}
-use Rattle.blz_moves.specs.Relocations.{OffsetMap, SectionMap, maps_of, section_map}
+use Rattle.blz_relocations.specs.Relocations.{OffsetMap, SectionMap, maps_of, section_map}
 use Rattle.blz_image.specs.RelocationTables.{image_relocations}
 use Rattle.blz_info.specs.Contents.{Contents}
 use Rattle.blz_info.specs.FileSections.{FileSections}
@@ -74,27 +74,27 @@ debug_parts image = do
 -- ---- with the relocations of the image (ELF gABI, Relocation)
 
 -- the relocations of a section, none of one that is not there
-abbrev pub moves_of : SectionMap → Option ℕ → OffsetMap
-moves_of moves None = map.empty
-moves_of moves (Some number) = section_map moves number
+abbrev pub relocations_of : SectionMap → Option ℕ → OffsetMap
+relocations_of relocations None = map.empty
+relocations_of relocations (Some number) = section_map relocations number
 
 -- a section with its relocations, in the byte order of its image
 abbrev pub contents_with : ByteOrder → SectionMap → Located → Contents
-contents_with order moves s = record { bytes = s.bytes; moves = moves_of moves s.number; order = order }
+contents_with order relocations s = record { bytes = s.bytes; relocations = relocations_of relocations s.number; order = order }
 
 -- all of them with their relocations, as those of a main file: neither a split unit's nor a supplementary file's
 abbrev pub sections_in : DebugParts → SectionMap → FileSections
-sections_in p moves = record {
-  «abbrev» = contents_with p.order moves p.«abbrev»;
-  addr = contents_with p.order moves p.addr;
-  aranges = contents_with p.order moves p.aranges;
-  info = contents_with p.order moves p.info;
-  line = contents_with p.order moves p.line;
-  line_str = contents_with p.order moves p.line_str;
-  ranges = contents_with p.order moves p.ranges;
-  rnglists = contents_with p.order moves p.rnglists;
-  strings = contents_with p.order moves p.strings;
-  str_offsets = contents_with p.order moves p.str_offsets;
+sections_in p relocations = record {
+  «abbrev» = contents_with p.order relocations p.«abbrev»;
+  addr = contents_with p.order relocations p.addr;
+  aranges = contents_with p.order relocations p.aranges;
+  info = contents_with p.order relocations p.info;
+  line = contents_with p.order relocations p.line;
+  line_str = contents_with p.order relocations p.line_str;
+  ranges = contents_with p.order relocations p.ranges;
+  rnglists = contents_with p.order relocations p.rnglists;
+  strings = contents_with p.order relocations p.strings;
+  str_offsets = contents_with p.order relocations p.str_offsets;
   sup_strings = None;
   shift = 0;
   split = false;
@@ -109,16 +109,16 @@ section_numbers p = p.«abbrev».number ∷ p.addr.number ∷ p.aranges.number �
 -- it has those of its sections.
 pub record DebugImage : Type 0 where
   pub parts : DebugParts
-  pub moves : SectionMap
+  pub relocations : SectionMap
 
 -- the debug information of an image; marks come in the order above, those of its sections last
 unfoldable pub debug_image : List ℕ → Part DebugImage
 debug_image image = do
   elf ← elf_of image
-  moves ← image_relocations image
+  relocations ← image_relocations image
   parts ← debug_parts image
-  Good (record { parts = parts; moves = maps_of (section_numbers parts) moves })
+  Good (record { parts = parts; relocations = maps_of (section_numbers parts) relocations })
 
 -- the sections that entries are read from
 abbrev pub sections_of : DebugImage → FileSections
-sections_of d = sections_in d.parts d.moves
+sections_of d = sections_in d.parts d.relocations

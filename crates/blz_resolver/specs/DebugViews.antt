@@ -25,7 +25,7 @@ parts_view d = record {
 }
 
 abbrev pub debug_view : image.DebugImage → DebugImage
-debug_view d = record { parts = parts_view d.«data»; moves = d.moves }
+debug_view d = record { parts = parts_view d.«data»; relocations = d.relocations }
 
 -- sections that begin where those of their file do, and no part of a package
 pub record IsWholeFile (s : Sections) : Type 0 where

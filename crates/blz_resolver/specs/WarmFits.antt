@@ -2,7 +2,7 @@
 use Rattle.std.specs.Prelude.{◌≡◌, Bool, true, Option, Some, None, is_some, option_map, ⊤}
 use Rattle.blz_error.specs.Texts.{Bytes}
 use Rattle.blz_model.specs.Part.{Part, Good}
-use Rattle.blz_moves.specs.Relocations.{SectionMap}
+use Rattle.blz_relocations.specs.Relocations.{SectionMap}
 use Rattle.blz_elf.specs.Warm as elf
 use Rattle.blz_index.specs.UnitsWarm.{units_prepared, UnitsFit}
 use Rattle.blz_index.specs.declared.units.Units.{Units}
@@ -29,27 +29,27 @@ pub record IsThere {A : Type 0} (p : Part A) : Type 0 where
   pub value : A
   pub is : p ≡ Good value
 
-abbrev pub moves_in : Option DebugImage → Option SectionMap
-moves_in debug = option_map (λ (d : DebugImage). d.moves) debug
+abbrev pub relocations_in : Option DebugImage → Option SectionMap
+relocations_in debug = option_map (λ (d : DebugImage). d.relocations) debug
 
 -- the relocations are those of a supplementary file
-pub record IsSupWith (bytes : Bytes) (moves : SectionMap) : Type 0 where
+pub record IsSupWith (bytes : Bytes) (relocations : SectionMap) : Type 0 where
   pub debug : DebugImage
   pub is : sup_image bytes ≡ Good debug
-  pub moves_are : debug.moves ≡ moves
+  pub relocations_are : debug.relocations ≡ relocations
 
 -- the same, where there is one
-pub record SupFits (file : Option NamedImage) (moves : Option SectionMap) : Type 0 where
+pub record SupFits (file : Option NamedImage) (relocations : Option SectionMap) : Type 0 where
   pub debug : Option DebugImage
   pub is : if_there sup_image file ≡ Good debug
-  pub moves_are : moves_in debug ≡ moves
+  pub relocations_are : relocations_in debug ≡ relocations
 
 -- The relocations and the units are those of the bundle.
 pub record WarmBook (images : ImageSet) (w : WarmDebug) : Type 0 where
   pub debug : DebugImages
   pub is : debug_images images ≡ Good debug
-  pub moves : debug.main.moves ≡ w.main
-  pub sup_moves : moves_in debug.sup ≡ w.sup
+  pub relocations : debug.main.relocations ≡ w.main
+  pub sup_relocations : relocations_in debug.sup ≡ w.sup
   pub units : UnitsFit (files_in debug) w.units
 
 abbrev pub WarmBookIf : ImageSet → Option WarmDebug → Type 0

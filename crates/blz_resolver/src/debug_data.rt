@@ -4,7 +4,7 @@ ghost use Rattle.std.specs.FinMap as map;
 ghost use Rattle.blz_model.specs.Part.{Exactly};
 ghost use Rattle.blz_info.specs.Contents.{section_view};
 ghost use Rattle.blz_info.specs.FileSections.{sections_view};
-ghost use Rattle.blz_resolver.specs.DebugSections.{data_numbered, located, debug_parts, moves_of, contents_with, section_numbers, sections_in};
+ghost use Rattle.blz_resolver.specs.DebugSections.{data_numbered, located, debug_parts, relocations_of, contents_with, section_numbers, sections_in};
 ghost use Rattle.blz_resolver.specs.DebugViews.{located_view, parts_view, IsWholeFile};
 
 use crate::debug_section::DebugSection;
@@ -58,16 +58,16 @@ fn section_of<'b>(parser: &mut ElfParser<'b>, section: DebugSection) -> Result<S
 }
 
 // What is done to the numbers of a section: nothing to those of one that is not there.
-fn moves_of<'s>(
-    moves: &'s SectionRelocations,
+fn relocations_of<'s>(
+    relocations: &'s SectionRelocations,
     none: &'s RelocationMap,
     number: Option<usize>,
 ) -> &'s RelocationMap
     requires { none.now ≡ map.empty }
-    ensures { result.now ≡ moves_of moves.now number }
+    ensures { result.now ≡ relocations_of relocations.now number }
 {
     match number {
-        Some(number) => moves.get(number),
+        Some(number) => relocations.get(number),
         None => none,
     }
 }
@@ -83,18 +83,18 @@ fn bounded(bytes: &[u8]) -> &[u8]
 impl<'b> SectionData<'b> {
     fn section<'s>(
         &self,
-        moves: &'s SectionRelocations,
+        relocations: &'s SectionRelocations,
         none: &'s RelocationMap,
         order: ByteOrder,
     ) -> Section<'s, 'b>
         requires { none.now ≡ map.empty }
         ensures view { section_view result
-            ≡ contents_with order moves.now (located_view self.now) }
+            ≡ contents_with order relocations.now (located_view self.now) }
         ensures short { length result.bytes.now < 2 ^ 63 }
     {
         Section {
             bytes: bounded(self.bytes),
-            moves: moves_of(moves, none, self.number),
+            relocations: relocations_of(relocations, none, self.number),
             order,
         }
     }
@@ -155,24 +155,24 @@ impl<'b> DebugData<'b> {
     /// The sections with the relocations of their image; `none` relocates nothing.
     pub fn sections<'s>(
         &self,
-        moves: &'s SectionRelocations,
+        relocations: &'s SectionRelocations,
         none: &'s RelocationMap,
     ) -> Sections<'s, 'b>
         requires { none.now ≡ map.empty }
-        ensures view { sections_view result ≡ sections_in (parts_view self.now) moves.now }
+        ensures view { sections_view result ≡ sections_in (parts_view self.now) relocations.now }
         ensures whole { IsWholeFile result }
     {
         Sections {
-            abbrev: self.abbrev.section(moves, none, self.order),
-            addr: self.addr.section(moves, none, self.order),
-            aranges: self.aranges.section(moves, none, self.order),
-            info: self.info.section(moves, none, self.order),
-            line: self.line.section(moves, none, self.order),
-            line_str: self.line_str.section(moves, none, self.order),
-            ranges: self.ranges.section(moves, none, self.order),
-            rnglists: self.rnglists.section(moves, none, self.order),
-            strings: self.strings.section(moves, none, self.order),
-            str_offsets: self.str_offsets.section(moves, none, self.order),
+            abbrev: self.abbrev.section(relocations, none, self.order),
+            addr: self.addr.section(relocations, none, self.order),
+            aranges: self.aranges.section(relocations, none, self.order),
+            info: self.info.section(relocations, none, self.order),
+            line: self.line.section(relocations, none, self.order),
+            line_str: self.line_str.section(relocations, none, self.order),
+            ranges: self.ranges.section(relocations, none, self.order),
+            rnglists: self.rnglists.section(relocations, none, self.order),
+            strings: self.strings.section(relocations, none, self.order),
+            str_offsets: self.str_offsets.section(relocations, none, self.order),
             sup_strings: None,
             shift: 0,
             split: false,

@@ -16,7 +16,7 @@ use std::alloc::Global;
 #[derive(Drop)]
 pub(crate) struct DebugImage<'b> {
     pub data: DebugData<'b>,
-    pub moves: SectionRelocations,
+    pub relocations: SectionRelocations,
 }
 
 impl<'b> DebugImage<'b> {
@@ -30,8 +30,8 @@ impl<'b> DebugImage<'b> {
         parser.is_relocatable()?;
         parser.check_relocations()?;
         let data = DebugData::read(parser)?;
-        let moves = parser.read_relocations_for(alloc, &data.numbers())?;
-        Ok(DebugImage { data, moves })
+        let relocations = parser.read_relocations_for(alloc, &data.numbers())?;
+        Ok(DebugImage { data, relocations })
     }
 
     /// The sections that entries are read from; `none` relocates nothing.
@@ -40,6 +40,6 @@ impl<'b> DebugImage<'b> {
         ensures view { sections_view result ≡ sections_of (debug_view self.now) }
         ensures whole { IsWholeFile result }
     {
-        self.data.sections(&self.moves, none)
+        self.data.sections(&self.relocations, none)
     }
 }

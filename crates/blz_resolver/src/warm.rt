@@ -42,11 +42,11 @@ pub struct Warm {
 
 // ---- from a resolver
 
-fn moves_of(sup: Option<DebugImage<'_>>) -> Option<SectionRelocations>
-    ensures { result ≡ option_map (λ d. d.moves) sup.entry }
+fn relocations_of(sup: Option<DebugImage<'_>>) -> Option<SectionRelocations>
+    ensures { result ≡ option_map (λ d. d.relocations) sup.entry }
 {
     match sup {
-        Some(debug) => Some(debug.moves),
+        Some(debug) => Some(debug.relocations),
         None => None,
     }
 }
@@ -61,8 +61,8 @@ fn warm_debug<'b>(bundle: &Bundle<'b>, debug: Option<DebugInfo<'b>>) -> Option<W
             let DebugInfo { files, units } = info;
             let DebugFiles { main, sup, .. } = files;
             Some(WarmDebug {
-                main: main.moves,
-                sup: moves_of(sup),
+                main: main.relocations,
+                sup: relocations_of(sup),
                 units,
             })
         }
@@ -84,29 +84,29 @@ fn data_again<'b>(parser: &mut ElfParser<'b>) -> DebugData<'b>
     }
 }
 
-fn sup_with<'b>(alloc: Global, file: Companion<'b>, moves: SectionRelocations) -> DebugImage<'b>
-    requires { IsSupWith file.image.now moves }
+fn sup_with<'b>(alloc: Global, file: Companion<'b>, relocations: SectionRelocations) -> DebugImage<'b>
+    requires { IsSupWith file.image.now relocations }
     ensures { sup_image file.entry.image.now ≡ Good (debug_view result) }
 {
     let mut parser = ElfParser::from_mem(alloc, file.image, file.module);
     let data = data_again(&mut parser);
-    DebugImage { data, moves }
+    DebugImage { data, relocations }
 }
 
 fn sup_again<'b>(
     alloc: Global,
     file: &Option<Companion<'b>>,
-    moves: Option<SectionRelocations>,
+    relocations: Option<SectionRelocations>,
 ) -> Option<DebugImage<'b>>
-    requires { SupFits (option_map companion_view file.now) moves }
+    requires { SupFits (option_map companion_view file.now) relocations }
     ensures { if_there sup_image (option_map companion_view file.now)
         ≡ Good (option_map debug_view result) }
 {
     let Some(file) = file else {
         return None;
     };
-    match moves {
-        Some(moves) => Some(sup_with(alloc, *file, moves)),
+    match relocations {
+        Some(relocations) => Some(sup_with(alloc, *file, relocations)),
         None => None,
     }
 }
@@ -139,7 +139,7 @@ fn info_again<'b>(
     let data = data_again(parser);
     let main = DebugImage {
         data,
-        moves: warm.main,
+        relocations: warm.main,
     };
     let files = DebugFiles {
         main,

@@ -1,6 +1,6 @@
 -- The sections that a split unit is read from.
 use Rattle.std.specs.Prelude.{ℕ, ◌+◌, true, List, slice_range}
-use Rattle.blz_moves.specs.Relocations.{OffsetMap}
+use Rattle.blz_relocations.specs.Relocations.{OffsetMap}
 use Rattle.blz_info.specs.Contents.{Contents}
 use Rattle.blz_info.specs.FileSections.{FileSections}
 use Rattle.blz_split.specs.declared.split_unit.Piece.{Piece}
@@ -9,7 +9,7 @@ use Rattle.blz_split.specs.PackageParts.{PackageParts}
 
 -- a section of a package, which is never relocated
 abbrev pub packed : PackageParts → OffsetMap → List ℕ → Contents
-packed p none bytes = record { bytes = bytes; moves = none; order = p.order }
+packed p none bytes = record { bytes = bytes; relocations = none; order = p.order }
 
 -- the bytes of a contribution, of those of its section
 abbrev pub piece_of : List ℕ → Piece → List ℕ

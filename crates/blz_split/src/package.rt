@@ -21,7 +21,7 @@ use blz_elf::ElfParser;
 use blz_entry::{Section, Sections};
 use blz_error::{Error, ErrorKind, Result, Str};
 use blz_model::ByteOrder;
-use blz_moves::RelocationMap;
+use blz_relocations::RelocationMap;
 use std::alloc::{AllocError, Global};
 
 /// The sections of a package, and its unit index.
@@ -290,13 +290,13 @@ impl<'b> Package<'b> {
         }
     }
 
-    fn section<'s>(&self, bytes: &'b [u8], moves: &'s RelocationMap) -> Section<'s, 'b>
+    fn section<'s>(&self, bytes: &'b [u8], relocations: &'s RelocationMap) -> Section<'s, 'b>
         ensures { section_view result
-            ≡ record { bytes = bytes.now; moves = moves.now; order = self.now.order } }
+            ≡ record { bytes = bytes.now; relocations = relocations.now; order = self.now.order } }
     {
         Section {
             bytes,
-            moves,
+            relocations,
             order: self.order,
         }
     }

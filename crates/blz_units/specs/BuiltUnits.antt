@@ -3,7 +3,7 @@ use Rattle.std.specs.Prelude.{◌≡◌, ℕ, ◌+◌, ◌^◌, ◌<◌, ◌≤�
 use Rattle.std.specs.Arc.{arc_value}
 use Rattle.std.specs.FinMap as map
 use Rattle.blz_model.specs.Reads.{◌>>=◌}
-use Rattle.blz_moves.specs.Relocations.{OffsetMap}
+use Rattle.blz_relocations.specs.Relocations.{OffsetMap}
 use Rattle.blz_info.specs.AbbreviationTables.{abbreviations}
 use Rattle.blz_info.specs.Abbrevs.{Abbrev}
 use Rattle.blz_info.specs.Headers.{next_unit}

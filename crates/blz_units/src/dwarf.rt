@@ -7,7 +7,7 @@ ghost use Rattle.blz_split.specs.SplitSections.{split_sections};
 ghost use Rattle.blz_split.specs.PackageParts.{package_view, PiecesFit};
 
 use blz_entry::{Section, Sections, Texts};
-use blz_moves::RelocationMap;
+use blz_relocations::RelocationMap;
 use blz_split::{Package, SplitUnit};
 
 /// The sections of a file with what they refer to: a package of split units, and a supplementary file.
@@ -43,7 +43,7 @@ fn section_in<'u, 's, 'b>(section: &'u Section<'s, 'b>) -> Section<'u, 'b>
 {
     Section {
         bytes: section.bytes,
-        moves: section.moves,
+        relocations: section.relocations,
         order: section.order,
     }
 }

@@ -8,7 +8,7 @@ use crate::parser::ElfParser;
 use blz_error::{Error, Result, Str};
 use blz_image::relocating::{check_relocations, relocations, relocations_for};
 use blz_model::Cache;
-use blz_moves::SectionRelocations;
+use blz_relocations::SectionRelocations;
 use std::alloc::{AllocError, Global};
 
 impl ElfParser<'_> {

@@ -76,12 +76,12 @@ fn relocated_by_kept(
 fn moved_to_a_symbol(alloc: Global) -> std::result::Result<Vec<u8>, AllocError> {
     // r_offset 8, the symbol with the index 1 in r_info, r_addend 5
     let entry = b"\x08\0\0\0\0\0\0\0\x01\0\0\0\x01\0\0\0\x05\0\0\0\0\0\0\0";
-    let moves = Section::new(".rela.text", 4, entry).linked(2, 4);
+    let relocations = Section::new(".rela.text", 4, entry).linked(2, 4);
     Image::elf64(alloc)
         .file_type(1)
         .symbol("A", 0x10, 4)?
         .section(".text", 1, b"sixteen bytes ..")?
-        .add_section(moves)?
+        .add_section(relocations)?
         .bytes()
 }
 

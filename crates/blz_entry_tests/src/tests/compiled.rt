@@ -8,18 +8,18 @@ use blz_entry::{
     Abbreviations, AttrValue, Sections, Span, StrPart, StrPlace, UnitHeaders, UnitRoot, list_unit,
 };
 use blz_error::{IntoError, Result};
-use blz_moves::RelocationMap;
+use blz_relocations::RelocationMap;
 use std::alloc::Global;
 use std::test::Fail;
 
 // the sections of a compiled unit
-fn sections<'s>(sample: &Sample, moves: &'s RelocationMap) -> Sections<'s, 'static>
+fn sections<'s>(sample: &Sample, relocations: &'s RelocationMap) -> Sections<'s, 'static>
     ensures { result.shift ≡ 0 }
 {
     Sections {
-        info: section(sample.info, moves),
-        line_str: section(LINE_STR, moves),
-        ..no_sections(moves)
+        info: section(sample.info, relocations),
+        line_str: section(LINE_STR, relocations),
+        ..no_sections(relocations)
     }
 }
 
@@ -28,9 +28,9 @@ fn compiled_units_of_each_version_tell_their_ranges(
     rt: HostRuntime,
 ) -> std::result::Result<(), Fail> {
     let mut checks = Checks::new();
-    let moves = RelocationMap::new(rt.alloc());
+    let relocations = RelocationMap::new(rt.alloc());
     for sample in SAMPLES {
-        let sections = sections(&sample, &moves);
+        let sections = sections(&sample, &relocations);
         let mut headers = UnitHeaders::new(sections.info);
         let header = headers
             .next_header()
@@ -60,8 +60,8 @@ fn compiled_units_of_each_version_tell_their_ranges(
 
 // how many functions below the root have the name at a place of one byte
 fn functions_named(alloc: Global, sample: &Sample) -> Result<usize> {
-    let moves = RelocationMap::new(alloc);
-    let sections = sections(sample, &moves);
+    let relocations = RelocationMap::new(alloc);
+    let sections = sections(sample, &relocations);
     let header = UnitHeaders::new(sections.info)
         .next_header()?
         .ok_or_invalid_data(|| "no unit")?;

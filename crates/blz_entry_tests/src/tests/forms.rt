@@ -3,7 +3,7 @@ use super::small::{entries_at, section};
 use blz_checks::Checks;
 use blz_entry::{Abbreviations, AttrValue, Section, StrPart, StrPlace, form_value};
 use blz_model::ByteOrder;
-use blz_moves::RelocationMap;
+use blz_relocations::RelocationMap;
 use std::alloc::Global;
 use std::test::Fail;
 
@@ -26,8 +26,8 @@ fn check_reads(
     bytes: &[u8],
     forms: &[(u64, AttrValue, usize)],
 ) {
-    let moves = RelocationMap::new(alloc);
-    let bytes = section(bytes, &moves);
+    let relocations = RelocationMap::new(alloc);
+    let bytes = section(bytes, &relocations);
     for (form, value, next) in forms {
         checks.same((*form, read(&bytes, *form)), (*form, Some((*value, *next))));
     }
@@ -122,15 +122,15 @@ fn an_indirect_form_has_the_value_of_the_form_that_stands_there(
     rt: HostRuntime,
 ) -> Result<(), Fail> {
     let mut checks = Checks::new();
-    let moves = RelocationMap::new(rt.alloc());
-    let bytes = section(INDIRECT, &moves);
+    let relocations = RelocationMap::new(rt.alloc());
+    let bytes = section(INDIRECT, &relocations);
     checks.same(read(&bytes, 0x16), Some((AttrValue::Const(7), 2)));
     // an indirect form there, and an implicit constant
     checks.same(
         form_value(&bytes, StrPart::Line, 5, false, 8, 0x16, 2),
         None,
     );
-    let implicit = section(b"\x21\x05", &moves);
+    let implicit = section(b"\x21\x05", &relocations);
     checks.same(read(&implicit, 0x16), None);
     checks.result()
 }
@@ -138,11 +138,11 @@ fn an_indirect_form_has_the_value_of_the_form_that_stands_there(
 #[test]
 fn an_implicit_constant_is_the_number_of_the_abbreviation(rt: HostRuntime) -> Result<(), Fail> {
     let mut checks = Checks::new();
-    let moves = RelocationMap::new(rt.alloc());
+    let relocations = RelocationMap::new(rt.alloc());
     // two attributes, the first with an implicit constant of -2, and the second with one of 5
     let table = b"\x01\x34\0\x3a\x21\x7e\x3b\x21\x05\0\0\0";
     let abbreviations = Abbreviations::parse(rt.alloc(), table, 0).expect(&rt, "refused");
-    let mut entries = entries_at(b"\x01\x01", &moves, &abbreviations, 0).expect(&rt, "refused");
+    let mut entries = entries_at(b"\x01\x01", &relocations, &abbreviations, 0).expect(&rt, "refused");
     entries
         .next_entry()
         .expect(&rt, "refused")
@@ -163,8 +163,8 @@ fn an_implicit_constant_is_the_number_of_the_abbreviation(rt: HostRuntime) -> Re
 #[test]
 fn orders_and_sizes_change_what_a_form_reads(rt: HostRuntime) -> Result<(), Fail> {
     let mut checks = Checks::new();
-    let moves = RelocationMap::new(rt.alloc());
-    let little = section(NUMBERS, &moves);
+    let relocations = RelocationMap::new(rt.alloc());
+    let little = section(NUMBERS, &relocations);
     let big = Section {
         order: ByteOrder::Big,
         ..little
@@ -194,8 +194,8 @@ fn orders_and_sizes_change_what_a_form_reads(rt: HostRuntime) -> Result<(), Fail
 #[test]
 fn a_number_below_zero_is_no_constant(rt: HostRuntime) -> Result<(), Fail> {
     let mut checks = Checks::new();
-    let moves = RelocationMap::new(rt.alloc());
-    let bytes = section(INDIRECT, &moves);
+    let relocations = RelocationMap::new(rt.alloc());
+    let bytes = section(INDIRECT, &relocations);
     let negative = form_value(&bytes, StrPart::Line, 5, false, 8, 0x0d, 4);
     checks.same(negative, Some((AttrValue::Signed(-128), 6)));
     checks.same(AttrValue::Signed(-128).udata(), None);
@@ -206,9 +206,9 @@ fn a_number_below_zero_is_no_constant(rt: HostRuntime) -> Result<(), Fail> {
 #[test]
 fn addresses_are_moved_and_constants_are_not(rt: HostRuntime) -> Result<(), Fail> {
     let mut checks = Checks::new();
-    let mut moves = RelocationMap::new(rt.alloc());
-    moves.insert(8, 0xABCD, false).expect(&rt, "refused");
-    let moved = section(NUMBERS, &moves);
+    let mut relocations = RelocationMap::new(rt.alloc());
+    relocations.insert(8, 0xABCD, false).expect(&rt, "refused");
+    let moved = section(NUMBERS, &relocations);
     let line = StrPart::Line;
     checks.same(
         form_value(&moved, line, 5, false, 4, 0x01, 8),

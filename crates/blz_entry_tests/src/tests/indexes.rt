@@ -6,7 +6,7 @@ use blz_entry::{
     attr_ranges_offset, attr_string, supplementary_string,
 };
 use blz_error::ErrorKind;
-use blz_moves::RelocationMap;
+use blz_relocations::RelocationMap;
 use std::test::Fail;
 
 const STRINGS: &[u8] = b"\0ab\0cde\0";
@@ -14,11 +14,11 @@ const STRINGS: &[u8] = b"\0ab\0cde\0";
 #[test]
 fn a_string_is_found_by_its_index(rt: HostRuntime) -> Result<(), Fail> {
     let mut checks = Checks::new();
-    let moves = RelocationMap::new(rt.alloc());
+    let relocations = RelocationMap::new(rt.alloc());
     let sections = Sections {
-        strings: section(STRINGS, &moves),
-        str_offsets: section(b"\x01\0\0\0\x04\0\0\0", &moves),
-        ..no_sections(&moves)
+        strings: section(STRINGS, &relocations),
+        str_offsets: section(b"\x01\0\0\0\x04\0\0\0", &relocations),
+        ..no_sections(&relocations)
     };
     let second = StrPlace {
         part: StrPart::Strings,
@@ -47,11 +47,11 @@ fn a_string_is_found_by_its_index(rt: HostRuntime) -> Result<(), Fail> {
 #[test]
 fn a_string_of_the_supplementary_file_is_found_there(rt: HostRuntime) -> Result<(), Fail> {
     let mut checks = Checks::new();
-    let moves = RelocationMap::new(rt.alloc());
-    let strings = section(STRINGS, &moves);
+    let relocations = RelocationMap::new(rt.alloc());
+    let strings = section(STRINGS, &relocations);
     let sections = Sections {
         sup_strings: Some(strings),
-        ..no_sections(&moves)
+        ..no_sections(&relocations)
     };
     let elsewhere = Some(StrPlace {
         part: StrPart::SupStrings,
@@ -70,13 +70,13 @@ fn a_string_of_the_supplementary_file_is_found_there(rt: HostRuntime) -> Result<
 #[test]
 fn an_address_is_found_by_its_index(rt: HostRuntime) -> Result<(), Fail> {
     let mut checks = Checks::new();
-    let moves = RelocationMap::new(rt.alloc());
+    let relocations = RelocationMap::new(rt.alloc());
     let sections = Sections {
         addr: section(
             b"\0\0\0\0\0\0\0\0\x05\0\0\0\0\0\0\0\x07\0\0\0\0\0\0\0",
-            &moves,
+            &relocations,
         ),
-        ..no_sections(&moves)
+        ..no_sections(&relocations)
     };
     checks.gives(address(&sections, &header(5), &root(0), 1), 7);
     checks.holds(address(&sections, &header(5), &root(0), 2).is_err());
@@ -84,18 +84,18 @@ fn an_address_is_found_by_its_index(rt: HostRuntime) -> Result<(), Fail> {
 }
 
 // sections of which all but the lists of ranges are empty
-fn lists_alone<'s, 'b>(rnglists: &'b [u8], moves: &'s RelocationMap) -> Sections<'s, 'b> {
+fn lists_alone<'s, 'b>(rnglists: &'b [u8], relocations: &'s RelocationMap) -> Sections<'s, 'b> {
     Sections {
-        rnglists: section(rnglists, moves),
-        ..no_sections(moves)
+        rnglists: section(rnglists, relocations),
+        ..no_sections(relocations)
     }
 }
 
 #[test]
 fn a_list_of_ranges_is_found_by_its_index(rt: HostRuntime) -> Result<(), Fail> {
     let mut checks = Checks::new();
-    let moves = RelocationMap::new(rt.alloc());
-    let sections = lists_alone(b"\0\0\0\0\x08\0\0\0", &moves);
+    let relocations = RelocationMap::new(rt.alloc());
+    let sections = lists_alone(b"\0\0\0\0\x08\0\0\0", &relocations);
     let found = attr_ranges_offset(
         &sections,
         &header(5),
@@ -109,8 +109,8 @@ fn a_list_of_ranges_is_found_by_its_index(rt: HostRuntime) -> Result<(), Fail> {
 #[test]
 fn a_list_past_the_greatest_offset_is_named_and_has_no_value(rt: HostRuntime) -> Result<(), Fail> {
     let mut checks = Checks::new();
-    let moves = RelocationMap::new(rt.alloc());
-    let sections = lists_alone(b"\0\0\0\0\xff\xff\xff\xff\xff\xff\xff\xff", &moves);
+    let relocations = RelocationMap::new(rt.alloc());
+    let sections = lists_alone(b"\0\0\0\0\xff\xff\xff\xff\xff\xff\xff\xff", &relocations);
     let wide = UnitHeader {
         wide: true,
         ..header(5)

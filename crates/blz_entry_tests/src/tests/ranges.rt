@@ -2,7 +2,7 @@
 use super::small::{header, no_sections, root, section};
 use blz_checks::Checks;
 use blz_entry::{Aranges, RangeAttributes, Sections, Span};
-use blz_moves::RelocationMap;
+use blz_relocations::RelocationMap;
 use std::test::Fail;
 
 fn span(begin: u64, end: u64) -> Span {
@@ -12,17 +12,17 @@ fn span(begin: u64, end: u64) -> Span {
 #[test]
 fn lists_of_ranges_of_both_kinds_are_read(rt: HostRuntime) -> Result<(), Fail> {
     let mut checks = Checks::new();
-    let moves = RelocationMap::new(rt.alloc());
+    let relocations = RelocationMap::new(rt.alloc());
     let sections = Sections {
         rnglists: section(
             b"\x04\x10\x20\x04\x30\x30\x07\x00\x20\0\0\0\0\0\0\x08\0",
-            &moves,
+            &relocations,
         ),
         ranges: section(
             b"\x10\0\0\0\0\0\0\0\x20\0\0\0\0\0\0\0\0\0\0\0\0\0\0\0\0\0\0\0\0\0\0\0",
-            &moves,
+            &relocations,
         ),
-        ..no_sections(&moves)
+        ..no_sections(&relocations)
     };
     let attributes = RangeAttributes {
         ranges_offset: Some(0),
@@ -42,10 +42,10 @@ fn lists_of_ranges_of_both_kinds_are_read(rt: HostRuntime) -> Result<(), Fail> {
 #[test]
 fn a_set_of_address_ranges_tells_its_unit_and_its_ranges(rt: HostRuntime) -> Result<(), Fail> {
     let mut checks = Checks::new();
-    let moves = RelocationMap::new(rt.alloc());
+    let relocations = RelocationMap::new(rt.alloc());
     let bytes =
         b"\x2c\0\0\0\x02\0\x33\0\0\0\x08\0\0\0\0\0\x00\x10\0\0\0\0\0\0\x10\0\0\0\0\0\0\0\0\0\0\0\0\0\0\0\0\0\0\0\0\0\0\0";
-    let aranges = section(bytes, &moves);
+    let aranges = section(bytes, &relocations);
     let mut sets = Aranges::new(aranges);
     let mut set = sets.next_set().expect(&rt, "refused").expect(&rt, "a set");
     checks.same((set.unit, set.at, set.end), (0x33, 16, 48));

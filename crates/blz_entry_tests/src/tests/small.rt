@@ -6,22 +6,22 @@ use blz_entry::{
 };
 use blz_error::Result;
 use blz_model::ByteOrder;
-use blz_moves::RelocationMap;
+use blz_relocations::RelocationMap;
 
 /// Bytes in the little-endian order.
-pub fn section<'s, 'b>(bytes: &'b [u8], moves: &'s RelocationMap) -> Section<'s, 'b> {
+pub fn section<'s, 'b>(bytes: &'b [u8], relocations: &'s RelocationMap) -> Section<'s, 'b> {
     Section {
         bytes,
-        moves,
+        relocations,
         order: ByteOrder::Little,
     }
 }
 
 /// Sections that are all empty.
-pub fn no_sections(moves: &RelocationMap) -> Sections<'_, 'static>
+pub fn no_sections(relocations: &RelocationMap) -> Sections<'_, 'static>
     ensures { result.shift ≡ 0 }
 {
-    let empty = section(b"", moves);
+    let empty = section(b"", relocations);
     Sections {
         abbrev: empty,
         addr: empty,
@@ -58,15 +58,15 @@ pub fn header(version: u16) -> UnitHeader {
 /// The entries from a place on, in a unit of version 5 that has nothing but entries.
 pub fn entries_at<'s, 'b>(
     info: &'b [u8],
-    moves: &'s RelocationMap,
+    relocations: &'s RelocationMap,
     abbreviations: &'s Abbreviations,
     at: usize,
 ) -> Result<Entries<'s, 'b>>
     ensures { IfOk result (λ e. e.pending ≡ []) }
 {
     let sections = Sections {
-        info: section(info, moves),
-        ..no_sections(moves)
+        info: section(info, relocations),
+        ..no_sections(relocations)
     };
     let unit = UnitHeader {
         end: info.len(),

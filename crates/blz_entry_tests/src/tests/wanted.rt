@@ -3,7 +3,7 @@ use super::small::entries_at;
 use blz_bytes::Room;
 use blz_checks::Checks;
 use blz_entry::{Abbreviations, AttrValue, Encoding, Entries, Passing, StrPart, StrPlace};
-use blz_moves::RelocationMap;
+use blz_relocations::RelocationMap;
 use std::alloc::Global;
 use std::test::Fail;
 
@@ -45,7 +45,7 @@ fn told(start: usize) -> [(u64, AttrValue); 4] {
 
 // both entries by a table that is read for one encoding
 fn check_values(checks: &mut Checks, alloc: Global, version: u16) -> blz_error::Result<()> {
-    let moves = RelocationMap::new(alloc);
+    let relocations = RelocationMap::new(alloc);
     let encoding = Encoding {
         version,
         wide: false,
@@ -53,7 +53,7 @@ fn check_values(checks: &mut Checks, alloc: Global, version: u16) -> blz_error::
     };
     let mut room = Room::endless();
     let abbreviations = Abbreviations::parse_for(alloc, &mut room, TABLE, 0, encoding)?;
-    let mut entries = entries_at(INFO, &moves, &abbreviations, 0)?;
+    let mut entries = entries_at(INFO, &relocations, &abbreviations, 0)?;
     for place in [0, 22] {
         let entry = entries.next_entry()?;
         checks.same(entry.map(|entry| entry.place), Some(place));
@@ -79,9 +79,9 @@ const REPEATED: &[u8] =
 #[test]
 fn attributes_without_bytes_are_wanted_one_by_one(rt: HostRuntime) -> Result<(), Fail> {
     let mut checks = Checks::new();
-    let moves = RelocationMap::new(rt.alloc());
+    let relocations = RelocationMap::new(rt.alloc());
     let abbreviations = Abbreviations::parse(rt.alloc(), REPEATED, 0).expect(&rt, "refused");
-    let mut entries = entries_at(b"\x01f\0\x02g\0", &moves, &abbreviations, 0).expect(
+    let mut entries = entries_at(b"\x01f\0\x02g\0", &relocations, &abbreviations, 0).expect(
         &rt, "refused",
     );
     for start in [1, 4] {
@@ -111,9 +111,9 @@ fn attributes_without_bytes_are_wanted_one_by_one(rt: HostRuntime) -> Result<(),
 #[test]
 fn an_entry_of_which_some_was_read_is_passed_over(rt: HostRuntime) -> Result<(), Fail> {
     let mut checks = Checks::new();
-    let moves = RelocationMap::new(rt.alloc());
+    let relocations = RelocationMap::new(rt.alloc());
     let abbreviations = Abbreviations::parse(rt.alloc(), TABLE, 0).expect(&rt, "refused");
-    let mut entries = entries_at(INFO, &moves, &abbreviations, 0).expect(&rt, "refused");
+    let mut entries = entries_at(INFO, &relocations, &abbreviations, 0).expect(&rt, "refused");
     entries
         .next_entry()
         .expect(&rt, "refused")
@@ -146,10 +146,10 @@ const FUNCTIONS: &[u8] = b"\x01a\0\x01b\0\x03\0\0\0\0\x01c\0\x02d\0\0\x10\0\0\0\
 #[test]
 fn functions_without_addresses_and_references_are_passed_over(rt: HostRuntime) -> Result<(), Fail> {
     let mut checks = Checks::new();
-    let moves = RelocationMap::new(rt.alloc());
+    let relocations = RelocationMap::new(rt.alloc());
     let abbreviations = Abbreviations::parse(rt.alloc(), KINDS, 0).expect(&rt, "refused");
     for (from, place) in [(0, 6), (11, 14)] {
-        let mut entries = entries_at(FUNCTIONS, &moves, &abbreviations, from).expect(
+        let mut entries = entries_at(FUNCTIONS, &relocations, &abbreviations, from).expect(
             &rt, "refused",
         );
         entries.pass_over(Passing::Unplaced, 0x2e);

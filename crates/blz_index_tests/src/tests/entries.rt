@@ -8,7 +8,7 @@ use blz_checks::Checks;
 use blz_entry::{StrPart, StrPlace};
 use blz_error::{ErrorKind, Result};
 use blz_index::{Dwarf, Function, InlinedFunction, InlinedFunctions};
-use blz_moves::RelocationMap;
+use blz_relocations::RelocationMap;
 use std::alloc::Global;
 use std::marker::Brand;
 use std::sync::ledger::{Blank, Ledger};

@@ -7,7 +7,7 @@ use blz_checks::Checks;
 use blz_error::Result;
 use blz_index::Dwarf;
 use blz_line::{LineSequence, Lines};
-use blz_moves::RelocationMap;
+use blz_relocations::RelocationMap;
 use std::alloc::Global;
 use std::test::Fail;
 

@@ -7,7 +7,7 @@ use blz_bytes::AsTheyStand;
 use blz_checks::Checks;
 use blz_error::{ErrorKind, Result};
 use blz_index::{Dwarf, Function, Units, VisitFunction};
-use blz_moves::{Flow, RelocationMap};
+use blz_relocations::{Flow, RelocationMap};
 use std::alloc::Global;
 use std::test::Fail;
 

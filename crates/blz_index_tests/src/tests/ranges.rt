@@ -7,7 +7,7 @@ use blz_bytes::{AsTheyStand, ByStdSort, Orders, Steps};
 use blz_checks::Checks;
 use blz_error::Result;
 use blz_index::{Dwarf, Functions};
-use blz_moves::RelocationMap;
+use blz_relocations::RelocationMap;
 use std::alloc::Global;
 use std::marker::Brand;
 use std::sync::ledger::{Blank, Ledger};

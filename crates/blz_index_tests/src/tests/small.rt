@@ -9,13 +9,13 @@ use blz_entry::{Section, Sections, Texts};
 use blz_error::{Error, ErrorKind, Result, Str};
 use blz_index::{Dwarf, Units};
 use blz_model::ByteOrder;
-use blz_moves::RelocationMap;
+use blz_relocations::RelocationMap;
 use std::alloc::Global;
 
 fn section<'s, 'b>(bytes: &'b [u8], none: &'s RelocationMap) -> Section<'s, 'b> {
     Section {
         bytes,
-        moves: none,
+        relocations: none,
         order: ByteOrder::Little,
     }
 }

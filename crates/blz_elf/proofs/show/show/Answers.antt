@@ -3,7 +3,7 @@ use Rattle.std.proofs.lemmas.List.{get_or-map, length-map}
 use Rattle.std.proofs.lemmas.Result.{err_from_is_err_and}
 use Rattle.blz_elf.specs.Infos.{info_of}
 use Rattle.blz_symbols.specs.NameSteps.{named_view}
-use Rattle.blz_moves.specs.Flows.{is_break}
+use Rattle.blz_relocations.specs.Flows.{is_break}
 use Rattle.blz_elf.proofs.ListingSteps.{shown_on, shown_break, shown_refused, shown_end}
 use Rattle.blz_elf.proofs.show.show.Goals as goal
 

@@ -2,7 +2,7 @@ use Rattle.std.proofs.Common.{◌≡◌, Option, None, List, ℕ, refl, sym, ap,
 use Rattle.std.proofs.lemmas.List.{take_all, get_or_default}
 use Rattle.std.specs.FinMap.{empty}
 use Rattle.blz_model.specs.Part.{Good}
-use Rattle.blz_moves.specs.Relocations.{maps_of, with_map}
+use Rattle.blz_relocations.specs.Relocations.{maps_of, with_map}
 use Rattle.blz_image.proofs.Folds.{fold_more}
 use Rattle.blz_image.proofs.TargetMaps.{all_read, maps_of-more}
 use Rattle.blz_image.proofs.relocating.maps_of.Goals as goal

@@ -1,5 +1,5 @@
 use Rattle.std.proofs.Common.{ap, ◌∙◌}
-use Rattle.blz_moves.specs.Flows.{is_break}
+use Rattle.blz_relocations.specs.Flows.{is_break}
 use Rattle.blz_reader.proofs.ShownSteps.{shows_none, shows_next, stops_here}
 use Rattle.blz_reader.proofs.visit_function.show_functions.Goals as goal
 

@@ -11,7 +11,7 @@ pub sup_again-requires : goal.sup_again-requires
 sup_again-requires c = record {
   debug = c.requires.fits.debug.sup;
   is = (others_there (bundle_view c.args.bundle.now) c.requires.fits.debug c.requires.fits.is).0;
-  moves_are = c.requires.fits.sup_moves;
+  relocations_are = c.requires.fits.sup_relocations;
 }
 
 pub package_again-requires : goal.package_again-requires

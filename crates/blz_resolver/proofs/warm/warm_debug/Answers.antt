@@ -8,4 +8,4 @@ use Rattle.blz_resolver.proofs.warm.warm_debug.Goals as goal
 pub returns-in-Some-clause-fits : goal.returns-in-Some-clause-fits
 returns-in-Some-clause-fits c =
     let P : Option DebugInfo → Type 0 = λ o. HasBookIf (bundle_view c.args.bundle.now) o in
-    warm_book (bundle_view c.args.bundle.now) c.in-Some.info _ (subst P c.in-Some.is c.requires) refl c.moves_of.ensures refl
+    warm_book (bundle_view c.args.bundle.now) c.in-Some.info _ (subst P c.in-Some.is c.requires) refl c.relocations_of.ensures refl

@@ -1,6 +1,6 @@
 use Rattle.std.proofs.Common.{ap, ◌∙◌, arith}
 use Rattle.std.proofs.lemmas.List.{get_or_default}
-use Rattle.blz_moves.specs.Flows.{is_break}
+use Rattle.blz_relocations.specs.Flows.{is_break}
 use Rattle.blz_bundle.specs.BundleViews.{bundle_view}
 use Rattle.blz_resolver.specs.FunctionNames.{function_info}
 use Rattle.blz_resolver.proofs.ShownSteps.{one_shown, one_breaks, all_shown}

@@ -5,9 +5,9 @@ use Rattle.std.specs.Ordering.{nat_cmp}
 use Rattle.std.specs.Map.{lookup}
 use Rattle.std.specs.BTreeMap.{is_at}
 use Rattle.std.specs.FinMap.{from_entries, insert, empty}
-use Rattle.blz_moves.specs.declared.relocation.Relocation.{Relocation}
-use Rattle.blz_moves.specs.Relocations.{OffsetMap, with_relocation}
-use Rattle.blz_moves.proofs.TreeMaps.{get-tree, insert-tree}
+use Rattle.blz_relocations.specs.declared.relocation.Relocation.{Relocation}
+use Rattle.blz_relocations.specs.Relocations.{OffsetMap, with_relocation}
+use Rattle.blz_relocations.proofs.TreeMaps.{get-tree, insert-tree}
 
 -- the section's map as it was, and as it is in the tree afterwards
 pub with_relocation-tree : (es fs : List (ℕ × OffsetMap)) (target offset : ℕ) (relocation : Relocation) (here after : OffsetMap) → here ≡ unwrap_or (lookup (is_at (nat_cmp target)) es) empty → after ≡ insert here offset relocation

@@ -1,7 +1,7 @@
 //! The relocations of a file whose sections have no addresses yet (ELF gABI, Relocation).
 ghost use Rattle.std.specs.Prelude.{◌≡◌, OnOk, OnErr};
 ghost use Rattle.std.specs.FinMap as map;
-ghost use Rattle.blz_moves.specs.Relocations.{relocated, relocation_of, section_map, with_absent, with_relocation};
+ghost use Rattle.blz_relocations.specs.Relocations.{relocated, relocation_of, section_map, with_absent, with_relocation};
 
 use std::alloc::{AllocError, Global};
 use std::collections::BTreeMap;
@@ -34,7 +34,7 @@ pub struct RelocationMap {
 }
 
 impl Model for RelocationMap {
-    ghost use Rattle.blz_moves.specs.Relocations.{OffsetMap, relocation_code};
+    ghost use Rattle.blz_relocations.specs.Relocations.{OffsetMap, relocation_code};
     ghost use Rattle.std.specs.Coded.{coded_ℕ};
     ghost use Rattle.std.specs.FinMap as map;
 
@@ -109,7 +109,7 @@ pub struct SectionRelocations {
 
 impl Model for SectionRelocations {
     ghost use Rattle.std.specs.Prelude.{◌≡◌};
-    ghost use Rattle.blz_moves.specs.Relocations.{SectionMap, relocation_code};
+    ghost use Rattle.blz_relocations.specs.Relocations.{SectionMap, relocation_code};
     ghost use Rattle.std.specs.Coded.{coded_ℕ};
     ghost use Rattle.std.specs.FinMap as map;
 
@@ -148,11 +148,11 @@ impl SectionRelocations {
     }
 
     /// Puts the relocations of a section in place of those that it has.
-    pub fn put(&mut self, target_idx: usize, moves: RelocationMap) -> Result<(), AllocError>
-        ensures ok { OnOk result (self.new ≡ map.insert self.old target_idx moves) }
+    pub fn put(&mut self, target_idx: usize, relocations: RelocationMap) -> Result<(), AllocError>
+        ensures ok { OnOk result (self.new ≡ map.insert self.old target_idx relocations) }
         ensures err { OnErr result (self.new ≡ self.old) }
     {
-        self.maps.insert(target_idx, moves)?;
+        self.maps.insert(target_idx, relocations)?;
         Ok(())
     }
 

@@ -1,10 +1,10 @@
 use Rattle.std.proofs.Common.{ap, refl, rules, ◌∙◌, Option, Some}
 use Rattle.std.specs.Option.{unwrap_or}
 use Rattle.std.specs.FinMap.{empty}
-use Rattle.blz_moves.specs.Relocations.{OffsetMap}
-use Rattle.blz_moves.proofs.TreeMaps.{kept-tree}
-use Rattle.blz_moves.proofs.SectionMaps.{with_relocation-tree}
-use Rattle.blz_moves.proofs.relocation.SectionRelocations.insert.Goals as goal
+use Rattle.blz_relocations.specs.Relocations.{OffsetMap}
+use Rattle.blz_relocations.proofs.TreeMaps.{kept-tree}
+use Rattle.blz_relocations.proofs.SectionMaps.{with_relocation-tree}
+use Rattle.blz_relocations.proofs.relocation.SectionRelocations.insert.Goals as goal
 
 pub returns-in-Some-clause-ok : goal.returns-in-Some-clause-ok
 returns-in-Some-clause-ok c =

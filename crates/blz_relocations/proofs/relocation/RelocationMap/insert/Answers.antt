@@ -1,5 +1,5 @@
-use Rattle.blz_moves.proofs.TreeMaps.{insert-tree}
-use Rattle.blz_moves.proofs.relocation.RelocationMap.insert.Goals as goal
+use Rattle.blz_relocations.proofs.TreeMaps.{insert-tree}
+use Rattle.blz_relocations.proofs.relocation.RelocationMap.insert.Goals as goal
 
 pub returns-clause-ok : goal.returns-clause-ok
 returns-clause-ok c =

@@ -1,6 +1,6 @@
 use Rattle.std.proofs.Common.{refl}
-use Rattle.blz_moves.proofs.TreeMaps.{get-tree}
-use Rattle.blz_moves.proofs.relocation.RelocationMap.relocate.Goals as goal
+use Rattle.blz_relocations.proofs.TreeMaps.{get-tree}
+use Rattle.blz_relocations.proofs.relocation.RelocationMap.relocate.Goals as goal
 
 pub returns-in-None : goal.returns-in-None
 returns-in-None c = rw (← c.self.view_is, get-tree, ← c.in-None.ensures.value) refl

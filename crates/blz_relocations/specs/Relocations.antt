@@ -6,8 +6,8 @@ use Rattle.std.specs.Coded.{Coded, code_by, coded×, coded_ℕ, coded_bool}
 use Rattle.std.specs.FinMap as map
 use Rattle.std.specs.List.{fold}
 use Rattle.std.specs.Option.{unwrap_or}
-use Rattle.blz_moves.specs.declared.relocation.Relocation.{Relocation}
-use Rattle.blz_moves.specs.declared.relocation.Relocation.TheVariants.{Replaces, Adds}
+use Rattle.blz_relocations.specs.declared.relocation.Relocation.{Relocation}
+use Rattle.blz_relocations.specs.declared.relocation.Relocation.TheVariants.{Replaces, Adds}
 
 -- an addend that stands in the entry (RELA) replaces what is read; one that stands in the field itself (REL) is added
 abbrev pub relocation_of : ℕ → Bool → Relocation

@@ -1,6 +1,6 @@
 use Rattle.std.proofs.Common.{sym, ◌∙◌}
-use Rattle.blz_moves.proofs.TreeMaps.{absent-tree, put_back-tree}
-use Rattle.blz_moves.proofs.relocation.RelocationMap.insert_absent.Goals as goal
+use Rattle.blz_relocations.proofs.TreeMaps.{absent-tree, put_back-tree}
+use Rattle.blz_relocations.proofs.relocation.RelocationMap.insert_absent.Goals as goal
 
 pub returns-in-None-clause-ok : goal.returns-in-None-clause-ok
 returns-in-None-clause-ok c =
