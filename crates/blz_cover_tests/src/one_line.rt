@@ -1,5 +1,5 @@
 //! An image with one line.
-use blz_images::codes::*;
+use blz_images::dwarf::codes::*;
 use blz_images::{Attribute, ByteOrder, DebugInfo, DebugLine};
 use std::alloc::{AllocError, Global};
 

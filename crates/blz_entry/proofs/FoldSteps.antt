@@ -11,7 +11,7 @@ use Rattle.blz_info.specs.Wanted.{Wanted, is_wanted, wanted_in, wanted_of}
 use Rattle.blz_info.specs.declared.abbreviations.AttrSpec.{AttrSpec}
 use Rattle.blz_info.specs.declared.encoding.Encoding.{Encoding}
 use Rattle.blz_info.specs.declared.text.StrBase.{StrBase}
-use Rattle.blz_info.specs.declared.value.AttrValue.{AttrValue}
+use Rattle.blz_info.specs.declared.forms.value.AttrValue.{AttrValue}
 
 -- an attribute before others
 abbrev with_first : ℕ × AttrValue → Read (List (ℕ × AttrValue)) → Read (List (ℕ × AttrValue))

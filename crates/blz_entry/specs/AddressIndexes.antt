@@ -4,8 +4,8 @@ use Rattle.blz_info.specs.Contents.{section_view, address_at}
 use Rattle.blz_entry.specs.declared.root.UnitRoot.{UnitRoot}
 use Rattle.blz_info.specs.declared.section.Sections.{Sections}
 use Rattle.blz_info.specs.declared.units.UnitHeader.{UnitHeader}
-use Rattle.blz_info.specs.declared.value.AttrValue.{AttrValue}
-use Rattle.blz_info.specs.declared.value.AttrValue.TheVariants.{Addr, AddrIndex}
+use Rattle.blz_info.specs.declared.forms.value.AttrValue.{AttrValue}
+use Rattle.blz_info.specs.declared.forms.value.AttrValue.TheVariants.{Addr, AddrIndex}
 
 -- the address at an index of the unit's addresses
 unfoldable pub address_of : Sections → UnitHeader → UnitRoot → ℕ → Option ℕ

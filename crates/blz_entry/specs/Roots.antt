@@ -15,8 +15,8 @@ use Rattle.blz_entry.specs.declared.root.RootValues.{RootValues}
 use Rattle.blz_entry.specs.declared.root.UnitRoot.{UnitRoot}
 use Rattle.blz_info.specs.declared.section.Sections.{Sections}
 use Rattle.blz_info.specs.declared.units.UnitHeader.{UnitHeader}
-use Rattle.blz_info.specs.declared.value.AttrValue.{AttrValue}
-use Rattle.blz_info.specs.declared.value.AttrValue.TheVariants.{Addr, AddrIndex, SecOffset}
+use Rattle.blz_info.specs.declared.forms.value.AttrValue.{AttrValue}
+use Rattle.blz_info.specs.declared.forms.value.AttrValue.TheVariants.{Addr, AddrIndex, SecOffset}
 
 -- the attributes of the entry at a place, which has to be one
 unfoldable pub root_attributes : Source → ℕ → Option (List (ℕ × AttrValue))

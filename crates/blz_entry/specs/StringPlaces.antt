@@ -10,8 +10,8 @@ use Rattle.blz_info.specs.declared.text.StrPart.{StrPart}
 use Rattle.blz_info.specs.declared.text.StrPart.TheVariants.{Strings, LineStr, SupStrings, PackStrings, SupLineStr}
 use Rattle.blz_info.specs.declared.text.StrPlace.{StrPlace}
 use Rattle.blz_info.specs.declared.units.UnitHeader.{UnitHeader}
-use Rattle.blz_info.specs.declared.value.AttrValue.{AttrValue}
-use Rattle.blz_info.specs.declared.value.AttrValue.TheVariants.{Text, StrRef, LineStrRef, StrIndex, SupStr}
+use Rattle.blz_info.specs.declared.forms.value.AttrValue.{AttrValue}
+use Rattle.blz_info.specs.declared.forms.value.AttrValue.TheVariants.{Text, StrRef, LineStrRef, StrIndex, SupStr}
 
 -- the text at an offset of a section, up to its zero
 unfoldable pub text_in : StrPart → Contents → ℕ → Option StrPlace

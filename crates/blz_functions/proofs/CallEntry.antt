@@ -10,7 +10,7 @@ use Rattle.blz_info.specs.Attributes.{passed}
 use Rattle.blz_info.specs.Forest.{Info, Head, Close, Open}
 use Rattle.blz_info.specs.Walks.{Source, Walk, head_at, walk_from, next_of, skipped_of}
 use Rattle.blz_info.specs.declared.entries.Entry.{Entry}
-use Rattle.blz_info.specs.declared.value.AttrValue.{AttrValue}
+use Rattle.blz_info.specs.declared.forms.value.AttrValue.{AttrValue}
 use Rattle.blz_functions.specs.CallTree.{all_closed, calls_from, all_calls, calls_in, below_head, lists_below, no_calls, trees_below, unit_calls}
 use Rattle.blz_functions.specs.Describing.{Refer}
 use Rattle.blz_functions.specs.Leaves.{UnitParts, source_in}

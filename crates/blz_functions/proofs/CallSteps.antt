@@ -7,7 +7,7 @@ use Rattle.blz_model.specs.Reads.{Read, ◌>>=◌}
 use Rattle.blz_info.specs.Forest.{Info, Head, Close, Open, Forest, Empty, Node, Grown, leaf, grown_step, Leads}
 use Rattle.blz_info.specs.Walks.{Walk, head_at, next_of}
 use Rattle.blz_info.specs.declared.entries.Entry.{Entry}
-use Rattle.blz_info.specs.declared.value.AttrValue.{AttrValue}
+use Rattle.blz_info.specs.declared.forms.value.AttrValue.{AttrValue}
 use Rattle.blz_info.proofs.Preorder.{IfEnds}
 use Rattle.blz_functions.specs.declared.levels.Above.{Above}
 use Rattle.blz_functions.specs.declared.levels.Above.TheVariants.{Calls}

@@ -4,7 +4,7 @@ use Rattle.std.specs.Prelude.{option_map}
 use Rattle.blz_model.specs.Reads.{Read, ◌>>=◌}
 use Rattle.blz_info.specs.Abbrevs.{Abbrev}
 use Rattle.blz_ranges.specs.declared.span.Span.{Span}
-use Rattle.blz_info.specs.declared.value.AttrValue.{AttrValue}
+use Rattle.blz_info.specs.declared.forms.value.AttrValue.{AttrValue}
 use Rattle.blz_info.specs.declared.entries.Entry.{Entry}
 use Rattle.blz_info.specs.Forest.{Info, Head, Open, flat_step}
 use Rattle.blz_entry.specs.Folds.{fold_maybe}

@@ -13,8 +13,8 @@ use Rattle.blz_info.specs.declared.section.Sections.{Sections}
 use Rattle.blz_ranges.specs.declared.span.Span.{Span}
 use Rattle.blz_info.specs.declared.text.StrPlace.{StrPlace}
 use Rattle.blz_info.specs.declared.units.UnitHeader.{UnitHeader}
-use Rattle.blz_info.specs.declared.value.AttrValue.{AttrValue}
-use Rattle.blz_info.specs.declared.value.AttrValue.TheVariants.{SupStr}
+use Rattle.blz_info.specs.declared.forms.value.AttrValue.{AttrValue}
+use Rattle.blz_info.specs.declared.forms.value.AttrValue.TheVariants.{SupStr}
 use Rattle.blz_info.specs.FileSections.{sections_view}
 use Rattle.blz_functions.specs.Leaves.{lying}
 

@@ -10,7 +10,7 @@ use Rattle.blz_info.specs.Contents.{Contents}
 use Rattle.blz_info.specs.declared.abbreviations.AttrSpec.{AttrSpec}
 use Rattle.blz_info.specs.declared.encoding.Encoding.{Encoding}
 use Rattle.blz_info.specs.declared.text.StrBase.{StrBase}
-use Rattle.blz_info.specs.declared.value.AttrValue.{AttrValue}
+use Rattle.blz_info.specs.declared.forms.value.AttrValue.{AttrValue}
 use Rattle.blz_info.specs.Forest.{Info, Head, Close, Open, LeadsOn}
 use Rattle.blz_entry.specs.Folds.{fold_maybe}
 use Rattle.blz_info.specs.Walks.{Source, Walk, head_at, next_of, entry_from, skipped_of}

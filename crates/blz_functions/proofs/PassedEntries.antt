@@ -7,8 +7,8 @@ use Rattle.blz_info.specs.Passing.{is_leaf, past, past_one}
 use Rattle.blz_info.specs.Walks.{Walk, next_of, skipped_of}
 use Rattle.blz_info.specs.Wanted.{any_placing}
 use Rattle.blz_info.specs.declared.entries.Entry.{Entry}
-use Rattle.blz_info.specs.declared.passing.Passing.{Passing}
-use Rattle.blz_info.specs.declared.passing.Passing.TheVariants.{Leaves, Unplaced}
+use Rattle.blz_info.specs.declared.walking.passing.Passing.{Passing}
+use Rattle.blz_info.specs.declared.walking.passing.Passing.TheVariants.{Leaves, Unplaced}
 use Rattle.blz_info.proofs.PassingSteps.{passed_entry, behind_skipped}
 use Rattle.blz_functions.specs.CallTree.{CallLists, is_call_tag}
 use Rattle.blz_functions.specs.CallWalk.{innermost, levels_behind, call_depth, call_met}

@@ -8,7 +8,7 @@ use Rattle.blz_info.specs.Wanted.{is_placing, any_placing}
 use Rattle.blz_info.specs.declared.abbreviations.AttrSpec.{AttrSpec}
 use Rattle.blz_info.specs.declared.entries.Entry.{Entry}
 use Rattle.blz_info.specs.declared.text.StrPlace.{StrPlace}
-use Rattle.blz_info.specs.declared.value.AttrValue.{AttrValue}
+use Rattle.blz_info.specs.declared.forms.value.AttrValue.{AttrValue}
 use Rattle.blz_entry.specs.RangeLists.{range_step, ranges_of}
 use Rattle.blz_functions.specs.declared.description.Description.{Description}
 use Rattle.blz_functions.specs.Describing.{Refer, no_ranges, undescribed, with_call_site, description_step, described, described_if}

@@ -10,7 +10,7 @@ use Rattle.blz_info.specs.Walks.{Walk, skipped_of}
 use Rattle.blz_info.specs.declared.abbreviations.AttrSpec.{AttrSpec}
 use Rattle.blz_entry.specs.declared.ranges.RangeAttributes.{RangeAttributes}
 use Rattle.blz_info.specs.declared.text.StrPlace.{StrPlace}
-use Rattle.blz_info.specs.declared.value.AttrValue.{AttrValue}
+use Rattle.blz_info.specs.declared.forms.value.AttrValue.{AttrValue}
 use Rattle.blz_functions.specs.declared.description.CallSite.{CallSite}
 use Rattle.blz_functions.specs.declared.description.Description.{Description}
 use Rattle.blz_functions.specs.Leaves.{UnitParts, range_step_in, source_in}

@@ -7,7 +7,7 @@ use Rattle.blz_info.specs.Abbrevs.{of_code}
 use Rattle.blz_info.specs.Attributes.{attribute}
 use Rattle.blz_info.specs.declared.abbreviations.AttrSpec.{AttrSpec}
 use Rattle.blz_info.specs.declared.text.StrPlace.{StrPlace}
-use Rattle.blz_info.specs.declared.value.AttrValue.{AttrValue}
+use Rattle.blz_info.specs.declared.forms.value.AttrValue.{AttrValue}
 use Rattle.blz_functions.specs.declared.referred.Visited.{Visited}
 use Rattle.blz_functions.specs.declared.referred.Visited.TheVariants.{Named, Leads, Nameless}
 use Rattle.blz_functions.specs.Leaves.{UnitParts, string_in, source_in}

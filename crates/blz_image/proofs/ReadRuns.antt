@@ -11,13 +11,13 @@ use Rattle.blz_image.specs.Places.{symbols_in}
 use Rattle.blz_image.specs.ReadPlaces.{AllRead, AreRead, is_known}
 use Rattle.blz_image.specs.RelocationTables.{Entry, entry_at, entry_size}
 use Rattle.blz_image.specs.TargetTables.{beneath}
-use Rattle.blz_image.specs.declared.entries.EntryKind.{EntryKind}
-use Rattle.blz_image.specs.declared.entries.EntryKind.TheVariants.{Rela, Rel}
+use Rattle.blz_image.specs.declared.relocations.entries.EntryKind.{EntryKind}
+use Rattle.blz_image.specs.declared.relocations.entries.EntryKind.TheVariants.{Rela, Rel}
 use Rattle.blz_image.specs.declared.format.Format.{Format}
-use Rattle.blz_image.specs.declared.read_places.ReadPlaces.{ReadPlaces}
+use Rattle.blz_image.specs.declared.relocations.read_places.ReadPlaces.{ReadPlaces}
 use Rattle.blz_image.specs.declared.span.Rows.{Rows}
 use Rattle.blz_image.specs.declared.symbols.Symbol.{Symbol}
-use Rattle.blz_image.specs.declared.table.RelocationTable.{RelocationTable}
+use Rattle.blz_image.specs.declared.relocations.table.RelocationTable.{RelocationTable}
 use Rattle.blz_relocations.specs.Relocations.{OffsetMap}
 use Rattle.blz_image.proofs.BeneathMaps.{beneath-known, entry-beneath, known-beneath}
 

@@ -15,7 +15,7 @@ use Rattle.blz_image.specs.RelocationTables.{Entry, entry_at, entry_kind, entry_
 use Rattle.blz_image.specs.Sections.{records_of}
 use Rattle.blz_image.specs.SymbolTables.{symbol_at}
 use Rattle.blz_image.specs.TargetTables.{Table, beneath, beneath_part, beneath_section, beneath_sections, section_mark, section_marks, table_part}
-use Rattle.blz_image.specs.declared.entries.EntryKind.{EntryKind}
+use Rattle.blz_image.specs.declared.relocations.entries.EntryKind.{EntryKind}
 use Rattle.blz_image.specs.declared.format.Format.{Format}
 use Rattle.blz_image.specs.declared.section.Section.{Section}
 use Rattle.blz_image.specs.declared.symbols.Symbol.{Symbol}

@@ -3,9 +3,9 @@ use Rattle.std.specs.Prelude.{◌≡◌, ℕ, ◌+◌, ◌*◌, ◌≤◌, Bool,
 use Rattle.std.specs.BTreeMap.{BTreeMap, get}
 use Rattle.std.specs.FinMap as map
 use Rattle.std.specs.Ordering.{nat_cmp}
-use Rattle.blz_image.specs.declared.entries.EntryKind.TheVariants.{Rela, Rel}
+use Rattle.blz_image.specs.declared.relocations.entries.EntryKind.TheVariants.{Rela, Rel}
 use Rattle.blz_image.specs.declared.format.Format.{Format}
-use Rattle.blz_image.specs.declared.read_places.ReadPlaces as code
+use Rattle.blz_image.specs.declared.relocations.read_places.ReadPlaces as code
 use Rattle.blz_image.specs.Formats.{word_at}
 use Rattle.blz_image.specs.RelocationTables.{entry_size}
 use Rattle.blz_relocations.specs.Relocations.{OffsetMap}

@@ -8,8 +8,8 @@ use Rattle.blz_model.specs.Part.{Part, Good, ◌>>=◌, or_mark}
 use Rattle.blz_image.specs.declared.format.Class.{Class}
 use Rattle.blz_image.specs.declared.format.Class.TheVariants.{Elf32, Elf64}
 use Rattle.blz_image.specs.declared.format.Format.{Format}
-use Rattle.blz_image.specs.declared.entries.EntryKind.{EntryKind}
-use Rattle.blz_image.specs.declared.entries.EntryKind.TheVariants.{Rela, Rel}
+use Rattle.blz_image.specs.declared.relocations.entries.EntryKind.{EntryKind}
+use Rattle.blz_image.specs.declared.relocations.entries.EntryKind.TheVariants.{Rela, Rel}
 use Rattle.blz_relocations.specs.declared.relocation.Relocation.{Relocation}
 use Rattle.blz_relocations.specs.declared.relocation.Relocation.TheVariants.{Replaces, Adds}
 use Rattle.blz_image.specs.Formats.{word, word_at, symbol_size, rela_size, rel_size}

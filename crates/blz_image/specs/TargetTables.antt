@@ -4,11 +4,11 @@ use Rattle.std.specs.Prelude.{ℕ, List, [], ◌∷◌, slice_get, ◌==◌, Opt
 use Rattle.std.specs.FinMap as map
 use Rattle.blz_error.specs.declared.kind.ErrorKind.TheVariants.{InvalidInput}
 use Rattle.blz_model.specs.Part.{Part, Good, Broken, ◌>>=◌, or_mark}
-use Rattle.blz_image.specs.declared.entries.EntryKind.{EntryKind}
+use Rattle.blz_image.specs.declared.relocations.entries.EntryKind.{EntryKind}
 use Rattle.blz_image.specs.declared.format.Format.{Format}
 use Rattle.blz_image.specs.declared.section.Section.{Section}
 use Rattle.blz_image.specs.declared.symbols.Symbol.{Symbol}
-use Rattle.blz_image.specs.declared.table.RelocationTable as code
+use Rattle.blz_image.specs.declared.relocations.table.RelocationTable as code
 use Rattle.blz_image.specs.EntryPlaces.{entries_in}
 use Rattle.blz_image.specs.Formats.{symbol_size}
 use Rattle.blz_image.specs.Places.{RowsFit, symbols_in}

@@ -1,6 +1,6 @@
 //! An executable as compilers make it.
-use crate::codes::*;
-use crate::tables::{
+use crate::dwarf::codes::*;
+use crate::dwarf::tables::{
     INDEX_BASE, RANGE_LISTS_BASE, address_ranges, address_table, range_lists, string_offsets,
 };
 use crate::{Attribute, ByteOrder, DebugInfo, DebugLine, Image, Strings};

@@ -1,6 +1,6 @@
 //! Places in images, as the formats give them.
 use blz_checks::Checks;
-use blz_images::codes::{DW_AT_NAME, DW_TAG_COMPILE_UNIT, DW_TAG_SKELETON_UNIT};
+use blz_images::dwarf::codes::{DW_AT_NAME, DW_TAG_COMPILE_UNIT, DW_TAG_SKELETON_UNIT};
 use blz_images::{
     Attribute, ByteOrder, Class, DebugInfo, Image, Section, Symbol, UnitIndex, UnitKind, Writer,
     nested_functions, no_sections, patched, prefix, range_pairs, realistic_walk,

@@ -9,7 +9,7 @@ use Rattle.blz_model.specs.declared.cache.Cache.TheVariants.{Empty}
 use Rattle.blz_info.specs.Marks.{or_invalid}
 use Rattle.blz_info.specs.declared.units.UnitHeader.{UnitHeader}
 use Rattle.blz_units.specs.SharedPackage.{AreRows, IsPackageShared}
-use Rattle.blz_units.specs.declared.shared_package.SharedPackage.{SharedPackage}
+use Rattle.blz_units.specs.declared.shared.shared_package.SharedPackage.{SharedPackage}
 use Rattle.blz_units.specs.declared.built_unit.BuiltUnit.{BuiltUnit}
 use Rattle.blz_units.specs.declared.built_units.Side.{Side}
 use Rattle.blz_units.specs.declared.built_units.Side.TheVariants.{File, Sup}

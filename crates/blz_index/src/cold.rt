@@ -9,8 +9,8 @@ use blz_model::Cache;
 use blz_units::built_unit::BuiltUnit;
 use blz_units::built_units::{BuiltUnits, SideUnits};
 use blz_units::caches::{Caches, UnitCaches};
-use blz_units::shared_package::SharedPackage;
-use blz_units::shared_parts::SharedParts;
+use blz_units::shared::shared_package::SharedPackage;
+use blz_units::shared::shared_parts::SharedParts;
 use std::alloc::{AllocError, Global};
 
 /// The words that the caches of a unit take, before anything is read.

@@ -10,7 +10,7 @@ pub use blz_functions::{Function, Functions, InlinedFunction, InlinedFunctions};
 pub use blz_ranges::RangeIndex;
 pub use blz_reader::sites::{InlinedSite, InlinedSites};
 pub use blz_reader::visit_function::VisitFunction;
+pub use blz_units::announced::units_at::UnitsAt;
 pub use blz_units::dwarf::Dwarf;
 pub use blz_units::unit_table::check_sup_units;
-pub use blz_units::units_at::UnitsAt;
 pub use units::Units;

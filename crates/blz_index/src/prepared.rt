@@ -20,9 +20,9 @@ use blz_entry::Texts;
 use blz_error::Result;
 use blz_line::Location;
 use blz_model::SrcLang;
+use blz_units::announced::units_at::UnitsAt;
 use blz_units::caches::UnitCaches;
 use blz_units::look;
-use blz_units::units_at::UnitsAt;
 use std::sync::ledger::Ledger;
 
 /// Of the units that are still to be asked the first that has a function for an address.

@@ -17,14 +17,14 @@ use Rattle.blz_info.specs.Contents.{Contents, moved_number, address_at, offset_a
 use Rattle.blz_info.specs.Forms.{text_here, value_by, made}
 use Rattle.blz_info.specs.declared.abbreviations.AttrSpec.{AttrSpec}
 use Rattle.blz_info.specs.declared.encoding.Encoding.{Encoding}
-use Rattle.blz_info.specs.declared.form.Field.{Field}
-use Rattle.blz_info.specs.declared.form.Field.TheVariants.{Nothing, Fixed, Address, Offset, RefAddress, Uleb, Sixteen, Block, UlebBlock}
-use Rattle.blz_info.specs.declared.form.Form.{Form}
-use Rattle.blz_info.specs.declared.form.Form.TheVariants as forms
-use Rattle.blz_info.specs.declared.form.Form.TheVariants.{Numeric}
+use Rattle.blz_info.specs.declared.forms.form.Field.{Field}
+use Rattle.blz_info.specs.declared.forms.form.Field.TheVariants.{Nothing, Fixed, Address, Offset, RefAddress, Uleb, Sixteen, Block, UlebBlock}
+use Rattle.blz_info.specs.declared.forms.form.Form.{Form}
+use Rattle.blz_info.specs.declared.forms.form.Form.TheVariants as forms
+use Rattle.blz_info.specs.declared.forms.form.Form.TheVariants.{Numeric}
 use Rattle.blz_info.specs.declared.text.StrBase.{StrBase}
-use Rattle.blz_info.specs.declared.value.AttrValue.{AttrValue}
-use Rattle.blz_info.specs.declared.value.AttrValue.TheVariants.{Signed, Text}
+use Rattle.blz_info.specs.declared.forms.value.AttrValue.{AttrValue}
+use Rattle.blz_info.specs.declared.forms.value.AttrValue.TheVariants.{Signed, Text}
 
 abbrev pub Ahead : {A : Type 0} → List ℕ → ℕ → Read A → Type 0
 Ahead bytes at o = IfSome o (λ r. (at ≤ r.1) × (r.1 ≤ length bytes))

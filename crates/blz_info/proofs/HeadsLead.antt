@@ -6,7 +6,7 @@ use Rattle.blz_info.specs.Abbrevs.{Abbrev, of_code}
 use Rattle.blz_info.specs.Attributes.{attributes}
 use Rattle.blz_info.specs.Forest.{Head, Close, Open, Leads, LeadsOn}
 use Rattle.blz_info.specs.Walks.{Source, head_at}
-use Rattle.blz_info.specs.declared.value.AttrValue.{AttrValue}
+use Rattle.blz_info.specs.declared.forms.value.AttrValue.{AttrValue}
 use Rattle.blz_info.proofs.Ahead.{Ahead, Past, uleb_past, attributes_ahead}
 
 -- the head that an abbreviation and the values of its attributes make

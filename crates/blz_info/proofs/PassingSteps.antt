@@ -12,8 +12,8 @@ use Rattle.blz_info.specs.Walks.{Walk, next_of, skipped_of}
 use Rattle.blz_info.specs.Wanted.{any_placing}
 use Rattle.blz_info.specs.declared.encoding.Encoding.{Encoding}
 use Rattle.blz_info.specs.declared.entries.Entry.{Entry}
-use Rattle.blz_info.specs.declared.passing.Passing.{Passing}
-use Rattle.blz_info.specs.declared.runs.Run.{Run}
+use Rattle.blz_info.specs.declared.walking.passing.Passing.{Passing}
+use Rattle.blz_info.specs.declared.walking.runs.Run.{Run}
 
 one_behind : (p : Passing) (tag n : ℕ) (o : Option Walk) (v x : Walk) → ((u : Walk) → past n p tag u ≡ Some v → past (suc n) p tag u ≡ Some x) → (o >>= past n p tag) ≡ Some v → (o >>= past (suc n) p tag) ≡ Some x
 one_behind p tag n None v x step h = absurd cc

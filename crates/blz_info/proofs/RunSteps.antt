@@ -15,10 +15,10 @@ use Rattle.blz_info.specs.Wanted.{Wanted, is_wanted, wanted_in}
 use Rattle.blz_info.specs.AttributeRuns.{form_at, behind_by, value_by_form, passed_by, any_wanted, AreSkipped, AreRuns}
 use Rattle.blz_info.specs.declared.abbreviations.AttrSpec.{AttrSpec}
 use Rattle.blz_info.specs.declared.encoding.Encoding.{Encoding}
-use Rattle.blz_info.specs.declared.form.Form.{Form}
-use Rattle.blz_info.specs.declared.runs.Run.{Run}
+use Rattle.blz_info.specs.declared.forms.form.Form.{Form}
+use Rattle.blz_info.specs.declared.walking.runs.Run.{Run}
 use Rattle.blz_info.specs.declared.text.StrBase.{StrBase}
-use Rattle.blz_info.specs.declared.value.AttrValue.{AttrValue}
+use Rattle.blz_info.specs.declared.forms.value.AttrValue.{AttrValue}
 use Rattle.blz_info.proofs.Sizes.{next_place, behind_value, behind_is}
 use Rattle.blz_info.proofs.Together.{passed_together}
 

@@ -10,7 +10,7 @@ use Rattle.blz_info.specs.Sizes.{attribute_size, size_together}
 use Rattle.blz_info.specs.AttributeRuns.{wants, skipped_size, any_wanted, AreSkipped, IsLookedAt, AreRuns, run_of}
 use Rattle.blz_info.specs.declared.abbreviations.AttrSpec.{AttrSpec}
 use Rattle.blz_info.specs.declared.encoding.Encoding.{Encoding}
-use Rattle.blz_info.specs.declared.runs.Run.{Run}
+use Rattle.blz_info.specs.declared.walking.runs.Run.{Run}
 use Rattle.blz_info.proofs.Together.{together_more}
 
 -- runs, and behind them so many bytes of so many attributes

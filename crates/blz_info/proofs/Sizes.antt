@@ -11,13 +11,13 @@ use Rattle.blz_info.specs.Attributes.{is_offset, form_for, direct_attribute, att
 use Rattle.blz_info.specs.Sizes.{address_len, size_of, over, behind_form, behind_code, behind}
 use Rattle.blz_info.specs.declared.abbreviations.AttrSpec.{AttrSpec}
 use Rattle.blz_info.specs.declared.encoding.Encoding.{Encoding}
-use Rattle.blz_info.specs.declared.form.Width.TheVariants.{One, Two, Three, Four, Eight}
-use Rattle.blz_info.specs.declared.form.Field.{Field}
-use Rattle.blz_info.specs.declared.form.Field.TheVariants.{Nothing, Fixed, Address, Offset, RefAddress, Uleb, Sixteen, Block, UlebBlock}
-use Rattle.blz_info.specs.declared.form.Makes.TheVariants as makes
-use Rattle.blz_info.specs.declared.form.Form.{Form}
-use Rattle.blz_info.specs.declared.form.Form.TheVariants as forms
-use Rattle.blz_info.specs.declared.form.Form.TheVariants.{Numeric}
+use Rattle.blz_info.specs.declared.forms.form.Width.TheVariants.{One, Two, Three, Four, Eight}
+use Rattle.blz_info.specs.declared.forms.form.Field.{Field}
+use Rattle.blz_info.specs.declared.forms.form.Field.TheVariants.{Nothing, Fixed, Address, Offset, RefAddress, Uleb, Sixteen, Block, UlebBlock}
+use Rattle.blz_info.specs.declared.forms.form.Makes.TheVariants as makes
+use Rattle.blz_info.specs.declared.forms.form.Form.{Form}
+use Rattle.blz_info.specs.declared.forms.form.Form.TheVariants as forms
+use Rattle.blz_info.specs.declared.forms.form.Form.TheVariants.{Numeric}
 use Rattle.blz_info.specs.declared.text.StrBase.{StrBase}
 
 -- the place behind what is read

@@ -9,11 +9,11 @@ use Rattle.blz_info.specs.Attributes.{attribute, passed}
 use Rattle.blz_info.specs.Sizes.{over, behind_form, behind_code, behind, form_size, attribute_size, size_together}
 use Rattle.blz_info.specs.declared.abbreviations.AttrSpec.{AttrSpec}
 use Rattle.blz_info.specs.declared.encoding.Encoding.{Encoding}
-use Rattle.blz_info.specs.declared.form.Form.{Form}
-use Rattle.blz_info.specs.declared.form.Form.TheVariants as forms
-use Rattle.blz_info.specs.declared.form.Form.TheVariants.{Numeric}
+use Rattle.blz_info.specs.declared.forms.form.Form.{Form}
+use Rattle.blz_info.specs.declared.forms.form.Form.TheVariants as forms
+use Rattle.blz_info.specs.declared.forms.form.Form.TheVariants.{Numeric}
 use Rattle.blz_info.specs.declared.text.StrBase.{StrBase}
-use Rattle.blz_info.specs.declared.value.AttrValue.{AttrValue}
+use Rattle.blz_info.specs.declared.forms.value.AttrValue.{AttrValue}
 use Rattle.blz_info.proofs.Sizes.{next_place, sized, behind_is}
 
 look : {A : Type 0} (o : Option A) → (o ≡ None) ⊎ ((x : A) × (o ≡ Some x))

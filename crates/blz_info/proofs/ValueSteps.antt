@@ -5,7 +5,7 @@ use Rattle.std.proofs.lemmas.Option.{some_pair_parts}
 use Rattle.blz_info.specs.Attributes.{attribute}
 use Rattle.blz_info.specs.Walks.{Source, Walk, value_of}
 use Rattle.blz_info.specs.declared.abbreviations.AttrSpec.{AttrSpec}
-use Rattle.blz_info.specs.declared.value.AttrValue.{AttrValue}
+use Rattle.blz_info.specs.declared.forms.value.AttrValue.{AttrValue}
 
 pub look : {A : Type 0} (o : Option A) → (o ≡ None) ⊎ ((x : A) × (o ≡ Some x))
 look None = inl refl

@@ -16,7 +16,7 @@ use Rattle.blz_info.specs.Walks.{Source, Walk, walk_from, source_of, head_at, en
 use Rattle.blz_info.specs.declared.section.Sections.{Sections}
 use Rattle.blz_info.specs.declared.units.UnitHeader.{UnitHeader}
 use Rattle.blz_info.specs.declared.entries.Entry.{Entry}
-use Rattle.blz_info.specs.declared.value.AttrValue.{AttrValue}
+use Rattle.blz_info.specs.declared.forms.value.AttrValue.{AttrValue}
 use Rattle.blz_info.proofs.HeadsLead.{heads_lead_on}
 use Rattle.blz_info.proofs.Preorder.{flat_on, flat_end, walk_is_preorder}
 

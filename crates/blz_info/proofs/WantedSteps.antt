@@ -8,11 +8,11 @@ use Rattle.blz_info.specs.Contents.{Contents}
 use Rattle.blz_info.specs.Attributes.{attribute}
 use Rattle.blz_info.specs.Walks.{Walk}
 use Rattle.blz_info.specs.Wanted.{is_wanted, wanted_in, wanted_of, met_view}
-use Rattle.blz_info.specs.declared.wanted.Met.{Met}
+use Rattle.blz_info.specs.declared.walking.wanted.Met.{Met}
 use Rattle.blz_info.specs.declared.abbreviations.AttrSpec.{AttrSpec}
 use Rattle.blz_info.specs.declared.encoding.Encoding.{Encoding}
 use Rattle.blz_info.specs.declared.text.StrBase.{StrBase}
-use Rattle.blz_info.specs.declared.value.AttrValue.{AttrValue}
+use Rattle.blz_info.specs.declared.forms.value.AttrValue.{AttrValue}
 use Rattle.blz_info.proofs.RunSteps.{none_left}
 
 pub wanted_none : (specs : List AttrSpec) (i : ℕ) (d : AttrSpec) (e : Encoding) (base : StrBase) (s : Contents) (at : ℕ) → i < length specs → attribute (get_or specs i d) e base s at ≡ None → wanted_in (drop i specs) e base s at ≡ None

@@ -9,12 +9,12 @@ use Rattle.blz_info.specs.Sizes.{over, behind_form, behind, attribute_size, size
 use Rattle.blz_info.specs.Wanted.{is_wanted, any_placing}
 use Rattle.blz_info.specs.declared.abbreviations.AttrSpec.{AttrSpec}
 use Rattle.blz_info.specs.declared.encoding.Encoding.{Encoding}
-use Rattle.blz_info.specs.declared.form.Form.{Form}
-use Rattle.blz_info.specs.declared.ready.Ready.{Ready}
-use Rattle.blz_info.specs.declared.runs.Run.{Run}
-use Rattle.blz_info.specs.declared.runs.Runs.{Runs}
+use Rattle.blz_info.specs.declared.forms.form.Form.{Form}
+use Rattle.blz_info.specs.declared.walking.ready.Ready.{Ready}
+use Rattle.blz_info.specs.declared.walking.runs.Run.{Run}
+use Rattle.blz_info.specs.declared.walking.runs.Runs.{Runs}
 use Rattle.blz_info.specs.declared.text.StrBase.{StrBase}
-use Rattle.blz_info.specs.declared.value.AttrValue.{AttrValue}
+use Rattle.blz_info.specs.declared.forms.value.AttrValue.{AttrValue}
 
 -- where attributes are read, an attribute that is wanted
 abbrev pub wants : Bool → AttrSpec → Bool

@@ -8,12 +8,12 @@ use Rattle.blz_info.specs.Forms.{form_of, value_by}
 use Rattle.blz_info.specs.declared.abbreviations.AttrSpec.{AttrSpec}
 use Rattle.blz_info.specs.declared.encoding.Encoding.{Encoding}
 use Rattle.blz_info.specs.declared.text.StrBase.{StrBase}
-use Rattle.blz_info.specs.declared.form.Form.{Form}
-use Rattle.blz_info.specs.declared.form.Form.TheVariants.{Numeric}
-use Rattle.blz_info.specs.declared.form.Field.TheVariants.{Offset}
-use Rattle.blz_info.specs.declared.form.Makes.TheVariants as makes
-use Rattle.blz_info.specs.declared.value.AttrValue.{AttrValue}
-use Rattle.blz_info.specs.declared.value.AttrValue.TheVariants.{Signed}
+use Rattle.blz_info.specs.declared.forms.form.Form.{Form}
+use Rattle.blz_info.specs.declared.forms.form.Form.TheVariants.{Numeric}
+use Rattle.blz_info.specs.declared.forms.form.Field.TheVariants.{Offset}
+use Rattle.blz_info.specs.declared.forms.form.Makes.TheVariants as makes
+use Rattle.blz_info.specs.declared.forms.value.AttrValue.{AttrValue}
+use Rattle.blz_info.specs.declared.forms.value.AttrValue.TheVariants.{Signed}
 
 -- In versions 2 and 3, DW_FORM_data4 or DW_FORM_data8 of the unit's offset size is an offset at DW_AT_stmt_list
 -- and DW_AT_ranges, since there was no form for offsets (DWARF 3 section 7.5.4, class lineptr and rangelistptr).

@@ -7,10 +7,10 @@ use Rattle.std.specs.FinMap as map
 use Rattle.blz_relocations.specs.Relocations.{OffsetMap, relocated}
 use Rattle.blz_info.specs.declared.section.Section.{Section}
 use Rattle.blz_info.specs.declared.encoding.Encoding.{Encoding}
-use Rattle.blz_info.specs.declared.form.Width.{Width}
-use Rattle.blz_info.specs.declared.form.Width.TheVariants.{One, Two, Three, Four, Eight}
-use Rattle.blz_info.specs.declared.form.Field.{Field}
-use Rattle.blz_info.specs.declared.form.Field.TheVariants.{Nothing, Fixed, Address, Offset, RefAddress, Uleb, Sixteen, Block, UlebBlock}
+use Rattle.blz_info.specs.declared.forms.form.Width.{Width}
+use Rattle.blz_info.specs.declared.forms.form.Width.TheVariants.{One, Two, Three, Four, Eight}
+use Rattle.blz_info.specs.declared.forms.form.Field.{Field}
+use Rattle.blz_info.specs.declared.forms.form.Field.TheVariants.{Nothing, Fixed, Address, Offset, RefAddress, Uleb, Sixteen, Block, UlebBlock}
 
 -- a section without where its bytes and relocations lie in memory
 pub record Contents : Type 0 where

@@ -2,7 +2,7 @@
 -- place is told by a function from places, so that all of this holds whatever the entries are read from.
 use Rattle.std.specs.Prelude.{◌≡◌, ℕ, zero, suc, ◌+◌, ◌-◌, ◌<◌, ◌≤◌, Bool, true, false, List, [], ◌∷◌, ◌++◌, Option, Some, None, option_map, nat_lt, if◌then◌else◌}
 use Rattle.blz_model.specs.Reads.{◌>>=◌}
-use Rattle.blz_info.specs.declared.value.AttrValue.{AttrValue}
+use Rattle.blz_info.specs.declared.forms.value.AttrValue.{AttrValue}
 
 -- an entry by itself: its place, its code, its tag, and its attributes with their names
 pub record Info : Type 0 where

@@ -7,15 +7,15 @@ use Rattle.blz_model.specs.LebNumbers.{uleb, sleb}
 use Rattle.blz_info.specs.Contents.{Contents, field_at}
 use Rattle.blz_info.specs.declared.encoding.Encoding.{Encoding}
 use Rattle.blz_info.specs.declared.text.StrBase.{StrBase}
-use Rattle.blz_info.specs.declared.form.Width.TheVariants.{One, Two, Three, Four, Eight}
-use Rattle.blz_info.specs.declared.form.Field.TheVariants.{Nothing, Fixed, Address, Offset, RefAddress, Uleb, Sixteen, Block, UlebBlock}
-use Rattle.blz_info.specs.declared.form.Makes.{Makes}
-use Rattle.blz_info.specs.declared.form.Makes.TheVariants as makes
-use Rattle.blz_info.specs.declared.form.Form.{Form}
-use Rattle.blz_info.specs.declared.form.Form.TheVariants as forms
-use Rattle.blz_info.specs.declared.form.Form.TheVariants.{Numeric}
-use Rattle.blz_info.specs.declared.value.AttrValue.{AttrValue}
-use Rattle.blz_info.specs.declared.value.AttrValue.TheVariants.{Addr, AddrIndex, Const, Signed, Text, StrRef, LineStrRef, StrIndex, SupStr, UnitRef, InfoRef, SupRef, SecOffset, RangeIndex, Other}
+use Rattle.blz_info.specs.declared.forms.form.Width.TheVariants.{One, Two, Three, Four, Eight}
+use Rattle.blz_info.specs.declared.forms.form.Field.TheVariants.{Nothing, Fixed, Address, Offset, RefAddress, Uleb, Sixteen, Block, UlebBlock}
+use Rattle.blz_info.specs.declared.forms.form.Makes.{Makes}
+use Rattle.blz_info.specs.declared.forms.form.Makes.TheVariants as makes
+use Rattle.blz_info.specs.declared.forms.form.Form.{Form}
+use Rattle.blz_info.specs.declared.forms.form.Form.TheVariants as forms
+use Rattle.blz_info.specs.declared.forms.form.Form.TheVariants.{Numeric}
+use Rattle.blz_info.specs.declared.forms.value.AttrValue.{AttrValue}
+use Rattle.blz_info.specs.declared.forms.value.AttrValue.TheVariants.{Addr, AddrIndex, Const, Signed, Text, StrRef, LineStrRef, StrIndex, SupStr, UnitRef, InfoRef, SupRef, SecOffset, RangeIndex, Other}
 
 -- The table: each form by its code, what it reads, and what kind of value that is. DW_FORM_indirect and
 -- DW_FORM_implicit_const are told below it.

@@ -6,7 +6,7 @@ use Rattle.blz_info.specs.Forest.{Info, forest, preorder, flat}
 use Rattle.blz_info.specs.Walks.{Source, Walk, head_at}
 use Rattle.blz_info.specs.declared.entries.Entry.{Entry}
 use Rattle.blz_info.specs.declared.listing.Listed.{Listed}
-use Rattle.blz_info.specs.declared.value.AttrValue.{AttrValue}
+use Rattle.blz_info.specs.declared.forms.value.AttrValue.{AttrValue}
 
 -- an entry of the flat list as a call gives it, with the values of its attributes
 abbrev pub entry_of : ℕ × Info → Entry × List (ℕ × AttrValue)

@@ -5,8 +5,8 @@ use Rattle.blz_model.specs.Reads.{◌>>=◌}
 use Rattle.blz_info.specs.Walks.{Walk, next_of, skipped_of}
 use Rattle.blz_info.specs.Wanted.{any_placing}
 use Rattle.blz_info.specs.declared.entries.Entry.{Entry}
-use Rattle.blz_info.specs.declared.passing.Passing.{Passing}
-use Rattle.blz_info.specs.declared.passing.Passing.TheVariants.{Others, Leaves, Unplaced}
+use Rattle.blz_info.specs.declared.walking.passing.Passing.{Passing}
+use Rattle.blz_info.specs.declared.walking.passing.Passing.TheVariants.{Others, Leaves, Unplaced}
 
 -- an entry without children, and no zero
 abbrev pub is_leaf : Entry → Bool

@@ -9,11 +9,11 @@ use Rattle.blz_info.specs.Contents.{Contents, bytes_in, offset_len, field_at}
 use Rattle.blz_info.specs.Forms.{form_of}
 use Rattle.blz_info.specs.declared.abbreviations.AttrSpec.{AttrSpec}
 use Rattle.blz_info.specs.declared.encoding.Encoding.{Encoding}
-use Rattle.blz_info.specs.declared.form.Field.{Field}
-use Rattle.blz_info.specs.declared.form.Field.TheVariants.{Nothing, Fixed, Address, Offset, RefAddress, Uleb, Sixteen, Block, UlebBlock}
-use Rattle.blz_info.specs.declared.form.Form.{Form}
-use Rattle.blz_info.specs.declared.form.Form.TheVariants as forms
-use Rattle.blz_info.specs.declared.form.Form.TheVariants.{Numeric}
+use Rattle.blz_info.specs.declared.forms.form.Field.{Field}
+use Rattle.blz_info.specs.declared.forms.form.Field.TheVariants.{Nothing, Fixed, Address, Offset, RefAddress, Uleb, Sixteen, Block, UlebBlock}
+use Rattle.blz_info.specs.declared.forms.form.Form.{Form}
+use Rattle.blz_info.specs.declared.forms.form.Form.TheVariants as forms
+use Rattle.blz_info.specs.declared.forms.form.Form.TheVariants.{Numeric}
 
 -- no other address can be read
 abbrev pub address_len : ℕ → Option ℕ

@@ -16,7 +16,7 @@ use Rattle.blz_info.specs.declared.section.Sections.{Sections}
 use Rattle.blz_info.specs.declared.text.StrBase.{StrBase}
 use Rattle.blz_info.specs.declared.text.StrPart.TheVariants.{Info as InfoPart, PackInfo, SupInfo}
 use Rattle.blz_info.specs.declared.units.UnitHeader.{UnitHeader}
-use Rattle.blz_info.specs.declared.value.AttrValue.{AttrValue}
+use Rattle.blz_info.specs.declared.forms.value.AttrValue.{AttrValue}
 
 -- What the entries of a unit are read from: the section up to the unit's end, where its texts stand, the sizes of its
 -- fields, its abbreviations, and its end.

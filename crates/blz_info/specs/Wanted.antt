@@ -9,8 +9,8 @@ use Rattle.blz_info.specs.Walks.{Walk}
 use Rattle.blz_info.specs.declared.abbreviations.AttrSpec.{AttrSpec}
 use Rattle.blz_info.specs.declared.encoding.Encoding.{Encoding}
 use Rattle.blz_info.specs.declared.text.StrBase.{StrBase}
-use Rattle.blz_info.specs.declared.value.AttrValue.{AttrValue}
-use Rattle.blz_info.specs.declared.wanted.Met.{Met}
+use Rattle.blz_info.specs.declared.forms.value.AttrValue.{AttrValue}
+use Rattle.blz_info.specs.declared.walking.wanted.Met.{Met}
 
 -- DW_AT_name, low_pc, high_pc, abstract_origin, specification, ranges, call_column, call_file, call_line, linkage_name
 -- and MIPS_linkage_name, and of a unit stmt_list, language, comp_dir, str_offsets_base, addr_base and rnglists_base

@@ -11,8 +11,8 @@ ghost use Rattle.blz_info.specs.AbbreviationTables.{spec_at, is_last, specs_in, 
 
 use crate::encoding::Encoding;
 use crate::fault::invalid;
-use crate::ready::Ready;
-use crate::runs::Runs;
+use crate::walking::ready::Ready;
+use crate::walking::runs::Runs;
 use blz_bytes::{Room, sleb_at, u8_at, uleb_at};
 use blz_constants::dwarf;
 use blz_error::Result;

@@ -4,12 +4,12 @@ ghost use Rattle.blz_info.specs.Contents.{section_view, StaysIn};
 ghost use Rattle.blz_info.specs.Attributes.{form_for, direct_attribute, attribute, passed};
 
 use crate::abbreviations::AttrSpec;
-use crate::behind::behind;
 use crate::encoding::Encoding;
-use crate::form::{Field, Form, Makes, form_of};
+use crate::forms::behind::behind;
+use crate::forms::form::{Field, Form, Makes, form_of};
+use crate::forms::value::{AttrValue, value_by};
 use crate::section::Section;
 use crate::text::StrBase;
-use crate::value::{AttrValue, value_by};
 use blz_bytes::uleb_at;
 use blz_constants::dwarf;
 

@@ -8,9 +8,9 @@ ghost use Rattle.blz_info.specs.Walks.{source_of};
 
 use crate::abbreviations::{Abbreviations, AttrSpec};
 use crate::entries::{Entries, Entry};
+use crate::forms::value::AttrValue;
 use crate::section::Sections;
 use crate::units::UnitHeader;
-use crate::value::AttrValue;
 use blz_error::Result;
 use std::alloc::Global;
 

@@ -8,8 +8,8 @@ ghost use Rattle.blz_info.specs.Headers.{encoding_of, kind_of, is_address_size, 
 use crate::encoding::Encoding;
 use crate::extent::{Extent, extent_at};
 use crate::fault::invalid;
-use crate::field::{fixed_at, offset_at};
-use crate::form::Width;
+use crate::forms::field::{fixed_at, offset_at};
+use crate::forms::form::Width;
 use crate::section::{Section, cut};
 use blz_bytes::{u8_at, u16_at, u64_at};
 use blz_constants::dwarf;

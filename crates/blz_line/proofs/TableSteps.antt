@@ -11,7 +11,7 @@ use Rattle.blz_line.specs.declared.paths.Kind.{Kind}
 use Rattle.blz_line.specs.declared.formats.EntryFormat.{EntryFormat}
 use Rattle.blz_line.specs.PathTables.{text_place, entry_behind, listed_in}
 use Rattle.blz_info.specs.Forms.{form_value}
-use Rattle.blz_info.specs.declared.value.AttrValue.{AttrValue}
+use Rattle.blz_info.specs.declared.forms.value.AttrValue.{AttrValue}
 use Rattle.blz_line.specs.Formats.{format_at, formats_in, entry_at, entries_in, values_in, with_content, line_texts}
 
 -- ---- formats of version 5

@@ -11,7 +11,7 @@ use Rattle.blz_info.specs.Contents.{section_view}
 use Rattle.blz_info.specs.declared.section.Sections.{Sections}
 use Rattle.blz_info.specs.declared.text.StrPlace.{StrPlace}
 use Rattle.blz_info.specs.declared.units.UnitHeader.{UnitHeader}
-use Rattle.blz_info.specs.declared.value.AttrValue.{AttrValue}
+use Rattle.blz_info.specs.declared.forms.value.AttrValue.{AttrValue}
 use Rattle.blz_line.specs.FileNames.{Naming, naming_of, all_files, at_front, directory_path, file_in, file_of, file_zero, files_of, nowhere, unit_file}
 use Rattle.blz_line.specs.Headers.{header_at}
 use Rattle.blz_line.specs.Program.{State}

@@ -10,7 +10,7 @@ use Rattle.blz_info.specs.declared.units.UnitHeader.{UnitHeader}
 use Rattle.blz_entry.specs.declared.root.UnitRoot.{UnitRoot}
 use Rattle.blz_info.specs.declared.text.StrPlace.{StrPlace}
 use Rattle.blz_info.specs.declared.text.Texts.{Texts}
-use Rattle.blz_info.specs.declared.value.AttrValue.{AttrValue}
+use Rattle.blz_info.specs.declared.forms.value.AttrValue.{AttrValue}
 use Rattle.blz_line.specs.declared.paths.FileEntry.{FileEntry}
 use Rattle.blz_line.specs.declared.files.FilePlaces.{FilePlaces}
 

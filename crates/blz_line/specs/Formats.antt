@@ -10,8 +10,8 @@ use Rattle.blz_info.specs.Forms.{form_value, udata}
 use Rattle.blz_info.specs.declared.encoding.Encoding.{Encoding}
 use Rattle.blz_info.specs.declared.text.StrBase.{StrBase}
 use Rattle.blz_info.specs.declared.text.StrPart.TheVariants.{Line}
-use Rattle.blz_info.specs.declared.value.AttrValue.{AttrValue}
-use Rattle.blz_info.specs.declared.value.AttrValue.TheVariants.{Other}
+use Rattle.blz_info.specs.declared.forms.value.AttrValue.{AttrValue}
+use Rattle.blz_info.specs.declared.forms.value.AttrValue.TheVariants.{Other}
 use Rattle.blz_line.specs.declared.paths.FileEntry.{FileEntry}
 use Rattle.blz_line.specs.declared.paths.Paths.{Paths}
 use Rattle.blz_line.specs.declared.formats.EntryFormat.{EntryFormat}

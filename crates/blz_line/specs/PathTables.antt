@@ -3,8 +3,8 @@ use Rattle.std.specs.Prelude.{ℕ, zero, suc, List, [], ◌∷◌, ◌++◌, len
 use Rattle.blz_model.specs.Reads.{Read, ◌>>=◌}
 use Rattle.blz_model.specs.LebNumbers.{uleb}
 use Rattle.blz_bytes.specs.Pieces.{zero_ended}
-use Rattle.blz_info.specs.declared.value.AttrValue.{AttrValue}
-use Rattle.blz_info.specs.declared.value.AttrValue.TheVariants.{Text}
+use Rattle.blz_info.specs.declared.forms.value.AttrValue.{AttrValue}
+use Rattle.blz_info.specs.declared.forms.value.AttrValue.TheVariants.{Text}
 use Rattle.blz_info.specs.declared.text.StrPart.TheVariants.{Line}
 use Rattle.blz_line.specs.declared.paths.FileEntry.{FileEntry}
 use Rattle.blz_line.specs.declared.paths.Paths.{Paths}

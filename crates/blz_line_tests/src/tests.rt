@@ -43,7 +43,11 @@ const ENDLESS: &[u8] =
     b"\x29\0\0\0\x05\0\x08\0\x21\0\0\0\x01\x01\x01\xfb\x0e\x0d\0\x01\x01\x01\x01\0\0\0\x01\0\0\x01\
     \0\0\x01\x01\x19\xff\xff\xff\xff\xff\xff\xff\xff\xff\x01";
 
-fn section<'s, 'b>(bytes: &'b [u8], relocations: &'s RelocationMap, order: ByteOrder) -> Section<'s, 'b> {
+fn section<'s, 'b>(
+    bytes: &'b [u8],
+    relocations: &'s RelocationMap,
+    order: ByteOrder,
+) -> Section<'s, 'b> {
     Section {
         bytes,
         relocations,

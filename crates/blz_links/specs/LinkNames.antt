@@ -1,7 +1,7 @@
 -- The names of the sections that lead to other files.
 use Rattle.std.specs.Prelude.{ℕ, List, codes}
-use Rattle.blz_links.specs.declared.link_section.LinkSection.{LinkSection}
-use Rattle.blz_links.specs.declared.link_section.LinkSection.TheVariants.{DebugLink, DebugAltlink, DebugSup}
+use Rattle.blz_links.specs.declared.recorded.link_section.LinkSection.{LinkSection}
+use Rattle.blz_links.specs.declared.recorded.link_section.LinkSection.TheVariants.{DebugLink, DebugAltlink, DebugSup}
 
 -- the name of a section
 unfoldable pub name_of : LinkSection → List ℕ

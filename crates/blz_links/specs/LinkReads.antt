@@ -6,8 +6,8 @@ use Rattle.blz_model.specs.declared.byte_order.ByteOrder.{ByteOrder}
 use Rattle.blz_model.specs.Part.{Part, Good, Broken, ◌>>=◌}
 use Rattle.blz_image.specs.Images.{image_order, image_section, image_section_data}
 use Rattle.blz_links.specs.LinkValues.{DebugLinkValue, DebugAltlinkValue, DebugSupValue}
-use Rattle.blz_links.specs.declared.link_section.LinkSection.{LinkSection}
-use Rattle.blz_links.specs.declared.link_section.LinkSection.TheVariants.{DebugLink, DebugAltlink, DebugSup}
+use Rattle.blz_links.specs.declared.recorded.link_section.LinkSection.{LinkSection}
+use Rattle.blz_links.specs.declared.recorded.link_section.LinkSection.TheVariants.{DebugLink, DebugAltlink, DebugSup}
 use Rattle.blz_links.specs.LinkNames.{name_of}
 use Rattle.blz_links.specs.LinkChecks.{Checked, debug_link_of, debug_altlink_of, debug_sup_of, seen_by, then_some}
 

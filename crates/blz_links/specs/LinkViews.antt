@@ -1,9 +1,9 @@
 -- What the links of the code stand for.
 use Rattle.std.specs.Option.{option_map}
 use Rattle.blz_links.specs.LinkValues.{DebugLinkValue, DebugAltlinkValue, DebugSupValue}
-use Rattle.blz_links.specs.declared.debug_link.DebugLink.{DebugLink}
-use Rattle.blz_links.specs.declared.debug_altlink.DebugAltlink.{DebugAltlink}
-use Rattle.blz_links.specs.declared.debug_sup.DebugSupInfo.{DebugSupInfo}
+use Rattle.blz_links.specs.declared.recorded.debug_link.DebugLink.{DebugLink}
+use Rattle.blz_links.specs.declared.recorded.debug_altlink.DebugAltlink.{DebugAltlink}
+use Rattle.blz_links.specs.declared.recorded.debug_sup.DebugSupInfo.{DebugSupInfo}
 
 abbrev pub link_view : DebugLink → DebugLinkValue
 link_view link = record { file = link.file.now; checksum = link.checksum }

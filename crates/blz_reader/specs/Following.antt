@@ -6,8 +6,8 @@ use Rattle.std.specs.Option.{option_map}
 use Rattle.blz_relocations.specs.Relocations.{OffsetMap, relocation_code}
 use Rattle.blz_model.specs.Reads.{◌>>=◌}
 use Rattle.blz_info.specs.declared.text.StrPlace.{StrPlace}
-use Rattle.blz_info.specs.declared.value.AttrValue.{AttrValue}
-use Rattle.blz_info.specs.declared.value.AttrValue.TheVariants.{UnitRef, InfoRef, SupRef}
+use Rattle.blz_info.specs.declared.forms.value.AttrValue.{AttrValue}
+use Rattle.blz_info.specs.declared.forms.value.AttrValue.TheVariants.{UnitRef, InfoRef, SupRef}
 use Rattle.blz_units.specs.declared.built_units.Side.{Side}
 use Rattle.blz_units.specs.declared.built_units.Side.TheVariants.{File, Sup}
 use Rattle.blz_reader.specs.declared.references.Standing.{Standing}

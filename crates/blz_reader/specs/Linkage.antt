@@ -1,7 +1,7 @@
 -- What the references of a unit lead to.
 use Rattle.std.specs.Prelude.{Option}
 use Rattle.blz_info.specs.declared.text.StrPlace.{StrPlace}
-use Rattle.blz_info.specs.declared.value.AttrValue.{AttrValue}
+use Rattle.blz_info.specs.declared.forms.value.AttrValue.{AttrValue}
 use Rattle.blz_functions.specs.Leaves.{UnitParts}
 use Rattle.blz_functions.specs.References.{refer_from}
 use Rattle.blz_units.specs.BuiltUnits.{Files}

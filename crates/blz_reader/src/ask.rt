@@ -14,9 +14,9 @@ use blz_bytes::{Orders, Steps};
 use blz_error::Result;
 use blz_line::Location;
 use blz_model::SrcLang;
+use blz_units::announced::units_at::UnitsAt;
 use blz_units::caches::Caches;
 use blz_units::look;
-use blz_units::units_at::UnitsAt;
 use std::sync::ledger::{Blank, Ledger};
 
 impl<'r, 's, 'b> Reader<'r, 's, 'b> {

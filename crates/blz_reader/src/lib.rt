@@ -2,17 +2,12 @@
 #![tactic(auto)]
 
 mod ask;
-mod build;
 mod call_sites;
 mod calls;
-mod fill;
+mod filling;
 mod lent;
 mod list;
-mod marks;
 mod names;
-mod prepare;
-mod puts;
-mod read;
 pub mod reader;
 mod references;
 pub mod sites;

@@ -24,7 +24,7 @@ use Rattle.blz_resolver.specs.Books.{Book, if_there, sup_image, debug_images, fr
 use Rattle.blz_resolver.specs.DebugSections.{located, debug_parts, debug_image}
 use Rattle.blz_bundle.specs.Images.{NamedImage, ImageSet}
 use Rattle.blz_resolver.specs.Scan.{scan_of}
-use Rattle.blz_resolver.specs.declared.debug_section.DebugSection.{DebugSection}
+use Rattle.blz_resolver.specs.declared.debug.debug_section.DebugSection.{DebugSection}
 use Rattle.blz_resolver.proofs.FormatMarks.{Marks, marks_good, marks_bind, marks_if, marks_or, marks_check, marks_all, marks_header, marks_elf, marks_image_data, marks_relocations, marks_image_symbol}
 
 marks_invalid : {A : Type 0} (o : Option A) → Marks (or_invalid o)

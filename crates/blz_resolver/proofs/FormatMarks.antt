@@ -18,7 +18,7 @@ use Rattle.blz_image.specs.Headers.{Header, header_of}
 use Rattle.blz_image.specs.Sections.{first_section, section_count, sections_of, raw_data, data_of, run_in, records_of, if_there}
 use Rattle.blz_image.specs.declared.section.Section.{Section}
 use Rattle.blz_image.specs.Images as image
-use Rattle.blz_image.specs.declared.entries.EntryKind.{EntryKind}
+use Rattle.blz_image.specs.declared.relocations.entries.EntryKind.{EntryKind}
 use Rattle.blz_relocations.specs.Relocations.{SectionMap}
 use Rattle.blz_image.specs.RelocationTables.{entry_kind, with_entries, with_section, with_sections, relocations_of, image_relocations}
 use Rattle.blz_image.specs.SymbolTables.{SymbolTable, table_named, symtab_of, dynsym_of, table_of}

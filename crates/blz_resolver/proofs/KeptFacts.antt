@@ -7,7 +7,7 @@ use Rattle.blz_index.specs.UnitsWarm.{lines_kept, units_prepared}
 use Rattle.blz_bundle.specs.Images.{ImageSet}
 use Rattle.blz_resolver.specs.Resolver.{Fits, HasBook, HasBookIf, ArePrepared, UnitsStayIf, UnitsGrowIf, lines_in, units_in}
 use Rattle.blz_resolver.specs.Sources.{IsOf, asked_file}
-use Rattle.blz_resolver.specs.declared.debug_info.DebugInfo.{DebugInfo}
+use Rattle.blz_resolver.specs.declared.debug.debug_info.DebugInfo.{DebugInfo}
 use Rattle.blz_resolver.specs.UnitRowsRead.{unit_count_of}
 use Rattle.blz_resolver.proofs.ReadBooks.{counted}
 use Rattle.blz_resolver.proofs.UnitsKept.{lines_grow, lines_prepared}

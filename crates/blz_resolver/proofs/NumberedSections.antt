@@ -13,7 +13,7 @@ use Rattle.blz_image.specs.Images.{Elf, elf_of, name_table, names_of, section_na
 use Rattle.blz_image.specs.Sections.{sections_of}
 use Rattle.blz_image.specs.declared.section.Section.{Section}
 use Rattle.blz_resolver.specs.DebugSections.{Located, data_numbered, located, name_of}
-use Rattle.blz_resolver.specs.declared.debug_section.DebugSection.{DebugSection}
+use Rattle.blz_resolver.specs.declared.debug.debug_section.DebugSection.{DebugSection}
 
 good_is : {A : Type 0} (x y : A) → Good x ≡ Good y → x ≡ y
 good_is x y e = cc

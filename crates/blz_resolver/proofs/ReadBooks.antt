@@ -32,9 +32,9 @@ use Rattle.blz_resolver.specs.Reading.{book_of, Reads, Keeps}
 use Rattle.blz_resolver.specs.Resolver.{HasBook, HasBookIf}
 use Rattle.blz_resolver.specs.Scan.{answers_of}
 use Rattle.blz_resolver.specs.UnitRowsRead.{Rows, rows_with, rows_in, rows_of, count_of, unit_count_of}
-use Rattle.blz_resolver.specs.declared.book_reader.BookReader.{BookReader}
-use Rattle.blz_resolver.specs.declared.debug_files.DebugFiles.{DebugFiles}
-use Rattle.blz_resolver.specs.declared.debug_info.DebugInfo.{DebugInfo}
+use Rattle.blz_resolver.specs.declared.answers.book_reader.BookReader.{BookReader}
+use Rattle.blz_resolver.specs.declared.debug.debug_files.DebugFiles.{DebugFiles}
+use Rattle.blz_resolver.specs.declared.debug.debug_info.DebugInfo.{DebugInfo}
 use Rattle.blz_resolver.proofs.SameAnswers.{same_answer}
 use Rattle.blz_resolver.proofs.SameNames.{same_addresses, same_units_listing}
 use Rattle.blz_resolver.proofs.SameTexts.{SameTexts, same_bind, same_map, same_option_map, same_file}

@@ -3,7 +3,7 @@ use Rattle.blz_reader.specs.Growing.{Told}
 use Rattle.blz_index.specs.UnitsWarm.{Leaves}
 use Rattle.blz_index.specs.declared.units.Units.{Units}
 use Rattle.blz_resolver.specs.Reading.{Reads, Keeps}
-use Rattle.blz_resolver.specs.declared.book_reader.BookReader.{BookReader}
+use Rattle.blz_resolver.specs.declared.answers.book_reader.BookReader.{BookReader}
 use Rattle.blz_resolver.proofs.UnitsKept.{grows_stay, stay_same, stay_on}
 
 pub keeps_same : (r : BookReader) (u : Units) → Reads r u → Keeps r u u

@@ -15,7 +15,7 @@ use Rattle.blz_resolver.specs.Books.{Book}
 use Rattle.blz_bundle.specs.BundleViews.{bundle_view}
 use Rattle.blz_resolver.specs.FunctionNames.{unit_listing, units_listing, functions_listing}
 use Rattle.blz_resolver.specs.Reading.{book_of}
-use Rattle.blz_resolver.specs.declared.book_reader.BookReader.{BookReader}
+use Rattle.blz_resolver.specs.declared.answers.book_reader.BookReader.{BookReader}
 
 -- ---- what was shown before, and what is shown now
 

@@ -21,8 +21,8 @@ use Rattle.blz_bundle.specs.Images.{NamedImage, ImageSet, debug_file}
 use Rattle.blz_resolver.specs.Resolver.{Fits, HasBook, ArePrepared, units_in}
 use Rattle.blz_resolver.specs.Sources.{asked_file}
 use Rattle.blz_resolver.specs.WarmFits.{IsThere, IsSupWith, SupFits, WarmBook, WarmBookIf, WarmFits, ArePreparedIn, relocations_in, warm_units_in}
-use Rattle.blz_resolver.specs.declared.debug_info.DebugInfo.{DebugInfo}
-use Rattle.blz_resolver.specs.declared.debug_image.DebugImage as image
+use Rattle.blz_resolver.specs.declared.debug.debug_info.DebugInfo.{DebugInfo}
+use Rattle.blz_resolver.specs.declared.debug.debug_image.DebugImage as image
 use Rattle.blz_resolver.specs.declared.warm.Warm.{Warm}
 use Rattle.blz_resolver.specs.declared.warm.WarmDebug.{WarmDebug}
 use Rattle.blz_resolver.proofs.SameTexts.{good_is}

@@ -12,7 +12,7 @@ use Rattle.blz_resolver.specs.AddressAnswers.{function_symbol, direct_site, plac
 use Rattle.blz_resolver.specs.CallFrames.{Places}
 use Rattle.blz_resolver.specs.FunctionNames.{function_info, numbered_info, addresses_in, unit_listing, functions_listing}
 use Rattle.blz_resolver.specs.Reading.{as_read}
-use Rattle.blz_resolver.specs.declared.book_reader.BookReader.{BookReader}
+use Rattle.blz_resolver.specs.declared.answers.book_reader.BookReader.{BookReader}
 
 -- ---- the answer of an address, and its parts
 

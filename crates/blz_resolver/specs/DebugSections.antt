@@ -8,8 +8,8 @@ use Rattle.blz_relocations.specs.Relocations.{OffsetMap, SectionMap, maps_of, se
 use Rattle.blz_image.specs.RelocationTables.{image_relocations}
 use Rattle.blz_info.specs.Contents.{Contents}
 use Rattle.blz_info.specs.FileSections.{FileSections}
-use Rattle.blz_resolver.specs.declared.debug_section.DebugSection.{DebugSection}
-use Rattle.blz_resolver.specs.declared.debug_section.DebugSection.TheVariants.{Abbrev, Addr, Aranges, Info, Line, LineStr, Ranges, RngLists, Strings, StrOffsets}
+use Rattle.blz_resolver.specs.declared.debug.debug_section.DebugSection.{DebugSection}
+use Rattle.blz_resolver.specs.declared.debug.debug_section.DebugSection.TheVariants.{Abbrev, Addr, Aranges, Info, Line, LineStr, Ranges, RngLists, Strings, StrOffsets}
 
 -- the name of a section
 unfoldable pub name_of : DebugSection → List ℕ

@@ -1,9 +1,9 @@
 -- What the debug information of an image in the code stands for.
 use Rattle.std.specs.Prelude.{◌≡◌, ◌<◌, ◌^◌, false, length}
 use Rattle.blz_info.specs.declared.section.Sections.{Sections}
-use Rattle.blz_resolver.specs.declared.debug_data.DebugData.{DebugData}
-use Rattle.blz_resolver.specs.declared.debug_data.SectionData.{SectionData}
-use Rattle.blz_resolver.specs.declared.debug_image.DebugImage as image
+use Rattle.blz_resolver.specs.declared.debug.debug_data.DebugData.{DebugData}
+use Rattle.blz_resolver.specs.declared.debug.debug_data.SectionData.{SectionData}
+use Rattle.blz_resolver.specs.declared.debug.debug_image.DebugImage as image
 use Rattle.blz_resolver.specs.DebugSections.{Located, DebugParts, DebugImage}
 
 abbrev pub located_view : SectionData → Located

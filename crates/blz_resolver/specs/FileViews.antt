@@ -3,7 +3,7 @@ use Rattle.std.specs.Prelude.{◌≡◌, ℕ, List, [], true, Option, Some, None
 use Rattle.blz_info.specs.declared.section.Sections.{Sections}
 use Rattle.blz_split.specs.PackageParts.{package_view}
 use Rattle.blz_split.specs.declared.package.Package.{Package}
-use Rattle.blz_resolver.specs.declared.debug_files.DebugFiles.{DebugFiles}
+use Rattle.blz_resolver.specs.declared.debug.debug_files.DebugFiles.{DebugFiles}
 use Rattle.blz_resolver.specs.Books.{DebugImages}
 use Rattle.blz_resolver.specs.DebugViews.{debug_view, IsWholeFile}
 

@@ -5,7 +5,7 @@ use Rattle.blz_resolver.specs.FileViews.{images_view}
 use Rattle.blz_bundle.specs.Images.{ImageSet}
 use Rattle.blz_resolver.specs.Reading.{UnitsStay}
 use Rattle.blz_resolver.specs.Resolver.{HasBook}
-use Rattle.blz_resolver.specs.declared.debug_info.DebugInfo.{DebugInfo}
+use Rattle.blz_resolver.specs.declared.debug.debug_info.DebugInfo.{DebugInfo}
 
 abbrev pub info_book : ImageSet → DebugInfo → Book
 info_book images d = record { images = images; files = files_in (images_view d.files); table = units_table d.units }

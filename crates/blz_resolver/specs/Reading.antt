@@ -6,7 +6,7 @@ use Rattle.blz_index.specs.UnitsWarm.{units_table, announced_ordered, units_prep
 use Rattle.blz_index.specs.declared.units.Units.{Units}
 use Rattle.blz_resolver.specs.Books.{Book}
 use Rattle.blz_bundle.specs.BundleViews.{bundle_view}
-use Rattle.blz_resolver.specs.declared.book_reader.BookReader.{BookReader}
+use Rattle.blz_resolver.specs.declared.answers.book_reader.BookReader.{BookReader}
 
 abbrev pub book_of : BookReader → Units → Book
 book_of r u = record { images = bundle_view r.bundle; files = files_view r.dwarf; table = units_table u }

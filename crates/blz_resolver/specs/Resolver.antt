@@ -11,7 +11,7 @@ use Rattle.blz_resolver.specs.FileViews.{images_view}
 use Rattle.blz_bundle.specs.Images.{ImageSet}
 use Rattle.blz_resolver.specs.Reading.{UnitsStay}
 use Rattle.blz_resolver.specs.Sources.{IsOf, asked_file}
-use Rattle.blz_resolver.specs.declared.debug_info.DebugInfo.{DebugInfo}
+use Rattle.blz_resolver.specs.declared.debug.debug_info.DebugInfo.{DebugInfo}
 
 -- A resolver: its bundle; its units, where it has debug information; and whether all of it was read. The units tell
 -- which orders were accepted, and which functions are kept.

@@ -1,26 +1,15 @@
 //! Answers for addresses of an ELF image and its companions, from its path to functions, source lines and inlined calls.
 #![tactic(auto)]
 
-mod answering;
-mod book_reader;
+mod answers;
 mod call_list;
-mod call_places;
-mod code_info;
-mod debug_data;
-mod debug_files;
-mod debug_image;
-mod debug_info;
-mod debug_section;
-mod debug_text;
+mod debug;
 mod fault;
-mod function;
-mod functions_named;
-mod functions_shown;
+mod functions;
 pub mod laws;
 mod names;
 mod opening;
 pub mod outside;
-mod prepared;
 mod preparing;
 mod resolver;
 mod rows;

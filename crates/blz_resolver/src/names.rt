@@ -9,7 +9,7 @@ ghost use Rattle.blz_resolver.specs.Resolver.{Stays, HasBookIf, has_debug, Units
 ghost use Rattle.blz_resolver.specs.Sources.{IsOf, asked_file};
 
 use crate::ElfResolver;
-use crate::debug_info::DebugInfo;
+use crate::debug::debug_info::DebugInfo;
 use blz_bundle::Bundle;
 use blz_bytes::Orders;
 use blz_elf::{ElfParser, FindAddrOpts, SymInfos, Visit};

@@ -12,7 +12,7 @@ ghost use Rattle.blz_resolver.specs.Resolver.{ArePrepared, HasBookIf, Grows, Uni
 ghost use Rattle.blz_resolver.specs.UnitRowsRead.{unit_count_of};
 
 use crate::ElfResolver;
-use crate::debug_info::DebugInfo;
+use crate::debug::debug_info::DebugInfo;
 use blz_bundle::Bundle;
 use blz_bytes::{Orders, Steps};
 use blz_elf::{Answer, FindSymOpts};

@@ -10,7 +10,7 @@ ghost use Rattle.blz_resolver.specs.FormatKinds.{IsMemoryOrFormat};
 ghost use Rattle.blz_resolver.specs.Resolver.{Stays, HasBookIf, has_debug, UnitsStayIf, units_in};
 ghost use Rattle.blz_resolver.specs.Sources.{IsOf, asked_file};
 
-use crate::debug_info::DebugInfo;
+use crate::debug::debug_info::DebugInfo;
 use blz_bundle::Bundle;
 use blz_bytes::Orders;
 use blz_elf::{Answer, ElfParser, FindSymOpts};

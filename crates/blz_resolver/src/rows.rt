@@ -9,7 +9,7 @@ ghost use Rattle.blz_resolver.specs.RowsViews.{rows_view};
 ghost use Rattle.blz_resolver.specs.UnitRowsRead.{rows_of, rows_with, unit_count_of};
 
 use crate::ElfResolver;
-use crate::debug_info::DebugInfo;
+use crate::debug::debug_info::DebugInfo;
 use blz_bundle::Bundle;
 use blz_bytes::{DirPath, Orders};
 use blz_entry::Texts;

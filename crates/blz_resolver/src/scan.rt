@@ -6,7 +6,7 @@ ghost use Rattle.blz_bundle.specs.BundleViews.{bundle_view};
 ghost use Rattle.blz_resolver.specs.FormatKinds.{IsMemoryOrFormat};
 ghost use Rattle.blz_resolver.specs.Scan.{scan_of};
 
-use crate::debug_info::DebugInfo;
+use crate::debug::debug_info::DebugInfo;
 use blz_bundle::Bundle;
 use blz_bytes::Orders;
 use blz_elf::{Answer, ElfParser, FindSymOpts};

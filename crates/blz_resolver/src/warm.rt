@@ -14,10 +14,10 @@ ghost use Rattle.blz_resolver.specs.Sources.{IsOf};
 ghost use Rattle.blz_resolver.specs.WarmFits.{IsThere, IsSupWith, SupFits, WarmBook, WarmBookIf, WarmFits, warm_units, warm_prepared, warm_units_in};
 
 use crate::ElfResolver;
-use crate::debug_data::DebugData;
-use crate::debug_files::DebugFiles;
-use crate::debug_image::DebugImage;
-use crate::debug_info::DebugInfo;
+use crate::debug::debug_data::DebugData;
+use crate::debug::debug_files::DebugFiles;
+use crate::debug::debug_image::DebugImage;
+use crate::debug::debug_info::DebugInfo;
 use blz_bundle::{Bundle, Companion};
 use blz_elf::{ElfParser, ElfWarm, RelocationMap, SectionRelocations};
 use blz_index::Units;
@@ -84,7 +84,11 @@ fn data_again<'b>(parser: &mut ElfParser<'b>) -> DebugData<'b>
     }
 }
 
-fn sup_with<'b>(alloc: Global, file: Companion<'b>, relocations: SectionRelocations) -> DebugImage<'b>
+fn sup_with<'b>(
+    alloc: Global,
+    file: Companion<'b>,
+    relocations: SectionRelocations,
+) -> DebugImage<'b>
     requires { IsSupWith file.image.now relocations }
     ensures { sup_image file.entry.image.now ≡ Good (debug_view result) }
 {

@@ -3,7 +3,7 @@ use Rattle.std.proofs.Common.{◌≡◌, ℕ, Bool, true, false, Ordering, Less,
 use Rattle.std.specs.Ordering.{bool_cmp, nat_cmp, ordering_then}
 use Rattle.std.proofs.lemmas.Map.Lookups.{CmpEqualImpliesEq, exact_unsigned}
 use Rattle.blz_units.specs.SharedPrograms.{program_cmp}
-use Rattle.blz_units.specs.contracts.program_key.LinesKeyOrd.TheImpl as lines
+use Rattle.blz_units.specs.contracts.shared.program_key.LinesKeyOrd.TheImpl as lines
 
 both : (a b : Ordering) → ordering_then a b ≡ Equal → (a ≡ Equal) × (b ≡ Equal)
 both Less b e = absurd cc

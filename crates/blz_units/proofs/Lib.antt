@@ -11,7 +11,7 @@ pub mod ToldUnits
 pub mod BuiltSteps
 pub mod Choosing
 pub mod PutItems
-pub mod Shared
+pub mod SharedSteps
 pub mod KeyOrder
 pub mod KeptValues
 pub mod SharedPackage

@@ -7,7 +7,7 @@ use Rattle.blz_entry.specs.declared.root.UnitRoot.{UnitRoot}
 use Rattle.blz_info.specs.declared.section.Sections.{Sections}
 use Rattle.blz_info.specs.declared.text.StrPlace.{StrPlace}
 use Rattle.blz_info.specs.declared.units.UnitHeader.{UnitHeader}
-use Rattle.blz_info.specs.declared.value.AttrValue.{AttrValue}
+use Rattle.blz_info.specs.declared.forms.value.AttrValue.{AttrValue}
 use Rattle.blz_line.specs.FileNames.{files_of}
 use Rattle.blz_line.specs.Headers.{header_at}
 use Rattle.blz_line.specs.UnitLines.{LineTable, program_of, table_of, table_at, some_table, maybe_table}

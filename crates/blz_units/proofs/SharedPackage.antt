@@ -3,7 +3,7 @@ use Rattle.std.proofs.Common.{◌≡◌, Option, Some, None}
 use Rattle.std.specs.Prelude.{IfSome}
 use Rattle.blz_split.specs.PackageParts.{PackageParts}
 use Rattle.blz_split.specs.declared.id_rows.IdRows.{IdRows}
-use Rattle.blz_units.specs.declared.shared_package.SharedPackage.{SharedPackage}
+use Rattle.blz_units.specs.declared.shared.shared_package.SharedPackage.{SharedPackage}
 use Rattle.blz_units.specs.BuiltUnits.{Files}
 use Rattle.blz_units.specs.SharedPackage.{AreRows, IsPackageShared}
 

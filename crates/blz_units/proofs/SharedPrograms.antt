@@ -16,8 +16,8 @@ use Rattle.blz_info.specs.FileSections.{FileSections, sections_view}
 use Rattle.blz_info.specs.declared.section.Sections.{Sections}
 use Rattle.blz_info.specs.declared.text.StrPlace.{StrPlace}
 use Rattle.blz_info.specs.declared.units.UnitHeader.{UnitHeader}
-use Rattle.blz_info.specs.declared.value.AttrValue.{AttrValue}
-use Rattle.blz_info.specs.declared.value.AttrValue.TheVariants.{StrIndex}
+use Rattle.blz_info.specs.declared.forms.value.AttrValue.{AttrValue}
+use Rattle.blz_info.specs.declared.forms.value.AttrValue.TheVariants.{StrIndex}
 use Rattle.blz_line.specs.FileNames.{all_files}
 use Rattle.blz_line.specs.Headers.{header_at}
 use Rattle.blz_line.specs.ProgramFiles.{first_of}
@@ -25,9 +25,9 @@ use Rattle.blz_line.specs.ProgramTables.{OrderedProgram, ProgramTable, program_a
 use Rattle.blz_line.specs.UnitLines.{program_of}
 use Rattle.blz_line.specs.declared.header.LineHeader.{LineHeader}
 use Rattle.blz_units.specs.SharedPrograms.{lines_key, program_cmp, ArePrograms, IsProgramAt}
-use Rattle.blz_units.specs.declared.program_key.LinesKey.{LinesKey}
-use Rattle.blz_units.specs.declared.program_key.ProgramKey.{ProgramKey}
-use Rattle.blz_units.specs.declared.shared_programs.SharedPrograms.{SharedPrograms}
+use Rattle.blz_units.specs.declared.shared.program_key.LinesKey.{LinesKey}
+use Rattle.blz_units.specs.declared.shared.program_key.ProgramKey.{ProgramKey}
+use Rattle.blz_units.specs.declared.shared.shared_programs.SharedPrograms.{SharedPrograms}
 use Rattle.blz_units.proofs.KeptValues.{if_empty, more_kept}
 use Rattle.blz_units.proofs.KeyOrder.{exact_program}
 use Rattle.blz_units.proofs.Rooted.{bind_same}

@@ -7,7 +7,7 @@ use Rattle.std.proofs.lemmas.Bool.{cases_Bool, eqb-true, le-ltb}
 use Rattle.blz_ranges.specs.Ranges.{OwnedRanges}
 use Rattle.blz_units.specs.Announced.{to_tell, units_covering, Announcing}
 use Rattle.blz_units.specs.Seen.{is_unit, is_noted, left_of, noted, untold, Holds, LeavesOut, IsNoneNoted, IsOnce}
-use Rattle.blz_units.specs.declared.units_at.Told.{Told}
+use Rattle.blz_units.specs.declared.announced.units_at.Told.{Told}
 
 -- ---- one after the other
 

@@ -9,8 +9,8 @@ use Rattle.blz_ranges.specs.Owned.{Owned, items_of, owner_at}
 use Rattle.blz_ranges.specs.Ranges.{OwnedRanges, owner_of}
 use Rattle.blz_ranges.specs.Turns.{covering}
 use Rattle.blz_ranges.specs.Owned.{owners_of}
-use Rattle.blz_units.specs.declared.announcers.Turn.{Turn}
-use Rattle.blz_units.specs.declared.announcers.Turn.TheVariants.{First, After, Over}
+use Rattle.blz_units.specs.declared.announced.announcers.Turn.{Turn}
+use Rattle.blz_units.specs.declared.announced.announcers.Turn.TheVariants.{First, After, Over}
 use Rattle.std.proofs.lemmas.List.{length-map}
 use Rattle.blz_ranges.proofs.InTurn.{turns, once, covering_within}
 

@@ -7,8 +7,8 @@ use Rattle.blz_ranges.specs.Owned.{Owned, items_of, owners_of}
 use Rattle.blz_ranges.specs.Ranges.{OwnedRanges}
 use Rattle.blz_ranges.specs.Turns.{covering}
 use Rattle.blz_units.specs.UnitTables.{UnitTable, announcing}
-use Rattle.blz_units.specs.declared.announcers.Turn.{Turn}
-use Rattle.blz_units.specs.declared.announcers.Turn.TheVariants.{First, After, Over}
+use Rattle.blz_units.specs.declared.announced.announcers.Turn.{Turn}
+use Rattle.blz_units.specs.declared.announced.announcers.Turn.TheVariants.{First, After, Over}
 
 -- the announced ranges, the address, the numbers of the units that are still to come, and whether none was asked for
 pub record Announcing : Type 0 where

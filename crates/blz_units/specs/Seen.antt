@@ -3,7 +3,7 @@ use Rattle.std.specs.Prelude.{◌≡◌, ℕ, ◌+◌, Bool, true, false, nat_lt
 use Rattle.std.specs.List.{slice_get, slice_set}
 use Rattle.blz_ranges.specs.Ranges.{OwnedRanges}
 use Rattle.blz_units.specs.Announced.{units_covering, Announcing}
-use Rattle.blz_units.specs.declared.units_at.Told.{Told}
+use Rattle.blz_units.specs.declared.announced.units_at.Told.{Told}
 
 -- ---- units that are noted as told
 

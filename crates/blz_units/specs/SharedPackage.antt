@@ -4,7 +4,7 @@ use Rattle.blz_split.specs.IndexRows.{AreRowsOf}
 use Rattle.blz_split.specs.PackageParts.{PackageParts}
 use Rattle.blz_split.specs.declared.id_rows.IdRows.{IdRows}
 use Rattle.blz_units.specs.BuiltUnits.{Files}
-use Rattle.blz_units.specs.declared.shared_package.SharedPackage.{SharedPackage}
+use Rattle.blz_units.specs.declared.shared.shared_package.SharedPackage.{SharedPackage}
 
 -- the rows of a package, if they were read
 abbrev pub AreRows : PackageParts → Option IdRows → Type 0

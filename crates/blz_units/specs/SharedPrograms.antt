@@ -7,10 +7,10 @@ use Rattle.blz_functions.specs.Leaves.{lying}
 use Rattle.blz_info.specs.FileSections.{FileSections}
 use Rattle.blz_info.specs.declared.units.UnitHeader.{UnitHeader}
 use Rattle.blz_line.specs.ProgramTables.{OrderedProgram, program_at}
-use Rattle.blz_units.specs.contracts.program_key.ProgramKeyOrd.TheImpl as order
-use Rattle.blz_units.specs.declared.program_key.LinesKey.{LinesKey}
-use Rattle.blz_units.specs.declared.program_key.ProgramKey.{ProgramKey}
-use Rattle.blz_units.specs.declared.shared_programs.SharedPrograms.{SharedPrograms}
+use Rattle.blz_units.specs.contracts.shared.program_key.ProgramKeyOrd.TheImpl as order
+use Rattle.blz_units.specs.declared.shared.program_key.LinesKey.{LinesKey}
+use Rattle.blz_units.specs.declared.shared.program_key.ProgramKey.{ProgramKey}
+use Rattle.blz_units.specs.declared.shared.shared_programs.SharedPrograms.{SharedPrograms}
 
 -- how a unit reads a line program, besides its offset
 abbrev pub lines_key : UnitHeader → UnitRoot → LinesKey

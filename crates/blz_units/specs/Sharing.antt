@@ -8,7 +8,7 @@ use Rattle.blz_info.specs.AbbreviationTables.{abbreviations}
 use Rattle.blz_info.specs.Abbrevs.{Abbrev}
 use Rattle.blz_info.specs.FileSections.{FileSections}
 use Rattle.blz_info.specs.declared.units.UnitHeader.{UnitHeader}
-use Rattle.blz_units.specs.declared.shared_parts.SharedParts.{SharedParts}
+use Rattle.blz_units.specs.declared.shared.shared_parts.SharedParts.{SharedParts}
 use Rattle.blz_units.specs.BuiltUnits.{line_header}
 use Rattle.blz_units.specs.SharedPrograms.{ArePrograms}
 

@@ -13,8 +13,8 @@ ghost use Rattle.blz_units.specs.Sharing.{AreShared};
 ghost use Rattle.blz_info.specs.FileSections.{sections_view};
 
 use crate::dwarf::{Dwarf, Origin};
-use crate::shared_package::SharedPackage;
-use crate::shared_parts::SharedParts;
+use crate::shared::shared_package::SharedPackage;
+use crate::shared::shared_parts::SharedParts;
 use crate::words::{UNIT_WORDS, attribute_words, longest_search, names_words};
 use blz_bytes::Room;
 use blz_entry::{Abbreviations, Sections, UnitHeader, UnitHeaders, UnitKind, UnitRoot, invalid};
@@ -189,7 +189,7 @@ fn not_empty(pieces: Option<SplitUnit>) -> Option<SplitUnit>
 impl BuiltUnit {
     /// Builds a unit of an origin. InvalidDwarf exactly where its abbreviations, its root or the header of its line
     /// program have no value.
-    #[tactic(auto, using(crate::proofs::Shared::shared_to, crate::proofs::Shared::shared_from))]
+    #[tactic(auto, using(crate::proofs::SharedSteps::shared_to, crate::proofs::SharedSteps::shared_from))]
     pub fn of_file(
         alloc: Global,
         room: &mut Room,

@@ -12,8 +12,8 @@ ghost use Rattle.blz_info.specs.FileSections.{FileSections};
 
 use crate::built_unit::BuiltUnit;
 use crate::dwarf::Dwarf;
-use crate::shared_package::SharedPackage;
-use crate::shared_parts::SharedParts;
+use crate::shared::shared_package::SharedPackage;
+use crate::shared::shared_parts::SharedParts;
 use crate::unit_list::UnitList;
 use blz_entry::invalid;
 use blz_error::{Error, Result, Str};

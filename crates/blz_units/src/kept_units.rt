@@ -9,8 +9,8 @@ ghost use Rattle.blz_ranges.specs.Owned.{owned, filled_up};
 ghost use Rattle.blz_units.specs.UnitLists.{EndBefore, IsInPlace};
 ghost use Rattle.blz_units.specs.UnitTables.{with_unit, no_units, units_kept};
 
-use crate::address_sets::AddressSets;
-use crate::announcing::append_announced;
+use crate::announced::address_sets::AddressSets;
+use crate::announced::announcing::append_announced;
 use crate::built_units::SideUnits;
 use crate::dwarf::Dwarf;
 use crate::unit_list::UnitList;

@@ -6,7 +6,7 @@ ghost use Rattle.blz_functions.specs.References.{distance_in, unit_at};
 ghost use Rattle.blz_units.specs.UnitLists.{AreUnits, EndBefore, IsInPlace};
 ghost use Rattle.blz_units.specs.UnitTables.{no_types};
 
-use crate::announcing::is_type;
+use crate::announced::announcing::is_type;
 use blz_entry::UnitHeader;
 use std::alloc::{AllocError, Global};
 use std::marker::Model;

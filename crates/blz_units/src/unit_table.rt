@@ -14,12 +14,12 @@ ghost use Rattle.blz_units.specs.TableViews.{table_view};
 ghost use Rattle.blz_units.specs.UnitTables.{sup_units, sups_checked, units_in, units_of};
 ghost use Rattle.blz_info.specs.FileSections.{sections_view};
 
-use crate::address_sets::AddressSets;
+use crate::announced::address_sets::AddressSets;
+use crate::announced::units_at::UnitsAt;
 use crate::built_units::SideUnits;
 use crate::dwarf::Dwarf;
 use crate::kept_units::KeptUnits;
 use crate::unit_list::UnitList;
-use crate::units_at::UnitsAt;
 use crate::words::HEADER_WORDS;
 use blz_bytes::{Orders, Room};
 use blz_entry::{Section, Sections, UnitHeaders, invalid};

@@ -6,7 +6,7 @@ ghost use Rattle.blz_image.specs.RelocationTables.{image_relocations, mark_in, m
 use crate::fill::fill_relocations;
 use crate::parser::ElfParser;
 use blz_error::{Error, Result, Str};
-use blz_image::relocating::{check_relocations, relocations, relocations_for};
+use blz_image::relocations::relocating::{check_relocations, relocations, relocations_for};
 use blz_model::Cache;
 use blz_relocations::SectionRelocations;
 use std::alloc::{AllocError, Global};

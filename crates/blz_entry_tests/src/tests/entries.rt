@@ -78,9 +78,18 @@ fn an_entry_of_fixed_size_ends_where_its_unit_tells(rt: HostRuntime) -> Result<(
         address_size: 2,
         ..now
     };
-    checks.same(second_place(&bytes, &abbreviations, &relocations, now), Some(33));
-    checks.same(second_place(&bytes, &abbreviations, &relocations, old), Some(37));
-    checks.same(second_place(&bytes, &abbreviations, &relocations, wide), Some(41));
+    checks.same(
+        second_place(&bytes, &abbreviations, &relocations, now),
+        Some(33),
+    );
+    checks.same(
+        second_place(&bytes, &abbreviations, &relocations, old),
+        Some(37),
+    );
+    checks.same(
+        second_place(&bytes, &abbreviations, &relocations, wide),
+        Some(41),
+    );
     checks.holds(second_place(&bytes, &abbreviations, &relocations, strange).is_none());
     let short = UnitHeader { end: 32, ..now };
     checks.holds(second_place(&bytes, &abbreviations, &relocations, short).is_none());

@@ -142,7 +142,9 @@ fn an_implicit_constant_is_the_number_of_the_abbreviation(rt: HostRuntime) -> Re
     // two attributes, the first with an implicit constant of -2, and the second with one of 5
     let table = b"\x01\x34\0\x3a\x21\x7e\x3b\x21\x05\0\0\0";
     let abbreviations = Abbreviations::parse(rt.alloc(), table, 0).expect(&rt, "refused");
-    let mut entries = entries_at(b"\x01\x01", &relocations, &abbreviations, 0).expect(&rt, "refused");
+    let mut entries = entries_at(b"\x01\x01", &relocations, &abbreviations, 0).expect(
+        &rt, "refused",
+    );
     entries
         .next_entry()
         .expect(&rt, "refused")

@@ -8,7 +8,7 @@ ghost use Rattle.blz_index.specs.UnitsWarm.{announced_ordered, units_table};
 
 use crate::units::Units;
 use blz_error::Result;
-use blz_units::units_at::UnitsAt;
+use blz_units::announced::units_at::UnitsAt;
 
 impl Units {
     /// The number of the unit that an offset of `.debug_info` leads into, and the offset's distance from its start.

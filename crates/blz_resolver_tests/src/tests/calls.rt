@@ -3,7 +3,7 @@ use super::built::{Built, Step, image_of, lines_of};
 use super::shown::{Frame, frames_are, frames_refusal};
 use blz_checks::Checks;
 use blz_error::ErrorKind;
-use blz_images::codes::*;
+use blz_images::dwarf::codes::*;
 use blz_images::{Attribute, ByteOrder};
 use std::alloc::Global;
 use std::test::Fail;

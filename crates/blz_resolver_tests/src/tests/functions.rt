@@ -5,7 +5,7 @@ use blz_bytes::ByStdSort;
 use blz_checks::Checks;
 use blz_elf::{Answer, FindSymOpts, Reason};
 use blz_error::Result;
-use blz_images::codes::*;
+use blz_images::dwarf::codes::*;
 use blz_images::{Attribute, ByteOrder, range_pairs};
 use blz_resolver::symbolize;
 use blz_runs::lone;

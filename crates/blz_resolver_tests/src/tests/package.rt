@@ -5,7 +5,7 @@ use blz_bytes::ByStdSort;
 use blz_checks::Checks;
 use blz_elf::{Answer, FindSymOpts, ResolvedSym, SrcLang};
 use blz_error::Result;
-use blz_images::codes::*;
+use blz_images::dwarf::codes::*;
 use blz_images::{Attribute, ByteOrder, UnitKind, package_of_unit};
 use blz_resolver::{Bundle, Companion, symbolize};
 use blz_runs::lone;

@@ -3,7 +3,7 @@ use super::built::{Built, FORMATS, Format, LITTLE4};
 use super::shown::{names_are, refusal_of};
 use blz_checks::Checks;
 use blz_error::ErrorKind;
-use blz_images::codes::*;
+use blz_images::dwarf::codes::*;
 use blz_images::{Attribute, DebugInfo};
 use std::alloc::{AllocError, Global};
 use std::test::Fail;

@@ -3,7 +3,7 @@ use super::built::{Built, Step, image_of};
 use super::listings::are_shown;
 use super::shown::names_are;
 use blz_checks::Checks;
-use blz_images::codes::*;
+use blz_images::dwarf::codes::*;
 use blz_images::{Attribute, ByteOrder};
 use std::alloc::Global;
 use std::test::Fail;

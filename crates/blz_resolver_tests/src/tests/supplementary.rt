@@ -3,7 +3,7 @@ use super::built::{Built, FORMATS, Format, LITTLE4, Step, image_of};
 use super::shown::{is_named, names, names_are};
 use blz_checks::Checks;
 use blz_error::{ErrorKind, Result};
-use blz_images::codes::*;
+use blz_images::dwarf::codes::*;
 use blz_images::{Attribute, ByteOrder, DebugInfo, with_section};
 use blz_resolver::{Bundle, Companion};
 use blz_runs::{lone, refusal};

@@ -1,5 +1,5 @@
 //! Images with one unit or two, whose lines are known by hand.
-use blz_images::codes::{DW_AT_COMP_DIR, DW_AT_NAME, DW_AT_STMT_LIST, DW_TAG_COMPILE_UNIT};
+use blz_images::dwarf::codes::{DW_AT_COMP_DIR, DW_AT_NAME, DW_AT_STMT_LIST, DW_TAG_COMPILE_UNIT};
 use blz_images::{Attribute, ByteOrder, DebugInfo, DebugLine};
 use std::alloc::{AllocError, Global};
 

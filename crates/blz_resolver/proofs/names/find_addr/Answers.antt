@@ -7,7 +7,7 @@ use Rattle.blz_bundle.specs.BundleViews.{bundle_view}
 use Rattle.blz_resolver.specs.FunctionNames.{addresses_of}
 use Rattle.blz_bundle.specs.Images.{ImageSet}
 use Rattle.blz_resolver.specs.Sources.{IsOf, asked_file}
-use Rattle.blz_resolver.specs.declared.debug_info.DebugInfo.{DebugInfo}
+use Rattle.blz_resolver.specs.declared.debug.debug_info.DebugInfo.{DebugInfo}
 use Rattle.blz_resolver.proofs.names.find_addr.Goals as goal
 
 symbols_of : (images : ImageSet) (o : Option DebugInfo) (s : Source) (name : List ℕ) (opts : FindAddrOpts) → o ≡ None → IsOf (asked_file images (is_some o)) s → image_addresses s.image s.module_name name opts.file_offset ≡ addresses_of images (is_some o) name opts

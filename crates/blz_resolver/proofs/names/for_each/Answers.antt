@@ -6,7 +6,7 @@ use Rattle.blz_bundle.specs.BundleViews.{bundle_view}
 use Rattle.blz_resolver.specs.FunctionNames.{listing_in}
 use Rattle.blz_bundle.specs.Images.{ImageSet}
 use Rattle.blz_resolver.specs.Sources.{IsOf, asked_file}
-use Rattle.blz_resolver.specs.declared.debug_info.DebugInfo.{DebugInfo}
+use Rattle.blz_resolver.specs.declared.debug.debug_info.DebugInfo.{DebugInfo}
 use Rattle.blz_resolver.proofs.names.for_each.Goals as goal
 
 symbols_of : (images : ImageSet) (o : Option DebugInfo) (s : Source) (opts : FindAddrOpts) → o ≡ None → IsOf (asked_file images (is_some o)) s → image_symbols s.image opts.sym_type opts.file_offset ≡ listing_in images (is_some o) opts

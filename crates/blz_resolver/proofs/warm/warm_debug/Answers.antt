@@ -1,7 +1,7 @@
 use Rattle.std.proofs.Common.{Option, refl, subst}
 use Rattle.blz_bundle.specs.BundleViews.{bundle_view}
 use Rattle.blz_resolver.specs.Resolver.{HasBookIf}
-use Rattle.blz_resolver.specs.declared.debug_info.DebugInfo.{DebugInfo}
+use Rattle.blz_resolver.specs.declared.debug.debug_info.DebugInfo.{DebugInfo}
 use Rattle.blz_resolver.proofs.WarmBooks.{warm_book}
 use Rattle.blz_resolver.proofs.warm.warm_debug.Goals as goal
 

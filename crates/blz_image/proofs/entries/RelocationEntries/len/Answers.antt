@@ -1,5 +1,0 @@
-use Rattle.blz_image.proofs.Tables.{count_is}
-use Rattle.blz_image.proofs.entries.RelocationEntries.len.Goals as goal
-
-pub returns : goal.returns
-returns c = count_is _ _ _ c.self.view_is
