@@ -1,5 +1,5 @@
 """Damages a file by the fields that its format has: changes, swaps, cuts and repeats them."""
-from image_fields import Image, as_bytes, fields_of
+from attack.image_fields import Image, as_bytes, fields_of
 
 
 class Damaged:

@@ -2,7 +2,7 @@
 import os
 import re
 
-TOP = os.path.dirname(os.path.dirname(os.path.abspath(__file__)))
+TOP = os.path.dirname(os.path.dirname(os.path.dirname(os.path.abspath(__file__))))
 HEAD = re.compile(r"^(?:(?:abbrev|unfoldable) (?:pub )?|(?:pub )?(?:record|data) |pub )([^ :]+)")
 USE = re.compile(r"^\s*(?:ghost |pub )?use (?:Rattle\.)?([\w.]+?)(?:\.\{(.*)\})?(?: as (\w+))?;?$")
 NOT_BODY = re.compile(r"^(?:--|use |pub use |pub mod |mod |module |infix)")

@@ -7,7 +7,7 @@ import typing
 
 from flow_parts import TOP, built_at, program
 
-SCRIPTS = os.path.join(TOP, "scripts")
+SCRIPTS, IMAGES = os.path.join(TOP, "scripts", "user"), os.path.join(TOP, "scripts", "images")
 PROGRAMS = tuple(name for name in ("blz_tool", "blz_fold", "blz_rows", "blz_cover", "blz_lines")
                  if os.path.exists(os.path.join(TOP, name)))
 LISTING = tuple(name for name in PROGRAMS if name == "blz_lines")  # asked where it is there

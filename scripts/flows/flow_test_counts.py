@@ -143,7 +143,7 @@ def refused(folder, path, out):
     for words, told in [((path, lines), "no addresses of instructions"), (("/bin/true", out), "nothing was counted"),
                         ((path, cut), "did not write all of it"), ((path, other), "where callgrind tells 1"),
                         ((path, path + ".c"), "no text of callgrind"), ((path, out + "x"), "No such file")]:
-        ran = tried("scripts/hits_of_callgrind", *words)
+        ran = tried("scripts/user/hits_of_callgrind", *words)
         equal(f"status where {told}", (ran.status, ran.out, len(ran.errors.splitlines()), told in ran.errors), (1, "", 1, True))
 
 
@@ -286,5 +286,5 @@ def lcov_of_a_program(folder):
 def refused_by_lcov(path, text):
     for given, told in [("", "does not end with"), ("/a.c:3 4\n", "does not end with"), (text, "no line of blz_cover"),
                         ("/a.c:3 4\nrest 1\ntotal 6\n", "the total is 6"), ("/a.c:3 4\nrest 1\n", "does not end with")]:
-        ran = tried("scripts/lcov_of_cover", path, text=given)
+        ran = tried("scripts/user/lcov_of_cover", path, text=given)
         equal(f"refusal of {given[:20]!r}", (ran.status, ran.out, len(ran.errors.splitlines()), told in ran.errors), (1, "", 1, True))

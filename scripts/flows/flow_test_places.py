@@ -9,7 +9,7 @@ import re
 
 from elf_view import Elf
 from flow_parts import Refused, answered
-from flow_test import SCRIPTS, Skipped, asked, built, equal, functions, holds, needs, run, script, tried, write
+from flow_test import IMAGES, Skipped, asked, built, equal, functions, holds, needs, run, script, tried, write
 from flow_test_counts import HEADER, OTHER, PRIMES, TEMPLATES
 from flow_test_profiles import RECURSIVE, SOURCE
 
@@ -161,7 +161,7 @@ def breakpoints_of_unknown_files(folder):
     path = built(folder, "program", SOURCE)
     for place, told, status in [("programme.c:3", "no line of a file programme.c has code", 1), ("program.c", "not FILE:LINE", 2),
                                 ("program.c:900", "from 900 on has code", 1), ("program.c:1", "line 11 is taken", 0)]:
-        ran = tried("scripts/breakpoints", path, place)
+        ran = tried("scripts/user/breakpoints", path, place)
         equal(place, (ran.status, told in ran.errors), (status, True))
     base = script("breakpoints", "--base", "555555554000", path, "program.c:14").out
     equal("with a base", int(base.split()[0], 16), int(script("breakpoints", path, "program.c:14").out.split()[0], 16) + 0x555555554000)
@@ -209,7 +209,7 @@ def symbolized(path, addresses):
 
 
 def frames_of(text):
-    """The same in what scripts/trace wrote at a place."""
+    """The same in what scripts/user/trace wrote at a place."""
     return [tuple(re.match(r"(\S+) at (.*):(\d+):\d+$", frame).groups()) for frame in text.split(", inlined in ")]
 
 
@@ -237,7 +237,7 @@ def trace_of_a_backtrace(folder):
     return f"{len(theirs)} frames in two forms, {len(ours)} of a fixed program, as llvm-symbolizer names them"
 
 
-with open(os.path.join(SCRIPTS, "overrun.c")) as text:
+with open(os.path.join(IMAGES, "overrun.c")) as text:
     BROKEN = text.read()
 
 

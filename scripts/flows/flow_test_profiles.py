@@ -6,9 +6,9 @@ import re
 import subprocess
 import time
 
-from flow_test import SCRIPTS, Skipped, asked, built, counts_of, equal, functions, holds, needs, run, script, tried, write
+from flow_test import IMAGES, Skipped, asked, built, counts_of, equal, functions, holds, needs, run, script, tried, write
 
-with open(os.path.join(SCRIPTS, "profiled.c")) as text:
+with open(os.path.join(IMAGES, "profiled.c")) as text:
     SOURCE = text.read()
 INLINED = {"square"}
 
@@ -223,14 +223,14 @@ def perf_samples_that_are_lost_are_said(folder):
     path, other = built(folder, "program", SOURCE, "-O2"), built(folder, "other", SOURCE, "-O1")
     data = recorded(folder, path)
     text = script_of(data)
-    lost = tried("scripts/stacks_of_perf", other, text=text)
+    lost = tried("scripts/user/stacks_of_perf", other, text=text)
     total = sum(reported(data, "dso").values())
     dropped = sum(int(count) for count in re.findall(r"(\d+) of \d+ samples dropped: no frame of", lost.errors))
     equal("status and samples of another image", (lost.status, lost.out, dropped), (1, "", total))
     plain = script("stacks_of_perf", path, text=text)
     single = sum(int(line.split()[0]) for line in plain.out.splitlines())
     equal("samples without a call graph", single, reported(data, "dso")["program"])
-    unmapped = tried("scripts/stacks_of_perf", path, text="\n".join(line for line in text.splitlines() if "RECORD" not in line))
+    unmapped = tried("scripts/user/stacks_of_perf", path, text="\n".join(line for line in text.splitlines() if "RECORD" not in line))
     holds("want of mappings is said", unmapped.status == 1 and "no mapping has their addresses" in unmapped.errors)
     return f"{total} samples of another image, {single} without call graph"
 
@@ -247,7 +247,7 @@ def perf_samples_of_one_event(folder):
     both = script("hits_of_perf", path, text=text)
     equal("samples of both", sum(int(line.split()[1]) for line in both.out.splitlines()), sum(told))
     holds("several events are told", "several events" in both.errors and tried(
-        "scripts/hits_of_perf", "--event", "cycles", path, text=text).status == 1)
+        "scripts/user/hits_of_perf", "--event", "cycles", path, text=text).status == 1)
     return f"{told[0]} and {told[1]} samples of two events as perf report"
 
 

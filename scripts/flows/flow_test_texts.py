@@ -29,7 +29,7 @@ def help_and_missing_files(folder):
     for name, words in WITH_FILE.items():
         path = os.path.join(SCRIPTS, name)
         helped = tried(path, "--help")
-        holds(f"{name} --help", helped.status == 0 and "usage:" in helped.out and f"scripts/{name}" in helped.out)
+        holds(f"{name} --help", helped.status == 0 and "usage:" in helped.out and f"scripts/user/{name}" in helped.out)
         ran = tried(path, *words, missing, *(["a.c:1"] if name == "breakpoints" else []))
         is_named = ran.errors.startswith(f"{name}: ") and missing in ran.errors
         equal(f"{name} and a missing file", (ran.status, ran.out, len(ran.errors.splitlines()), is_named), (1, "", 1, True))

@@ -7,7 +7,7 @@ import subprocess
 import sys
 import typing
 
-TOP = os.path.dirname(os.path.dirname(os.path.abspath(__file__)))
+TOP = os.path.dirname(os.path.dirname(os.path.dirname(os.path.abspath(__file__))))
 NAME = os.path.basename(sys.argv[0])
 ASKED_AT_ONCE = 40000  # addresses; the words of a program are limited to about 2 MB
 ANSWER = re.compile(r"^([0-9a-f]{16}) (.*)$")
@@ -100,7 +100,7 @@ def listed(image, *options):
 
 
 def plain_path(directory, path):
-    """Where scripts/plain_debug puts the copy of an image."""
+    """Where scripts/user/plain_debug puts the copy of an image."""
     return os.path.join(os.path.abspath(directory), os.path.realpath(path).lstrip("/"))
 
 
@@ -118,12 +118,12 @@ def frames_of(text):
 
 
 def answered(image, addresses, *options, plain=None):
-    """What blz_tool answers for addresses of an image, by address: empty where it knows none. Where scripts/plain_debug
+    """What blz_tool answers for addresses of an image, by address: empty where it knows none. Where scripts/user/plain_debug
     made a copy of the image below a directory, the copy is asked."""
     found, left = {}, sorted(set(addresses))
     if plain and os.path.exists(copy := plain_path(plain, image)):
         if os.path.getmtime(copy) < os.path.getmtime(image):
-            raise Refused(f"{image}: newer than its copy {copy}, which scripts/plain_debug makes anew")
+            raise Refused(f"{image}: newer than its copy {copy}, which scripts/user/plain_debug makes anew")
         image, options = copy, [*options, "--debug-dirs", plain]
     for begin in range(0, len(left), ASKED_AT_ONCE):
         asked = [f"{addr:x}" for addr in left[begin:begin + ASKED_AT_ONCE]]

@@ -1,7 +1,7 @@
 """Shapes of files in which some work could be done for each pair of two parts of a file, or of a file and what is asked of it.
-`scripts/attacks` writes them by name and size, and `bench/growth` measures what they take."""
-from shapes import entries, lines, names, packages, programs, ranges, references, symbols, units  # noqa: F401  they fill the list
-from shapes.making import SHAPES, Attack
+`scripts/attack/attacks` writes them by name and size, and `bench/growth` measures what they take."""
+from attack.shapes import entries, lines, names, packages, programs, ranges, references, symbols, units  # noqa: F401  they fill the list
+from attack.shapes.making import SHAPES, Attack
 
 __all__ = ["SHAPES", "Attack", "of_size"]
 

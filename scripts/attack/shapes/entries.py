@@ -1,8 +1,8 @@
 """Shapes of attributes without bytes, of entries below entries, and of tables of abbreviations that units share."""
-from image_parts import (
+from images.image_parts import (
     DW_AT_ABSTRACT_ORIGIN, DW_AT_CALL_COLUMN, DW_AT_CALL_FILE, DW_AT_CALL_LINE, DW_AT_EXTERNAL, DW_AT_HIGH_PC, DW_AT_LOW_PC,
     DW_AT_NAME, DW_AT_RANGES, DW_AT_SPECIFICATION, DW_FORM_IMPLICIT_CONST, RANGE, abbreviation, entry, uleb, unit)
-from shapes.making import (
+from attack.shapes.making import (
     BASE, CALL, FLAG, FUNCTION, NAME, OUTER, ROOT, Attack, dwarf, inlined, lined_root, one_lined_unit, one_unit, root, shape, some,
     subprogram)
 

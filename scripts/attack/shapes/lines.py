@@ -1,10 +1,10 @@
 """Shapes of line programs that units share, or that overlap, and of sequences over one another."""
 import struct
 
-from image_parts import (
+from images.image_parts import (
     COPY, DW_AT_STR_OFFSETS_BASE, DW_FORM_FLAG_PRESENT, DW_FORM_SEC_OFFSET, DW_FORM_STRING, DW_FORM_STRX1, DW_LNCT_PATH,
     END_SEQUENCE, RANGE, SET_FILE_0, advance, entry, line_program, line_program_of, set_address, text, uleb, unit, with_length)
-from shapes.making import BASE, FUNCTION, LINES, ROOT, Attack, asked_units, begins_of, dwarf, plain_program, root, shape, subprogram
+from attack.shapes.making import BASE, FUNCTION, LINES, ROOT, Attack, asked_units, begins_of, dwarf, plain_program, root, shape, subprogram
 
 DW_LNCT_OTHER = 0x7F  # a content that the standard has not
 BY_INDEX = bytes([DW_LNCT_PATH, DW_FORM_STRX1])

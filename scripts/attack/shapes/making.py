@@ -1,7 +1,7 @@
 """What the shapes of files that could be slow are made of, and the list of them."""
 from typing import NamedTuple
 
-from image_parts import (
+from images.image_parts import (
     COPY, DW_AT_ABSTRACT_ORIGIN, DW_AT_EXTERNAL, DW_AT_LOW_PC, DW_AT_NAME, DW_AT_RANGES, DW_AT_SPECIFICATION, DW_AT_STMT_LIST,
     DW_FORM_ADDR, DW_FORM_FLAG_PRESENT, DW_FORM_REF4, DW_FORM_SEC_OFFSET, DW_FORM_STRING, DW_FORM_STRP, DW_TAG_COMPILE_UNIT,
     DW_TAG_INLINED_SUBROUTINE, DW_TAG_SUBPROGRAM, END_SEQUENCE, RANGE, SET_FILE_0, Abbreviation, Section, abbreviations, advance,

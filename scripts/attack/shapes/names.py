@@ -1,8 +1,8 @@
 """Shapes of one long text that functions, calls, files or units name, with and without its end."""
-from image_parts import (
+from images.image_parts import (
     COPY, DW_AT_COMP_DIR, DW_AT_LINKAGE_NAME, DW_FORM_LINE_STRP, DW_FORM_STRING, DW_FORM_STRP, DW_LNCT_PATH, END_SEQUENCE, RANGE,
     SET_FILE_0, advance, entry, line_program_of, set_address, uleb, unit)
-from shapes.making import (
+from attack.shapes.making import (
     BASE, CALL, FUNCTION, LINES, LONG_NAME, OUTER, ROOT, Attack, asked_units, dwarf, inlined, lined_root, one_lined_unit, one_row,
     one_unit, root, shape, some, subprogram)
 

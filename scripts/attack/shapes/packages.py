@@ -1,10 +1,10 @@
 """Shapes of skeletons and of the package in which their split units stand."""
 import struct
 
-from image_parts import (
+from images.image_parts import (
     DW_SECT_ABBREV, DW_SECT_INFO, DW_TAG_SKELETON_UNIT, DW_TAG_VARIABLE, DW_UT_SKELETON, DW_UT_SPLIT_COMPILE, RANGE, Abbreviation,
     Section, abbreviation, abbreviations, entry, image, uleb, unit)
-from shapes.making import BASE, FLAG, FUNCTION, NAME, ROOT, TEXT, Attack, dwarf, root, shape, some, subprogram
+from attack.shapes.making import BASE, FLAG, FUNCTION, NAME, ROOT, TEXT, Attack, dwarf, root, shape, some, subprogram
 
 
 def slots_of(identities):

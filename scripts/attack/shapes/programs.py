@@ -1,10 +1,10 @@
 """Shapes of what blz_fold, blz_rows and blz_cover are asked: stacks, lines and hits, beside calls, rows and units."""
-from image_parts import DW_AT_COMP_DIR, DW_FORM_STRP, END_SEQUENCE, RANGE, entry, line_program, set_address, unit
-from shapes.lines import NEXT_ROW, many_rows
-from shapes.making import (
+from images.image_parts import DW_AT_COMP_DIR, DW_FORM_STRP, END_SEQUENCE, RANGE, entry, line_program, set_address, unit
+from attack.shapes.lines import NEXT_ROW, many_rows
+from attack.shapes.making import (
     BASE, CALL, FUNCTION, LINES, NAME, OUTER, ROOT, Attack, begins_of, dwarf, inlined, lined_root, one_lined_unit, plain_program,
     root, shape, subprogram)
-from shapes.names import long_text
+from attack.shapes.names import long_text
 
 # ---- stacks and hits in deep chains
 

@@ -1,6 +1,6 @@
 """Shapes of lists of ranges that functions and calls share, and of functions and calls over one another."""
-from image_parts import DW_RLE_START_LENGTH, RANGE, entry, offset_pair, range_lists, unit
-from shapes.making import (
+from images.image_parts import DW_RLE_START_LENGTH, RANGE, entry, offset_pair, range_lists, unit
+from attack.shapes.making import (
     BASE, CALL, FUNCTION, LINES, OUTER, RANGES, ROOT, Attack, announced_units, begins_of, dwarf, inlined, lined_root,
     one_lined_unit, one_row, one_unit, root, shape, some, subprogram)
 

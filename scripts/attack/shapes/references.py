@@ -1,8 +1,8 @@
 """Shapes of references from many entries to one, or to entries that overlap."""
-from image_parts import (
+from images.image_parts import (
     DW_AT_ABSTRACT_ORIGIN, DW_FORM_REF_ADDR, DW_FORM_STRING, DW_FORM_UDATA, DW_TAG_PARTIAL_UNIT, DW_UT_PARTIAL, ENTRIES_AT, RANGE,
     Abbreviation, entry, unit)
-from shapes.making import (
+from attack.shapes.making import (
     BASE, CALL, CHAIN, FLAG, FUNCTION, NAME, OUTER, REFERENCE, ROOT, TARGET, TEXT, Attack, dwarf, inlined, lined_root,
     one_lined_unit, one_unit, root, shape, some, subprogram)
 

@@ -1,10 +1,10 @@
 """Shapes of symbols, sections and relocations."""
 import struct
 
-from image_parts import (
+from images.image_parts import (
     ET_REL, R_X86_64_64, RANGE, SHF_ALLOC, SHF_EXECINSTR, SHT_REL, SHT_STRTAB, SHT_SYMTAB, STB_GLOBAL_STT_FUNC, Section,
     abbreviations, entry, image, symbol, unit)
-from shapes.making import BASE, ROOT, Attack, root, shape
+from attack.shapes.making import BASE, ROOT, Attack, root, shape
 
 
 def symbols_image(symbols, names=b"\0f\0"):

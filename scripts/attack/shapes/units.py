@@ -1,7 +1,7 @@
 """Shapes of what units announce: one list of ranges, ranges over one another, and sets of address ranges."""
-from image_parts import RANGE, entry, offset_pair, range_lists, unit
-from shapes.making import BASE, BASED_RANGES, RANGES, ROOT, Attack, announced_units, begins_of, dwarf, root, shape, some
-from shapes.ranges import pairs
+from images.image_parts import RANGE, entry, offset_pair, range_lists, unit
+from attack.shapes.making import BASE, BASED_RANGES, RANGES, ROOT, Attack, announced_units, begins_of, dwarf, root, shape, some
+from attack.shapes.ranges import pairs
 
 # ---- one list
 
