@@ -43,7 +43,7 @@ fn hash_of(bytes: &[u8]) -> u64 {
     hash
 }
 
-// The file of the stored run is crates/blz_fold_main/data/prog, which scripts/make_fold_image.py makes.
+// The file of the stored run is crates/blz_fold_main/data/prog, which scripts/images/make_fold_image.py makes.
 #[test]
 fn the_image_is_that_of_the_stored_run(rt: HostRuntime) -> Result<(), Fail> {
     let mut checks = Checks::new();
