@@ -143,7 +143,7 @@ impl Abbreviations {
         ensures { option_copied result ≡ of_code code self.now }
     {
         if code > 0 && code <= self.ordered as u64 {
-            return self.table.get(code as usize - 1);
+            return Some(&self.table[code as usize - 1]);
         }
         let place = self.others.get(&code)?;
         self.table.get(*place)

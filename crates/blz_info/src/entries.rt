@@ -13,14 +13,14 @@ use crate::abbreviations::{Abbreviation, Abbreviations, AttrSpec};
 use crate::attributes::{attribute, passed};
 use crate::encoding::Encoding;
 use crate::fault::invalid;
-use crate::forms::behind::over;
+use crate::forms::behind::over_from;
 use crate::forms::value::AttrValue;
 use crate::section::{Section, Sections, cut};
 use crate::text::{StrBase, StrPart};
 use crate::units::UnitHeader;
 use crate::walking::passing::Passing;
 use crate::walking::ready::next_wanted;
-use crate::walking::runs::{Runs, passed_by};
+use crate::walking::runs::{Runs, passed_by, passed_by_runs};
 use blz_bytes::uleb_at;
 use blz_error::Result;
 use std::marker::Model;
@@ -351,6 +351,7 @@ impl<'s, 'b> Entries<'s, 'b> {
     /// The place behind the attributes of an entry, where the sizes of the unit tell it.
     #[inline(always)]
     fn behind_ready(&self, abbreviation: &Abbreviation, at: usize) -> Option<usize>
+        requires { at ≤ length self.now.source.section.bytes }
         ensures value { IfSome result (λ n. passed abbreviation.now.specs self.now.source.encoding
             self.now.source.base self.now.source.section at ≡ Some n) }
         ensures within { IfSome result (λ n. StaysIn self.now.source.section.bytes at n) }
@@ -359,9 +360,9 @@ impl<'s, 'b> Entries<'s, 'b> {
         let list = runs.runs.as_slice();
         // most entries have attributes of fixed sizes alone
         if list.is_empty() {
-            return over(runs.tail, self.section.bytes, at);
+            return over_from(runs.tail, self.section.bytes, at);
         }
-        passed_by(list, runs.tail, self.encoding, &self.section, at)
+        passed_by_runs(runs, self.encoding, &self.section, at)
     }
 
     /// The place and the depth behind the entry at a place, where it is passed over and its size is known.
@@ -375,9 +376,7 @@ impl<'s, 'b> Entries<'s, 'b> {
         ensures ahead { IfSome result
             (λ r. (at < r.0) × (r.0 ≤ self.now.source.end) × (r.1 ≤ r.0)) }
     {
-        if at >= self.end {
-            return None;
-        }
+        // (the bytes end at the unit's end at the latest)
         let (code, next) = uleb_at(self.section.bytes, at)?;
         if code == 0 {
             if !passing.takes(tag, 0, false, false) {

@@ -1,5 +1,5 @@
 //! The place behind an attribute, without its value.
-ghost use Rattle.std.specs.Prelude.{◌≡◌, ◌≤◌, IfSome, option_map};
+ghost use Rattle.std.specs.Prelude.{◌≡◌, ◌≤◌, length, IfSome, option_map};
 ghost use Rattle.blz_info.specs.Contents.{bytes_in, field_at, section_view, StaysIn};
 ghost use Rattle.blz_info.specs.Sizes.{address_len, size_of, over, behind_form, behind_code, behind};
 
@@ -66,6 +66,20 @@ pub(crate) fn over(size: usize, bytes: &[u8], at: usize) -> Option<usize>
         return Some(at);
     }
     if at > bytes.len() || bytes.len() - at < size {
+        return None;
+    }
+    Some(at + size)
+}
+
+/// The same from a place among the bytes or right behind them.
+#[inline(always)]
+#[tactic(auto, unfolding(crate::specs::Sizes::over, blz_model::specs::Reads::passed_over))]
+pub(crate) fn over_from(size: usize, bytes: &[u8], at: usize) -> Option<usize>
+    requires { at ≤ length bytes.now }
+    ensures value { result ≡ over size bytes.now at }
+    ensures within { IfSome result (λ n. StaysIn bytes.now at n) }
+{
+    if bytes.len() - at < size {
         return None;
     }
     Some(at + size)

@@ -19,10 +19,16 @@ impl Passing {
     pub(crate) fn takes(self, sought: u64, tag: u64, leaf: bool, placing: bool) -> bool
         ensures { result ≡ is_passed self sought tag leaf placing }
     {
-        match self {
-            Passing::Others => tag != sought,
-            Passing::Leaves => tag != sought && leaf,
-            Passing::Unplaced => tag != sought || !placing,
+        if tag == sought {
+            return match self {
+                Passing::Unplaced => !placing,
+                Passing::Others | Passing::Leaves => false,
+            };
+        }
+        // most have no children
+        leaf || match self {
+            Passing::Leaves => false,
+            Passing::Others | Passing::Unplaced => true,
         }
     }
 }

@@ -170,6 +170,21 @@ pub(crate) fn passed_by(
     over(tail, section.bytes, place)
 }
 
+/// The same out of line, so that a walk that seldom needs it keeps what it holds out of memory.
+#[inline(never)]
+pub(crate) fn passed_by_runs(
+    runs: &Runs,
+    encoding: Encoding,
+    section: &Section<'_, '_>,
+    at: usize,
+) -> Option<usize>
+    ensures value { result
+        ≡ passed_by runs.now.runs.items runs.now.tail encoding (section_view section.now) at }
+    ensures within { IfSome result (λ n. StaysIn section.now.bytes.now at n) }
+{
+    passed_by(&runs.runs, runs.tail, encoding, section, at)
+}
+
 /// The next wanted attribute of those that runs were made from.
 #[inline(always)]
 pub(crate) fn wanted_by(
