@@ -133,6 +133,7 @@ impl<'s, 'b> Entries<'s, 'b> {
 
     /// The entry at a place, which has to be one, before its first attribute. The header and the abbreviations are those of
     /// the unit.
+    #[inline(always)]
     #[tactic(auto, unfolding(crate::specs::Walks::opened))]
     pub fn opened(
         sections: &Sections<'s, 'b>,
