@@ -20,10 +20,11 @@ use std::alloc::{AllocError, Global};
 use std::collections::BTreeMap;
 use std::marker::Model;
 
-/// What an abbreviation takes of a file's room, and each of its attributes: its own words, those of its runs, and one
-/// for reading it.
-const ABBREVIATION_WORDS: u64 = 24;
+/// What an abbreviation takes of a file's room: its own words, those of its runs, and the place that is made for the
+/// attributes that most have.
+const ABBREVIATION_WORDS: u64 = 40;
 
+/// What each of its attributes takes: its own words, those of its runs, and one for reading it.
 const ATTRIBUTE_WORDS: u64 = 16;
 
 /// As many attributes as most abbreviations have at most.
