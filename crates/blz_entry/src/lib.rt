@@ -14,7 +14,7 @@ pub use blz_info::{
     Abbreviation, Abbreviations, AttrSpec, AttrValue, Encoding, Entries, Entry, Extent, Field,
     Form, Listed, Makes, Passing, Section, Sections, StrBase, StrPart, StrPlace, Texts, UnitHeader,
     UnitHeaders, UnitKind, Width, address_at, cut, extent_at, fixed_at, form_value, invalid, laws,
-    list_unit, offset_at,
+    list_unit, no_attribute, offset_at,
 };
 pub use blz_ranges::Span;
 pub use ranges::{RangeAttributes, attr_ranges_offset};

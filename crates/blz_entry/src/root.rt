@@ -122,10 +122,8 @@ fn noted_over(mut entries: Entries<'_, '_>) -> Option<RootValues>
 {
     let mut values = nothing_noted();
     loop {
-        let (name, value) = match entries.next_wanted() {
-            Ok(Some(found)) => found,
-            Ok(None) => return Some(values),
-            Err(_) => return None,
+        let Some((name, value)) = entries.next_wanted()? else {
+            return Some(values);
         };
         values = noted(values, name, value);
     }
@@ -260,10 +258,8 @@ fn ranged_over(
 {
     let mut root = root;
     loop {
-        let (name, value) = match entries.next_wanted() {
-            Ok(Some(found)) => found,
-            Ok(None) => return Some(root),
-            Err(_) => return None,
+        let Some((name, value)) = entries.next_wanted()? else {
+            return Some(root);
         };
         root = root_step(sections, header, root, name, value)?;
     }

@@ -20,7 +20,7 @@ use Rattle.blz_functions.specs.declared.description.Description.{Description}
 use Rattle.blz_functions.specs.declared.referred.Visited.TheVariants.{Named}
 use Rattle.blz_functions.specs.Describing.{Refer, tells_range, tells_site, with_call_site, description_step, described}
 use Rattle.blz_functions.specs.Leaves.{UnitParts, range_step_in, source_in}
-use Rattle.blz_functions.specs.Naming.{name_step, visit_from, visit_end, linkage_of, name_behind, link_behind}
+use Rattle.blz_functions.specs.Naming.{name_step, is_name, visit_from, visit_end, linkage_of, name_behind, told_name, link_behind}
 
 -- what stands at a place as the value of an attribute
 abbrev pub value_at : UnitParts → AttrSpec → ℕ → Option (AttrValue × ℕ)
@@ -293,6 +293,13 @@ visit_over u (a ∷ others) rest name link at next h = elim (look (value_at u a 
         visit_past u a others name link at read.0.1 read.0.0 read.1 other ∙ visit_over u others rest name link read.0.1 next k
   ]
 ]
+
+-- a name whose text is looked for later is the name behind its attribute
+pub name_told : (u : UnitParts) (n : ℕ) (v : AttrValue) (old : Option StrPlace) → is_name n ≡ true → name_behind u n v old ≡ told_name u (Some v) old
+name_told u n v old is = rw is refl
+
+pub name_kept : (u : UnitParts) (n : ℕ) (v : AttrValue) (old : Option StrPlace) → is_name n ≡ false → name_behind u n v old ≡ old
+name_kept u n v old is = rw is refl
 
 -- ---- what a walk over wanted attributes reads
 

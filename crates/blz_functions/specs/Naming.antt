@@ -45,6 +45,11 @@ linkage_of u name v = if is_linkage_name name then string_in u v else None
 abbrev pub name_behind : UnitParts → ℕ → AttrValue → Option StrPlace → Option StrPlace
 name_behind u name v old = if is_name name then or_else (string_in u v) old else old
 
+-- the name behind the last DW_AT_name of some, which was met and not looked for
+abbrev pub told_name : UnitParts → Option AttrValue → Option StrPlace → Option StrPlace
+told_name u None old = old
+told_name u (Some v) old = or_else (string_in u v) old
+
 -- the reference behind an attribute: a later one replaces an earlier one
 abbrev pub link_behind : ℕ → AttrValue → Option AttrValue → Option AttrValue
 link_behind name v old = if is_reference name then Some v else old

@@ -12,7 +12,7 @@ use crate::open_unit::OpenUnit;
 use crate::referred::{is_linkage_name, is_name, is_reference, or_else};
 use blz_bytes::Room;
 use blz_constants::dwarf;
-use blz_entry::{AttrValue, Entries, RangeAttributes, StrPlace, invalid};
+use blz_entry::{AttrValue, Entries, RangeAttributes, StrPlace, invalid, no_attribute};
 use blz_error::Result;
 
 /// Where an inlined call stands in the source (DWARF 5 section 3.3.8.2).
@@ -181,9 +181,9 @@ impl Description {
         let mut description = undescribed();
         loop {
             let (name, value) = match entries.next_wanted() {
-                Ok(Some(found)) => found,
-                Ok(None) => return Ok(description),
-                Err(fault) => return Err(fault),
+                Some(Some(found)) => found,
+                Some(None) => return Ok(description),
+                None => return Err(no_attribute()),
             };
             room.take(1)?;
             // most attributes of calls are these, and none of them fails

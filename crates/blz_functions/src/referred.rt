@@ -3,14 +3,14 @@ ghost use Rattle.std.specs.Prelude.{◌≡◌, IfOk, Option, None, Some, if◌th
 ghost use Rattle.blz_model.specs.Part.{Gives};
 ghost use Rattle.blz_info.specs.Marks.{or_invalid};
 ghost use Rattle.blz_functions.specs.Leaves.{source_in};
-ghost use Rattle.blz_functions.specs.Naming.{is_linkage_name, is_name, is_reference, or_else, linkage_of, name_behind, link_behind, visit_end, visit_from, visited};
+ghost use Rattle.blz_functions.specs.Naming.{is_linkage_name, is_name, is_reference, or_else, linkage_of, told_name, link_behind, visit_end, visit_from, visited};
 ghost use Rattle.blz_functions.specs.Opened.{open_view, CanBeOpened};
 
 use crate::open_unit::OpenUnit;
 use crate::walking::walk_words;
 use blz_bytes::Room;
 use blz_constants::dwarf;
-use blz_entry::{AttrValue, Entries, StrPlace, invalid};
+use blz_entry::{AttrValue, Entries, StrPlace, invalid, no_attribute};
 use blz_error::Result;
 use std::alloc::AllocError;
 
@@ -80,20 +80,21 @@ fn linkage_of(
     Ok(None)
 }
 
-fn name_behind(
+/// The name behind a `DW_AT_name` that was met last, if one was: its text is looked for only where no linkage name
+/// replaces it, as most entries with a name have both.
+fn told_name(
     room: &mut Room,
     unit: &OpenUnit<'_, '_>,
-    name: u64,
-    value: AttrValue,
+    last: Option<AttrValue>,
     old: Option<StrPlace>,
 ) -> std::result::Result<Option<StrPlace>, AllocError>
-    ensures { IfOk result (λ n. n ≡ name_behind (open_view unit.now) name value old) }
+    ensures { IfOk result (λ n. n ≡ told_name (open_view unit.now) last old) }
 {
-    if is_name(name) {
-        let name = unit.string(room, value)?;
-        return Ok(or_else(name, old));
-    }
-    Ok(old)
+    let Some(value) = last else {
+        return Ok(old);
+    };
+    let name = unit.string(room, value)?;
+    Ok(or_else(name, old))
 }
 
 fn link_behind(name: u64, value: AttrValue, old: Option<AttrValue>) -> Option<AttrValue>
@@ -112,26 +113,31 @@ fn visit_attributes(
         (visit_from (open_view unit.now) entries.old.pending None None entries.old.place)) }
 {
     let mut name = None;
+    let mut last = None;
     let mut link = None;
     loop {
         let before = entries.place();
         let (attribute, value) = match entries.next_wanted() {
-            Ok(Some(found)) => found,
-            Ok(None) => {
+            Some(Some(found)) => found,
+            Some(None) => {
                 room.take(walk_words(before, entries.place()))?;
+                let name = told_name(room, unit, last, name)?;
                 return Ok(visit_end(name, link));
             }
-            Err(fault) => {
+            None => {
                 room.take(walk_words(before, unit.header.end))?;
-                return Err(fault);
+                return Err(no_attribute());
             }
         };
         room.take(walk_words(before, entries.place()))?;
         match linkage_of(room, unit, attribute, value)? {
             Some(linkage) => return Ok(Visited::Named(linkage)),
             None => {
-                name = name_behind(room, unit, attribute, value, name)?;
                 link = link_behind(attribute, value, link);
+                if is_name(attribute) {
+                    name = told_name(room, unit, last, name)?;
+                    last = Some(value);
+                }
             }
         }
     }

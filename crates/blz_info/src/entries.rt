@@ -1,5 +1,5 @@
 //! The entries of a unit, one after the other.
-ghost use Rattle.std.specs.Prelude.{◌≡◌, ℕ, ◌≤◌, ◌<◌, ◌+◌, ◌^◌, ◌&&◌, nat_le, if◌then◌else◌, length, drop, [], IfSome, IfOk, OnOk, MatchOption};
+ghost use Rattle.std.specs.Prelude.{◌≡◌, ℕ, ◌≤◌, ◌<◌, ◌+◌, ◌^◌, ◌&&◌, nat_le, if◌then◌else◌, length, drop, [], Some, None, IfSome, IfOk, OnOk, MatchOption};
 ghost use Rattle.std.specs.Option.{option_copied};
 ghost use Rattle.blz_error.specs.declared.kind.ErrorKind.TheVariants.{InvalidDwarf};
 ghost use Rattle.blz_model.specs.Part.{Exactly, Good, Broken};
@@ -12,7 +12,7 @@ ghost use Rattle.blz_info.specs.Wanted.{wanted_of};
 use crate::abbreviations::{Abbreviation, Abbreviations, AttrSpec};
 use crate::attributes::{attribute, passed};
 use crate::encoding::Encoding;
-use crate::fault::invalid;
+use crate::fault::{invalid, no_attribute};
 use crate::forms::behind::over_from;
 use crate::forms::value::AttrValue;
 use crate::section::{Section, Sections, cut};
@@ -282,7 +282,7 @@ impl<'s, 'b> Entries<'s, 'b> {
             &self.section,
             self.place,
         ) else {
-            return Err(invalid("an attribute is not whole or its form is not known"));
+            return Err(no_attribute());
         };
         self.place = next;
         self.pending = &self.pending[1..];
@@ -291,24 +291,25 @@ impl<'s, 'b> Entries<'s, 'b> {
         Ok(value)
     }
 
-    /// The next attribute of the entry that tells what a function, an inlined call or a unit is, with its name, and None
-    /// where none is left: its names (`DW_AT_name`, `DW_AT_linkage_name`, `DW_AT_MIPS_linkage_name`), where they stand
-    /// (`DW_AT_abstract_origin`, `DW_AT_specification`), what it covers (`DW_AT_low_pc`, `DW_AT_high_pc`,
+    /// The next attribute of the entry that tells what a function, an inlined call or a unit is, with its name, and
+    /// `Some(None)` where none is left: its names (`DW_AT_name`, `DW_AT_linkage_name`, `DW_AT_MIPS_linkage_name`), where
+    /// they stand (`DW_AT_abstract_origin`, `DW_AT_specification`), what it covers (`DW_AT_low_pc`, `DW_AT_high_pc`,
     /// `DW_AT_ranges`), where it is called (`DW_AT_call_file`, `DW_AT_call_line`, `DW_AT_call_column`), and of a unit its
     /// lines, its language, its directory and its bases (`DW_AT_stmt_list`, `DW_AT_language`, `DW_AT_comp_dir`,
-    /// `DW_AT_str_offsets_base`, `DW_AT_addr_base`, `DW_AT_rnglists_base`). Those before it are passed over. InvalidDwarf
-    /// exactly where it or one of them has no value, and then nothing has changed.
-    #[inline(always)]
+    /// `DW_AT_str_offsets_base`, `DW_AT_addr_base`, `DW_AT_rnglists_base`). Those before it are passed over. None, which
+    /// a caller gives as the InvalidDwarf of [`no_attribute`], exactly where it or one of them has no value, and then
+    /// nothing has changed: a result with room for an error is large, and there are many attributes.
     #[tactic(auto, unfolding(crate::specs::Wanted::wanted_of))]
-    pub fn next_wanted(&mut self) -> Result<Option<(u64, AttrValue)>>
-        ensures value { Steps (λ w. w) (wanted_of self.old) self.old result self.new }
-        ensures left { IfOk result (λ w. MatchOption w (self.new.pending ≡ [])
+    pub fn next_wanted(&mut self) -> Option<Option<(u64, AttrValue)>>
+        ensures value { MatchOption result ((wanted_of self.old ≡ None) × (self.new ≡ self.old))
+            (λ w. wanted_of self.old ≡ Some (w, self.new)) }
+        ensures left { IfSome result (λ w. MatchOption w (self.new.pending ≡ [])
             (λ _. length self.new.pending < length self.old.pending)) }
         ensures depth { self.new.depth ≡ self.old.depth }
         ensures source { self.new.source ≡ self.old.source }
         ensures ahead { self.old.place ≤ self.new.place }
     {
-        let Some(met) = next_wanted(
+        let met = next_wanted(
             self.reading,
             self.taken,
             self.pending,
@@ -316,18 +317,16 @@ impl<'s, 'b> Entries<'s, 'b> {
             self.base,
             &self.section,
             self.place,
-        ) else {
-            return Err(invalid("an attribute is not whole or its form is not known"));
-        };
+        )?;
         self.place = met.place;
         self.pending = &self.pending[met.count..];
         self.passing = None;
         if met.runs == 0 {
             self.reading = None;
-            return Ok(met.found);
+            return Some(met.found);
         }
         self.taken = met.runs;
-        Ok(met.found)
+        Some(met.found)
     }
 
     /// Passes over the attributes of the entry that were not read. InvalidDwarf exactly where one has no value, and then
@@ -377,7 +376,7 @@ impl<'s, 'b> Entries<'s, 'b> {
         ensures ahead { IfSome result
             (λ r. (at < r.0) × (r.0 ≤ self.now.source.end) × (r.1 ≤ r.0)) }
     {
-        // (the bytes end at the unit's end at the latest)
+        // the bytes end at the unit's end at the latest
         let (code, next) = uleb_at(self.section.bytes, at)?;
         if code == 0 {
             if !passing.takes(tag, 0, false, false) {

@@ -10,3 +10,10 @@ pub fn invalid(text: &'static str) -> Error
 {
     Error::new(ErrorKind::InvalidDwarf, Str::fixed(text))
 }
+
+/// The error of kind InvalidDwarf of an attribute that cannot be read (DWARF 5 section 7.5.6).
+pub fn no_attribute() -> Error
+    ensures { result.kind ≡ InvalidDwarf }
+{
+    invalid("an attribute is not whole or its form is not known")
+}

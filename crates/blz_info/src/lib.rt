@@ -19,7 +19,7 @@ pub use abbreviations::{Abbreviation, Abbreviations, AttrSpec};
 pub use encoding::Encoding;
 pub use entries::{Entries, Entry};
 pub use extent::{Extent, extent_at};
-pub use fault::invalid;
+pub use fault::{invalid, no_attribute};
 pub use forms::field::{address_at, fixed_at, indexed_address, indexed_offset, offset_at};
 pub use forms::form::{Field, Form, Makes, Width};
 pub use forms::value::{AttrValue, form_value};

@@ -2,7 +2,9 @@
 use super::small::entries_at;
 use blz_bytes::Room;
 use blz_checks::Checks;
-use blz_entry::{Abbreviations, AttrValue, Encoding, Entries, Passing, StrPart, StrPlace};
+use blz_entry::{
+    Abbreviations, AttrValue, Encoding, Entries, Passing, StrPart, StrPlace, no_attribute,
+};
 use blz_relocations::RelocationMap;
 use std::alloc::Global;
 use std::test::Fail;
@@ -21,10 +23,11 @@ fn wanted(
 ) -> blz_error::Result<Vec<(u64, AttrValue)>> {
     let mut found = Vec::new(alloc);
     for _ in 0..8 {
-        let Some(attribute) = entries.next_wanted()? else {
-            return Ok(found);
-        };
-        found.push(attribute)?;
+        match entries.next_wanted() {
+            Some(Some(attribute)) => found.push(attribute)?,
+            Some(None) => return Ok(found),
+            None => return Err(no_attribute()),
+        }
     }
     Ok(found)
 }

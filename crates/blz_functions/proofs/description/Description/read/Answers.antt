@@ -5,30 +5,30 @@ use Rattle.blz_functions.specs.Opened.{open_view}
 use Rattle.blz_functions.proofs.DescriptionSteps.{read_one, read_none, described_more, described_none, described_fails, described_over, site_alone}
 use Rattle.blz_functions.proofs.description.Description.read.Goals as goal
 
-pub returns-in-Ok-None-clause-value : goal.returns-in-Ok-None-clause-value
-returns-in-Ok-None-clause-value g c =
+pub returns-in-Some-None-clause-value : goal.returns-in-Some-None-clause-value
+returns-in-Some-None-clause-value g c =
     let k = c.loop-found.invariant in
     let u = open_view c.args.unit.now in
-    ap or_invalid (sym k.rest ∙ described_over _ u c.loop-found.description c.loop-found.entries.pending _ c.loop-found.entries.place _ (read_one u _ c.loop-found.entries c.next_wanted.new.self (k.source ∙ c.requires) (rw c.in-Ok-None.field-0-is at c.in-Ok-None.ensures.value)))
+    ap or_invalid (sym k.rest ∙ described_over _ u c.loop-found.description c.loop-found.entries.pending _ c.loop-found.entries.place _ (read_one u _ c.loop-found.entries c.next_wanted.new.self (k.source ∙ c.requires) (rw c.in-Some-None.field-0-is at c.in-Some-None.ensures.value)))
+
+pub returns-in-None-clause-value : goal.returns-in-None-clause-value
+returns-in-None-clause-value g c =
+    let k = c.loop-found.invariant in
+    let u = open_view c.args.unit.now in
+    marks _ _ (sym k.rest ∙ described_none _ u c.loop-found.description c.loop-found.entries.pending c.loop-found.entries.place (read_none u c.loop-found.entries (k.source ∙ c.requires) c.in-None.ensures.value.0)) c.no_attribute.ensures
 
 pub returns-in-Err-clause-value : goal.returns-in-Err-clause-value
 returns-in-Err-clause-value g c =
     let k = c.loop-found.invariant in
     let u = open_view c.args.unit.now in
-    marks _ _ (sym k.rest ∙ described_none _ u c.loop-found.description c.loop-found.entries.pending c.loop-found.entries.place (read_none u c.loop-found.entries (k.source ∙ c.requires) c.in-Err.ensures.value.0)) c.in-Err.ensures.value.1
-
-pub returns-in-Err-add-clause-value : goal.returns-in-Err-add-clause-value
-returns-in-Err-add-clause-value g c =
-    let k = c.loop-found.invariant in
-    let u = open_view c.args.unit.now in
-    let read = read_one u _ c.loop-found.entries c.next_wanted.new.self (k.source ∙ c.requires) (rw c.in-Ok-Some.field-0-is at c.in-Ok-Some.ensures.value) in
-    marks_on _ _ _ c.in-Err-add.ensures.value (λ fails. sym k.rest ∙ described_fails _ u c.loop-found.description c.loop-found.entries.pending _ c.loop-found.entries.place _ _ _ read (rw k.same at fails))
+    let read = read_one u _ c.loop-found.entries c.next_wanted.new.self (k.source ∙ c.requires) (rw c.in-Some-Some.field-0-is at c.in-Some-Some.ensures.value) in
+    marks_on _ _ _ c.in-Err.ensures.value (λ fails. sym k.rest ∙ described_fails _ u c.loop-found.description c.loop-found.entries.pending _ c.loop-found.entries.place _ _ _ read (rw k.same at fails))
 
 pub loop-found-preserved : goal.loop-found-preserved
 loop-found-preserved g c =
     let k = c.loop-found.invariant in
     let u = open_view c.args.unit.now in
-    let read = read_one u _ c.loop-found.entries c.next_wanted.new.self (k.source ∙ c.requires) (rw c.in-Ok-Some.field-0-is at c.in-Ok-Some.ensures.value) in
+    let read = read_one u _ c.loop-found.entries c.next_wanted.new.self (k.source ∙ c.requires) (rw c.in-Some-Some.field-0-is at c.in-Some-Some.ensures.value) in
     record {
       source = c.next_wanted.ensures.source ∙ k.source;
       depth = c.next_wanted.ensures.depth ∙ k.depth;
@@ -43,7 +43,7 @@ loop-found-preserved-then-tells_site g c =
     let refer = g.F.Links.refer (g.F.Links.linkage c.args.links.now) in
     let u = open_view c.args.unit.now in
     let d = c.loop-found.description in
-    let read = read_one u _ c.loop-found.entries c.next_wanted.new.self (k.source ∙ c.requires) (rw c.in-Ok-Some.field-0-is at c.in-Ok-Some.ensures.value) in
+    let read = read_one u _ c.loop-found.entries c.next_wanted.new.self (k.source ∙ c.requires) (rw c.in-Some-Some.field-0-is at c.in-Some-Some.ensures.value) in
     let step = site_alone refer u d _ _ (sym c.tells_site.ensures ∙ c.if-tells_site.true) ∙ rw c.with-description.ensures refl in
     record {
       source = c.next_wanted.ensures.source ∙ k.source;
