@@ -5,7 +5,7 @@ use Rattle.std.specs.List.{slice_get}
 use Rattle.std.proofs.lemmas.Bool.{ltb-false, eq-eqb}
 use Rattle.blz_model.specs.Reads.{Read, ◌>>=◌}
 use Rattle.blz_info.specs.Forest.{Info, Head, Close, Open, Forest, Empty, Node, Grown, leaf, grown_step, Leads}
-use Rattle.blz_info.specs.Walks.{Walk, head_at, next_of}
+use Rattle.blz_info.specs.Walks.{Walk, head_at, next_of, skipped_of}
 use Rattle.blz_info.specs.declared.entries.Entry.{Entry}
 use Rattle.blz_info.specs.declared.forms.value.AttrValue.{AttrValue}
 use Rattle.blz_info.proofs.Preorder.{IfEnds}
@@ -286,6 +286,16 @@ pub rest_end : (refer : Refer) (u : UnitParts) (levels : List Above) (l : CallLi
 unfolding calls_rest
 rest_end refer u [] l at h = refl
 rest_end refer u (x ∷ rest) l at h = absurd (let k = ltb-false 0 (length (x ∷ rest)) h in omega arith)
+
+-- ---- an entry that is no call adds nothing
+
+pub no_call : (refer : Refer) (u : UnitParts) (l : CallLists) (e : Entry) (w new : Walk) → skipped_of w ≡ Some (tt, new) → call_met refer u l None e w ≡ Some (l, new.place)
+unfolding call_met described_if
+no_call refer u l e w new h = rw h refl
+
+pub no_call_broken : (refer : Refer) (u : UnitParts) (l : CallLists) (e : Entry) (w : Walk) → skipped_of w ≡ None → call_met refer u l None e w ≡ None
+unfolding call_met described_if
+no_call_broken refer u l e w h = rw h refl
 
 -- ---- the function's own entry
 

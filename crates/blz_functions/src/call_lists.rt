@@ -117,26 +117,25 @@ impl CallLists {
         })
     }
 
-    /// The lists with the call that an entry is, if it is one.
+    /// The lists with the call that was described, if it was.
     #[inline(always)]
     fn with_described(
         self,
         room: &mut Room,
         unit: &OpenUnit<'_, '_>,
-        depth: Option<usize>,
+        depth: usize,
         description: &Option<Description>,
     ) -> Result<CallLists>
         ensures { Gives (λ l. l) result
-            (or_invalid (call_if (open_view unit.now) self depth description.now)) }
+            (or_invalid (call_if (open_view unit.now) self (Some depth) description.now)) }
     {
-        match (depth, description) {
-            (Some(depth), Some(description)) => self.with(room, unit, depth, description),
-            (Some(_), None) => Ok(self),
-            (None, _) => Ok(self),
+        match description {
+            Some(description) => self.with(room, unit, depth, description),
+            None => Ok(self),
         }
     }
 
-    /// The lists with what an entry adds, which was met last; its attributes are read.
+    /// The lists with a call of a depth, whose entry was met last; its attributes are read.
     #[inline(always)]
     #[tactic(auto, unfolding(crate::specs::CallWalk::call_met))]
     fn with_entry<F: Links>(
@@ -146,19 +145,19 @@ impl CallLists {
         links: &mut F,
         entries: &mut Entries<'_, '_>,
         entry: &Entry,
-        depth: Option<usize>,
+        depth: usize,
     ) -> Result<CallLists>
         requires source { entries.old.source ≡ source_in (open_view unit.now) }
         requires met { entries.old.pending ≡ specs_of (open_view unit.now) entry.now.code }
         ensures value { Gives (λ l. (l, entries.new.place)) result
             (or_invalid (call_met (F.refer (F.linkage links.old)) (open_view unit.now)
-            self depth entry.now entries.old)) }
+            self (Some depth) entry.now entries.old)) }
         ensures pending { IfOk result (λ _. entries.new.pending ≡ []) }
         ensures source { entries.new.source ≡ entries.old.source }
         ensures ahead { entries.old.place ≤ entries.new.place }
         ensures same { F.linkage links.new ≡ F.linkage links.old }
     {
-        match Description::of_entry(room, unit, links, entries, entry.code, depth.is_some()) {
+        match Description::of_entry(room, unit, links, entries, entry.code, true) {
             Ok(description) => self.with_described(room, unit, depth, &description),
             Err(fault) => Err(fault),
         }
@@ -198,11 +197,16 @@ impl CallLists {
             room.take(walk_words(before, entry.place))?;
             before = entry.place;
             let depth = levels.call_depth(entry.tag);
+            levels.pass(&entry)?;
+            // most entries are no calls, and the lists stay where they are
+            let Some(depth) = depth else {
+                entries.skip_attributes()?;
+                continue;
+            };
             lists = match lists.with_entry(room, unit, links, entries, &entry, depth) {
                 Ok(more) => more,
                 Err(fault) => return Err(fault),
             };
-            levels.pass(&entry)?;
         }
         Ok(lists)
     }
