@@ -1,4 +1,5 @@
 pub mod ProgramSteps
+pub mod UsualSteps
 pub mod TableSteps
 pub mod AllFiles
 pub mod RowsUpTo

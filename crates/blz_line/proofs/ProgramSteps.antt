@@ -65,7 +65,3 @@ run_fails r counts s m n at next op old k total em lt h fails so =
 pub run_done : (r : Rules) (counts : List ℕ) (s : Contents) (m n at : ℕ) (old : State) → m ≡ suc n → length s.bytes ≤ at → run_in r counts s m old at ≡ Some old
 unfolding run_in
 run_done r counts s m n at old e le = let f = le-ltb at (length s.bytes) le in rw (e, f) refl
-
-pub run_out : (r : Rules) (counts : List ℕ) (s : Contents) (m at : ℕ) (old : State) → m ≡ 0 → run_in r counts s m old at ≡ None
-unfolding run_in
-run_out r counts s m at old e = rw e refl

@@ -16,3 +16,4 @@ pub mod RowOrder
 pub mod Lookups
 pub mod LinesFields
 pub mod TableView
+pub mod Usual

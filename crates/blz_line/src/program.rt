@@ -1,12 +1,15 @@
 //! The machine that runs a line number program.
 ghost use Rattle.std.specs.Prelude.{◌≡◌, ◌≤◌, ◌<◌, ◌+◌, length, IfOk};
 ghost use Rattle.blz_info.specs.Contents.{section_view};
-ghost use Rattle.blz_line.specs.Program.{first_state, last_is_at, state_of, with_row, row_of, ended, run_from, GivesState, NotesOp};
+ghost use Rattle.blz_line.specs.Program.{first_state, last_is_at, state_of, with_row, row_of, makes_row, ended, run_from, GivesState, NotesOp};
 ghost use Rattle.blz_line.specs.Registers.{first_registers};
+
+mod usual;
 
 use crate::broken::broken;
 use crate::opcode::{Op, op_at};
 use crate::paths::FileEntry;
+use crate::program::usual::run_usual;
 use crate::registers::Registers;
 use crate::row::{LineRow, LineSequence};
 use crate::rules::Rules;
@@ -26,6 +29,7 @@ fn last_is_at(rows: &[LineRow], address: u64) -> bool
     }
 }
 
+#[inline(always)]
 #[tactic(auto, unfolding(crate::specs::Program::with_row))]
 fn put_row(rows: &mut Vec<LineRow>, row: LineRow) -> std::result::Result<(), AllocError>
     ensures { IfOk result (λ _. rows.new.items ≡ with_row rows.old.items row) }
@@ -84,16 +88,24 @@ impl Given {
         (self.sequences, self.files)
     }
 
+    /// Makes a row of the registers, unless the sequence is skipped.
+    #[inline(always)]
+    fn make_row(&mut self, registers: Registers) -> std::result::Result<(), AllocError>
+        ensures { IfOk result
+            (λ _. state_of registers self.new ≡ makes_row (state_of registers self.old)) }
+    {
+        if !registers.skipping {
+            put_row(&mut self.rows, row_of(registers))?;
+        }
+        Ok(())
+    }
+
     /// Notes what an opcode does that left the registers so, and gives the registers behind it.
     fn noted(&mut self, alloc: Global, registers: Registers, op: Op) -> Result<Registers>
         ensures { NotesOp op registers self.old self.new result }
     {
         match op {
-            Op::Special(_) | Op::Copy => {
-                if !registers.skipping {
-                    put_row(&mut self.rows, row_of(registers))?;
-                }
-            }
+            Op::Special(_) | Op::Copy => self.make_row(registers)?,
             Op::EndSequence => {
                 self.end(alloc, registers)?;
                 return Ok(Registers::first());
@@ -141,8 +153,8 @@ pub fn run(
     let mut given = Given::new(alloc, files);
     let mut registers = Registers::first();
     let mut offset = at;
-    // an opcode takes a byte at least, so the bytes end first
-    for _ in 0..section.bytes.len() + 1 {
+    loop {
+        offset = run_usual(rules, section.bytes, offset, &mut registers, &mut given)?;
         if offset >= section.bytes.len() {
             return Ok(given);
         }
@@ -155,5 +167,4 @@ pub fn run(
         registers = given.noted(alloc, moved, op)?;
         offset = next;
     }
-    Err(broken())
 }

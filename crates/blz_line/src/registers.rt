@@ -1,5 +1,5 @@
 //! The registers of the machine.
-ghost use Rattle.std.specs.Prelude.{◌≡◌, ◌<◌, ◌/◌, ◌%◌};
+ghost use Rattle.std.specs.Prelude.{◌≡◌, ◌<◌, ◌/◌, ◌%◌, pos, ◌+ℤ◌};
 ghost use Rattle.blz_line.specs.Registers.{first_registers, greatest, advanced, moved_on, set_address, line_plus, special, moved_by};
 
 use crate::opcode::Op;
@@ -17,7 +17,7 @@ pub struct Registers {
     pub skipping: bool,
 }
 
-fn greatest(rules: Rules) -> u64
+pub(crate) fn greatest(rules: Rules) -> u64
     ensures { result ≡ greatest rules }
 {
     if rules.address_size == 4 {
@@ -41,7 +41,7 @@ fn instructions(total: u128, max_ops: u8) -> (u128, u64)
     (total / max_ops, (total % max_ops) as u64)
 }
 
-fn line_plus(line: u64, by: i64) -> u64
+pub(crate) fn line_plus(line: u64, by: i64) -> u64
     ensures { result ≡ line_plus line by }
 {
     if by < 0 {
@@ -49,6 +49,16 @@ fn line_plus(line: u64, by: i64) -> u64
     } else {
         line.wrapping_add(by as u64)
     }
+}
+
+/// The line behind a special opcode.
+#[inline(always)]
+pub(crate) fn line_behind(line: u64, rules: Rules, code: u8) -> u64
+    requires { 0 < rules.line_range }
+    ensures { result ≡ line_plus line (rules.line_base +ℤ pos (code % rules.line_range)) }
+{
+    let by = i64::from(rules.line_base) + i64::from(code % rules.line_range);
+    line_plus(line, by)
 }
 
 impl Registers {
@@ -136,9 +146,8 @@ impl Registers {
         ensures value { result ≡ special rules self code }
     {
         let after = self.advanced(rules, u64::from(code / rules.line_range))?;
-        let by = i64::from(rules.line_base) + i64::from(code % rules.line_range);
         Some(Registers {
-            line: line_plus(after.line, by),
+            line: line_behind(after.line, rules, code),
             ..after
         })
     }

@@ -1,45 +1,55 @@
-use Rattle.std.proofs.Common.{◌-◌, length, sym, ap, ◌∙◌, arith}
+use Rattle.std.proofs.Common.{◌-◌, ◌+◌, length, refl, sym, ◌∙◌, arith}
 use Rattle.std.proofs.lemmas.Result.{err_from_is_err_and}
 use Rattle.blz_info.specs.Contents.{section_view}
-use Rattle.blz_line.specs.Program.{first_state, run_from, run_in, state_of}
-use Rattle.blz_line.proofs.ProgramSteps.{run_more, run_none, run_done, run_out, run_stuck, fails_none, step_given, step_none}
+use Rattle.blz_line.specs.Program.{run_from}
+use Rattle.blz_line.proofs.ProgramSteps.{run_none, run_done, run_stuck, fails_none, step_given, step_none}
+use Rattle.blz_line.proofs.UsualSteps.{leaves_on, leaves_less}
 use Rattle.blz_line.proofs.program.run.Goals as goal
 
-pub loop-init : goal.loop-init
+pub loop-given-init : goal.loop-given-init
 unfolding run_from
-loop-init c = record {
+loop-given-init c = record {
   within = c.requires.within;
-  rest = rw (c.first-registers.ensures, c.new-given.ensures) (ap (λ n. run_in c.args.rules c.args.counts.now (section_view c.args.section.now) n (first_state c.args.files) c.args.at) (omega arith));
+  leaves = record {
+    within = c.requires.within;
+    steps = length c.args.section.now.bytes.now + 1;
+    enough = omega arith;
+    rest = rw (c.first-registers.ensures, c.new-given.ensures) refl;
+  };
 }
 
 pub returns-then-offset-section : goal.returns-then-offset-section
-returns-then-offset-section c = record {
-  registers = c.loop.registers;
-  is = sym c.loop.invariant.rest ∙ run_done _ _ _ _ (length c.args.section.now.bytes.now - c.loop.counter) _ _ (omega arith) (omega arith);
-}
+returns-then-offset-section c =
+    let left = leaves_on c.args.rules c.args.counts.now (section_view c.args.section.now) _ _ _ _ _ c.in_ok-offset.ensures c.loop-given.invariant.leaves in
+    let enough = left.enough in
+    record {
+      registers = c.run_usual.new.registers;
+      is = sym left.rest ∙ run_done _ _ _ left.steps (left.steps - 1) _ _ (omega (arith, enough)) (omega arith);
+    }
 
-pub loop-preserved : goal.loop-preserved
-loop-preserved c =
-    let stepped = step_given c.args.rules c.loop.registers c.in-Some-moved_by.moved c.in_ok-registers.registers c.loop.given c.noted.new.self c.in-Some.op (sym c.in-Some-moved_by.ensures.value) c.in_ok-registers.ensures in
+pub loop-given-preserved : goal.loop-given-preserved
+loop-given-preserved c =
+    let left = leaves_on c.args.rules c.args.counts.now (section_view c.args.section.now) _ _ _ _ _ c.in_ok-offset.ensures c.loop-given.invariant.leaves in
+    let stepped = step_given c.args.rules c.run_usual.new.registers c.in-Some-moved_by.moved c.in_ok-registers.registers c.run_usual.new.given c.noted.new.self c.in-Some.op (sym c.in-Some-moved_by.ensures.value) c.in_ok-registers.ensures in
     record {
       within = c.in-Some.ensures.within.1;
-      rest = ap (λ n. run_in c.args.rules c.args.counts.now (section_view c.args.section.now) n (state_of c.in_ok-registers.registers c.noted.new.self) c.in-Some.next) (omega arith)
-          ∙ sym (run_more _ _ _ _ (length c.args.section.now.bytes.now - c.loop.counter) _ _ c.in-Some.op _ _ (omega arith) (omega arith) (sym c.in-Some.ensures.value) stepped)
-          ∙ c.loop.invariant.rest;
+      leaves = leaves_less _ _ _ _ _ _ _ _ c.in-Some.op (omega arith) (sym c.in-Some.ensures.value) stepped c.in-Some.ensures.within.0 c.in-Some.ensures.within.1 left;
     }
 
 pub returns-in_default : goal.returns-in_default
-returns-in_default c = fails_none _ _ c.broken.ensures (sym c.loop.invariant.rest ∙ run_none _ _ _ _ (length c.args.section.now.bytes.now - c.loop.counter) _ _ (omega arith) (omega arith) (sym c.in_default.ensures.value))
+returns-in_default c =
+    let left = leaves_on c.args.rules c.args.counts.now (section_view c.args.section.now) _ _ _ _ _ c.in_ok-offset.ensures c.loop-given.invariant.leaves in
+    let enough = left.enough in
+    fails_none _ _ c.broken.ensures (sym left.rest ∙ run_none _ _ _ left.steps (left.steps - 1) _ _ (omega (arith, enough)) (omega arith) (sym c.in_default.ensures.value))
 
 pub returns-in_default-moved_by : goal.returns-in_default-moved_by
 returns-in_default-moved_by c =
-    let stuck = step_none c.args.rules c.loop.registers c.loop.given c.in-Some.op (sym c.in_default-moved_by.ensures.value) in
-    fails_none _ _ c.broken-in_default-moved_by.ensures (sym c.loop.invariant.rest ∙ run_stuck _ _ _ _ (length c.args.section.now.bytes.now - c.loop.counter) _ _ c.in-Some.op _ (omega arith) (omega arith) (sym c.in-Some.ensures.value) stuck)
+    let left = leaves_on c.args.rules c.args.counts.now (section_view c.args.section.now) _ _ _ _ _ c.in_ok-offset.ensures c.loop-given.invariant.leaves in
+    let enough = left.enough in
+    let stuck = step_none c.args.rules c.run_usual.new.registers c.run_usual.new.given c.in-Some.op (sym c.in_default-moved_by.ensures.value) in
+    fails_none _ _ c.broken-in_default-moved_by.ensures (sym left.rest ∙ run_stuck _ _ _ left.steps (left.steps - 1) _ _ c.in-Some.op _ (omega (arith, enough)) (omega arith) (sym c.in-Some.ensures.value) stuck)
 
 pub returns-in_err-registers : goal.returns-in_err-registers
 returns-in_err-registers c =
-    let p = err_from_is_err_and c.from_residual.result c.from_residual.ensures.1 in
+    let p = err_from_is_err_and c.from_residual-in_err-registers.result c.from_residual-in_err-registers.ensures.1 in
     rw (p.1, p.2) (λ known. absurd (known c.in_err-registers.ensures))
-
-pub returns : goal.returns
-returns c = fails_none _ _ c.broken-2.ensures (sym c.loop.invariant.rest ∙ run_out _ _ _ _ _ _ (omega arith))
