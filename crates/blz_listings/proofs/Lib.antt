@@ -1,0 +1,9 @@
+pub mod Tallying
+pub mod ShownTexts
+pub mod PlaceLaws
+pub mod TableSteps
+pub mod Gathering
+pub mod RowSteps
+pub mod GatherSteps
+pub mod Answered
+pub mod FoundCauses

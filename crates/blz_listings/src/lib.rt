@@ -1,0 +1,13 @@
+//! Listings of an image: the lines that have code.
+#![tactic(auto)]
+
+mod gather;
+pub mod laws;
+mod lines;
+mod listing;
+mod place_table;
+mod texts;
+mod wanted;
+mod words;
+
+pub use lines::{blz_lines, run_lines};
