@@ -1,0 +1,4 @@
+//! Listings that are asked of whole images.
+
+mod images;
+mod lines;
