@@ -16,7 +16,7 @@ class Attack(NamedTuple):
     addresses: list  # which blz_tool is asked for
     package: bytes = b""  # what stands beside it, with `.dwp` behind its path
     program: str = "blz_tool"
-    question: str = ""  # a file and a line for blz_rows
+    question: str = ""  # a file and a line for blz_rows, an option of blz_lines
     listed: bytes = b""  # the stacks of blz_fold, the hits of blz_cover
 
     def size(self):
@@ -26,6 +26,8 @@ class Attack(NamedTuple):
         """The words of the program, where the image stands at a path and what is listed at that path with `.listed` behind it."""
         if self.program == "blz_tool":
             return [path, *[f"{address:#x}" for address in self.addresses]]
+        if self.program == "blz_lines":
+            return [*self.question.split(), path]
         return [path, self.question or path + ".listed"]
 
 

@@ -1,4 +1,4 @@
-"""Shapes of what blz_fold, blz_rows and blz_cover are asked: stacks, lines and hits, beside calls, rows and units."""
+"""Shapes of what the other programs are asked: stacks, lines and hits, beside calls, rows and units."""
 from images.image_parts import DW_AT_COMP_DIR, DW_FORM_STRP, END_SEQUENCE, RANGE, entry, line_program, set_address, unit
 from attack.shapes.lines import NEXT_ROW, many_rows
 from attack.shapes.making import (
@@ -58,14 +58,18 @@ def hits_of_each_unit_of_one_program(n):
     return covered(units_of_rows(n, plain_program(many_rows(32 * n))), [BASE + 2 * k for k in range(n)])
 
 
-@shape
-def lines_that_are_hit_of_a_file_of_a_long_path(n):
-    # each row is of another line: the texts of all of them have the path
+def rows_of_a_long_path(n):
+    """A unit whose rows are each of another line: the texts of all of them have the path."""
     rows = b"".join(b"\x03\x01" + NEXT_ROW for _ in range(n))
     program = line_program(["/p", "/" + "p" * (16 * n)], [("a.c", 1)], b"\x04\x00" + set_address(BASE) + rows + END_SEQUENCE)
     shapes = {ROOT: root([*RANGE, LINES]), FUNCTION: subprogram(RANGE)}
     below = entry(shapes, ROOT, BASE, 2 * n, 0) + entry(shapes, FUNCTION, BASE, 2 * n) + b"\0"
-    return covered(dwarf(shapes, unit(below), line=program), [BASE + k for k in range(n)])
+    return dwarf(shapes, unit(below), line=program)
+
+
+@shape
+def lines_that_are_hit_of_a_file_of_a_long_path(n):
+    return covered(rows_of_a_long_path(n), [BASE + k for k in range(n)])
 
 
 def rows_of(image):
@@ -85,3 +89,31 @@ def rows_of_units_of_one_long_path(n):
     programs = [plain_program(set_address(BASE) + NEXT_ROW + END_SEQUENCE)] * n
     units = [unit(entry(shapes, ROOT, BASE, 4, at, 0)) for at in begins_of(programs)]
     return rows_of(dwarf(shapes, b"".join(units), line=b"".join(programs), str=long_text(4 * n)))
+
+
+# ---- all lines
+
+
+def lines_of(image, option=""):
+    """blz_lines."""
+    return Attack(image, [BASE], program="blz_lines", question=option)
+
+
+@shape
+def lines_of_units_of_one_program(n):
+    return lines_of(units_of_rows(n, plain_program(many_rows(32 * n))))
+
+
+@shape
+def lines_of_a_file_of_a_long_path(n):
+    return lines_of(rows_of_a_long_path(n))
+
+
+@shape
+def listed_rows_of_units_of_one_program(n):
+    return lines_of(units_of_rows(n, plain_program(many_rows(32 * n))), "--rows")
+
+
+@shape
+def listed_rows_of_a_file_of_a_long_path(n):
+    return lines_of(rows_of_a_long_path(n), "--rows")
