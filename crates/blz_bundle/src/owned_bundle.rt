@@ -11,12 +11,23 @@ use crate::{Bundle, Companion};
 use std::marker::Model;
 
 /// An image and its companions, with their own bytes and texts.
-#[derive(Drop)]
 pub struct OwnedBundle {
     main: OpenFile,
     linkee: Option<OpenFile>,
     supplementary: Option<OpenFile>,
     package: Option<OpenFile>,
+}
+
+// Written out, so that letting go of one is a call, which is proved once, and not a walk through it at each place.
+impl Drop for OwnedBundle {
+    fn drop(self) {
+        let OwnedBundle {
+            main: _,
+            linkee: _,
+            supplementary: _,
+            package: _,
+        } = self;
+    }
 }
 
 impl Model for OwnedBundle {

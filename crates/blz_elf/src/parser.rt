@@ -36,11 +36,21 @@ use std::alloc::Global;
 use std::marker::Model;
 
 /// One ELF image: its sections, and the symbols of its addresses. What was read is kept.
-#[derive(Drop)]
 pub struct ElfParser<'b> {
     image: &'b [u8],
     module: Option<&'b str>,
     warm: ElfWarm,
+}
+
+// Written out, so that letting go of one is a call, which is proved once, and not a walk through it at each place.
+impl<'b> Drop for ElfParser<'b> {
+    fn drop(self) {
+        let ElfParser {
+            image: _,
+            module: _,
+            warm: _,
+        } = self;
+    }
 }
 
 impl<'b> Model for ElfParser<'b> {

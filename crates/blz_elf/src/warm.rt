@@ -9,7 +9,6 @@ use blz_symbols::table::Table;
 use std::alloc::Global;
 
 /// The parts of an image that were read, as places and numbers.
-#[derive(Drop)]
 pub struct ElfWarm {
     pub(crate) header: Cache<Header>,
     pub(crate) sections: Cache<Rows>,
@@ -21,4 +20,22 @@ pub struct ElfWarm {
     pub(crate) relocations: Cache<SectionRelocations>,
     pub(crate) prepared: bool,
     pub(crate) alloc: Global,
+}
+
+// Written out, so that letting go of one is a call, which is proved once, and not a walk through it at each place.
+impl Drop for ElfWarm {
+    fn drop(self) {
+        let ElfWarm {
+            header: _,
+            sections: _,
+            frame: _,
+            symtab: _,
+            dynsym: _,
+            symtab_names: _,
+            dynsym_names: _,
+            relocations: _,
+            prepared: _,
+            alloc: _,
+        } = self;
+    }
 }

@@ -8,13 +8,24 @@ use std::alloc::{AllocError, AllocFailed, Global};
 use std::marker::Model;
 
 /// A kind, a list of texts with the outermost first, and an optional mismatch. The list is never empty.
-#[derive(Drop)]
 pub struct Error {
     kind: ErrorKind,
     innermost: Str,
     // the texts that were put on top, the outermost last
     contexts: Option<Vec<Str>>,
     mismatch: Option<Mismatch>,
+}
+
+// Written out, so that letting go of one is a call, which is proved once, and not a walk through it at each place.
+impl Drop for Error {
+    fn drop(self) {
+        let Error {
+            kind: _,
+            innermost: _,
+            contexts: _,
+            mismatch: _,
+        } = self;
+    }
 }
 
 impl Model for Error {

@@ -34,11 +34,21 @@ use std::sync::ledger::Blank;
 
 /// The units of a file, each known by its number. What was read of them is kept, as places and numbers. What may be read
 /// and kept is bounded by the sizes of the file's sections: past that, a call answers that there is no memory.
-#[derive(Drop)]
 pub struct Units {
     pub(crate) table: UnitTable,
     pub(crate) caches: Caches,
     pub(crate) prepared: bool,
+}
+
+// Written out, so that letting go of one is a call, which is proved once, and not a walk through it at each place.
+impl Drop for Units {
+    fn drop(self) {
+        let Units {
+            table: _,
+            caches: _,
+            prepared: _,
+        } = self;
+    }
 }
 
 // An error of a part that was read within the file's room, which says so where it is the room that had no more.

@@ -18,12 +18,23 @@ use std::marker::Model;
 use std::sync::ledger::Ledger;
 
 /// Ranges in groups, and where their order was accepted the same in that order.
-#[derive(Drop)]
 pub struct GroupIndex {
     list: Counted<Grouped>,
     order: Counted<Ordered>,
     skips: Counted<Skip>,
     ordered: bool,
+}
+
+// Written out, so that letting go of one is a call, which is proved once, and not a walk through it at each place.
+impl Drop for GroupIndex {
+    fn drop(self) {
+        let GroupIndex {
+            list: _,
+            order: _,
+            skips: _,
+            ordered: _,
+        } = self;
+    }
 }
 
 impl Model for GroupIndex {

@@ -101,10 +101,16 @@ impl RelocationMap {
 }
 
 /// The relocations of all sections, by the number of the section.
-#[derive(Drop)]
 pub struct SectionRelocations {
     maps: BTreeMap<usize, RelocationMap>,
     none: RelocationMap,
+}
+
+// Written out, so that letting go of one is a call, which is proved once, and not a walk through it at each place.
+impl Drop for SectionRelocations {
+    fn drop(self) {
+        let SectionRelocations { maps: _, none: _ } = self;
+    }
 }
 
 impl Model for SectionRelocations {

@@ -9,8 +9,10 @@ ghost use Rattle.blz_bundle.specs.BundleViews.{bundle_view};
 ghost use Rattle.blz_resolver.specs.FormatKinds.{IsMemoryOrFormat};
 ghost use Rattle.blz_resolver.specs.Resolver.{Stays, HasBookIf, has_debug, UnitsStayIf, units_in};
 ghost use Rattle.blz_resolver.specs.Sources.{IsOf, asked_file};
+ghost use Rattle.blz_resolver.specs.WarmFits.{WarmFits, warm_prepared, warm_units};
 
 use crate::debug::debug_info::DebugInfo;
+use crate::warm::{Warm, warm_debug};
 use blz_bundle::Bundle;
 use blz_bytes::Orders;
 use blz_elf::{Answer, ElfParser, FindSymOpts};
@@ -19,7 +21,6 @@ use std::alloc::Global;
 use std::marker::Model;
 
 /// Answers for the addresses and names of one bundle. What was read is kept.
-#[derive(Drop)]
 pub struct ElfResolver<'b> {
     pub(crate) alloc: Global,
     pub(crate) bundle: Bundle<'b>,
@@ -27,6 +28,19 @@ pub struct ElfResolver<'b> {
     pub(crate) parser: ElfParser<'b>,
     pub(crate) debug: Option<DebugInfo<'b>>,
     pub(crate) prepared: bool,
+}
+
+// Written out, so that letting go of one is a call, which is proved once, and not a walk through it at each place.
+impl<'b> Drop for ElfResolver<'b> {
+    fn drop(self) {
+        let ElfResolver {
+            alloc: _,
+            bundle: _,
+            parser: _,
+            debug: _,
+            prepared: _,
+        } = self;
+    }
 }
 
 impl<'b> Model for ElfResolver<'b> {
@@ -69,6 +83,26 @@ fn find_sym<'b, O: Orders>(
 }
 
 impl<'b> ElfResolver<'b> {
+    /// What is kept, without the images; takes no memory.
+    pub fn into_warm(self) -> Warm
+        ensures fits { WarmFits self.entry.images result }
+        ensures units { warm_units result ≡ self.entry.units }
+        ensures is_prepared { warm_prepared result ≡ self.entry.prepared }
+    {
+        let ElfResolver {
+            alloc: _,
+            bundle,
+            parser,
+            debug,
+            prepared,
+        } = self;
+        Warm {
+            elf: parser.into_warm(),
+            debug: warm_debug(&bundle, debug),
+            prepared,
+        }
+    }
+
     /// A resolver of the bundle with its debug information. The frame is read: the debug sections of the debug file and of
     /// the supplementary file, the sections of the package, and the headers of all units (DWARF 5 section 7.5.1). Refused
     /// by the first mark of the frame: InvalidData, InvalidInput, InvalidDwarf or Unsupported.

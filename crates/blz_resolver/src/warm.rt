@@ -51,7 +51,7 @@ fn relocations_of(sup: Option<DebugImage<'_>>) -> Option<SectionRelocations>
     }
 }
 
-fn warm_debug<'b>(bundle: &Bundle<'b>, debug: Option<DebugInfo<'b>>) -> Option<WarmDebug>
+pub(crate) fn warm_debug<'b>(bundle: &Bundle<'b>, debug: Option<DebugInfo<'b>>) -> Option<WarmDebug>
     requires { HasBookIf (bundle_view bundle.now) debug }
     ensures fits { WarmBookIf (bundle_view bundle.now) result }
     ensures units { warm_units_in result ≡ units_in debug.entry }
@@ -158,20 +158,6 @@ fn info_again<'b>(
 }
 
 impl<'b> ElfResolver<'b> {
-    /// What is kept, without the images; takes no memory.
-    pub fn into_warm(self) -> Warm
-        ensures fits { WarmFits self.entry.images result }
-        ensures units { warm_units result ≡ self.entry.units }
-        ensures is_prepared { warm_prepared result ≡ self.entry.prepared }
-    {
-        let bundle = self.bundle;
-        Warm {
-            elf: self.parser.into_warm(),
-            debug: warm_debug(&bundle, self.debug),
-            prepared: self.prepared,
-        }
-    }
-
     /// A resolver of the bundle that the kept parts fit; takes no memory. With debug information the frame was read.
     pub fn from_warm(alloc: Global, bundle: &Bundle<'b>, warm: Warm) -> ElfResolver<'b>
         requires { WarmFits (bundle_view bundle.now) warm }

@@ -32,12 +32,22 @@ pub enum Side {
 }
 
 /// The units of a file that were built, and what they share.
-#[derive(Drop)]
 pub struct SideUnits {
     pub units: Vec<Cache<BuiltUnit>>,
     pub shared: SharedParts,
     /// What was read of the index of the package, from whose units those of the file itself are read.
     pub packed: SharedPackage,
+}
+
+// Written out, so that letting go of one is a call, which is proved once, and not a walk through it at each place.
+impl Drop for SideUnits {
+    fn drop(self) {
+        let SideUnits {
+            units: _,
+            shared: _,
+            packed: _,
+        } = self;
+    }
 }
 
 /// The units that were built: the kept ones of the file itself, and those of the supplementary file.

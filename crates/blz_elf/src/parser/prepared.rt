@@ -89,7 +89,12 @@ impl<'b> ElfParser<'b> {
         ensures prepared { warm_prepared result ≡ self.entry.prepared }
         ensures relocated { warm_relocated result ≡ self.entry.relocated }
     {
-        self.warm
+        let ElfParser {
+            image: _,
+            module: _,
+            warm,
+        } = self;
+        warm
     }
 
     /// A parser of the image that the kept parts fit.
