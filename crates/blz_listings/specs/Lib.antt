@@ -4,4 +4,4 @@ pub mod ListingViews
 pub mod Shown
 pub mod Questions
 pub mod LineTexts
-pub mod LineViews
+pub mod QuestionViews

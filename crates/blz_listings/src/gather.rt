@@ -8,6 +8,7 @@ ghost use Rattle.blz_resolver.specs.Resolver.{has_debug};
 ghost use Rattle.blz_resolver.specs.RowsViews.{rows_view};
 ghost use Rattle.blz_resolver.specs.UnitRowsRead.{rows_of, unit_count_of};
 ghost use Rattle.blz_rows.specs.Entries.{end_before, entries_in, row_entry, row_entries, sequence_entries};
+ghost use Rattle.blz_listings.specs.LineTexts.{lines_text};
 ghost use Rattle.blz_listings.specs.Shown.{after, file_path, shown_of};
 
 use crate::listing::{ListedRow, Listing};
@@ -19,10 +20,23 @@ use blz_program::push_path;
 use blz_resolver::{Bundle, ElfResolver, UnitRows};
 use std::alloc::Global;
 
-/// The rows of an image, as it is wanted: of the units in their order, their sequences and their rows. Refused by the
-/// first mark: those of the frame; then InvalidDwarf for lines without a value, and for a row whose file is not there
+/// The text of the lines of an image, as it is wanted: of the units in their order, their sequences and their rows. Refused
+/// by the first mark: those of the frame; then InvalidDwarf for lines without a value, and for a row whose file is not there
 /// (DWARF 5 section 6.2).
-pub fn listing_of<O: Orders>(
+pub fn lines_text<O: Orders>(
+    alloc: Global,
+    orders: &mut O,
+    bundle: &Bundle<'_>,
+    wanted: Wanted,
+) -> Result<Vec<u8>>
+    ensures value { Gives (λ v. v.items) result (lines_text wanted (bundle_view bundle.now)) }
+    ensures kinds { IfErr result (λ e. IsMemoryOrFormat e.kind) }
+{
+    let listing = listing_of(alloc, orders, bundle, wanted)?;
+    Ok(listing.into_text(alloc)?)
+}
+
+fn listing_of<O: Orders>(
     alloc: Global,
     orders: &mut O,
     bundle: &Bundle<'_>,

@@ -6,6 +6,8 @@ pub mod laws;
 mod lines;
 mod listing;
 mod place_table;
+mod question;
+mod running;
 mod texts;
 mod wanted;
 mod words;

@@ -1,40 +1,30 @@
 //! What the words of the command line ask for.
 ghost use Rattle.std.specs.Prelude.{◌≡◌, map, option_map, string_bytes};
 ghost use Rattle.blz_listings.specs.LineTexts.{lines_asked};
+ghost use Rattle.blz_listings.specs.QuestionViews.{question_view};
 
+use crate::question::{Question, Topic};
 use crate::wanted::Wanted;
 
-/// What is asked of the lines of an image.
-#[derive(Clone, Copy)]
-pub struct LinesQuestion<'w> {
-    pub wanted: Wanted,
-    /// The path of the image.
-    pub path: &'w str,
-}
-
-impl<'w> LinesQuestion<'w> {
-    ghost use Rattle.blz_listings.specs.LineViews.{lines_view};
-
-    /// What the words ask for; None exactly where they are not of the form `[--rows] IMAGE`.
-    pub fn from_words(words: &'w [String]) -> Option<LinesQuestion<'w>>
-        ensures { option_map lines_view result ≡ lines_asked (map string_bytes words.entry.now) }
-    {
-        match words {
-            [path] => Some(LinesQuestion {
-                wanted: Wanted::Places,
-                path: path.as_str(),
-            }),
-            [option, path] => {
-                if option.as_str() == "--rows" {
-                    Some(LinesQuestion {
-                        wanted: Wanted::Entries,
-                        path: path.as_str(),
-                    })
-                } else {
-                    None
-                }
+/// What the words of blz_lines ask for; None exactly where they are not of the form `[--rows] IMAGE`.
+pub fn lines_question(words: &[String]) -> Option<Question<'_>>
+    ensures { option_map question_view result ≡ lines_asked (map string_bytes words.entry.now) }
+{
+    match words {
+        [path] => Some(Question {
+            path: path.as_str(),
+            topic: Topic::Lines(Wanted::Places),
+        }),
+        [option, path] => {
+            if option.as_str() == "--rows" {
+                Some(Question {
+                    path: path.as_str(),
+                    topic: Topic::Lines(Wanted::Entries),
+                })
+            } else {
+                None
             }
-            _ => None,
         }
+        _ => None,
     }
 }

@@ -1,0 +1,16 @@
+-- What a question of the code stands for.
+use Rattle.blz_error.specs.Texts.{Bytes}
+use Rattle.blz_model.specs.Part.{Part}
+use Rattle.blz_resolver.specs.Images.{ImageSet}
+use Rattle.blz_listings.specs.LineTexts.{lines_text}
+use Rattle.blz_listings.specs.Questions as asking
+use Rattle.blz_listings.specs.declared.question.Question.{Question}
+use Rattle.blz_listings.specs.declared.question.Topic.{Topic}
+use Rattle.blz_listings.specs.declared.question.Topic.TheVariants.{Lines}
+
+-- the text that is asked of a bundle
+abbrev pub topic_text : Topic → ImageSet → Part Bytes
+topic_text (Lines wanted) images = lines_text wanted images
+
+abbrev pub question_view : Question → asking.Question
+question_view q = record { path = q.path.now; text_for = topic_text q.topic }

@@ -1,0 +1,17 @@
+//! What is asked of an image.
+use crate::wanted::Wanted;
+
+/// What is listed.
+#[derive(Clone, Copy)]
+pub enum Topic {
+    /// The lines that have code.
+    Lines(Wanted),
+}
+
+/// What is listed, and of which image.
+#[derive(Clone, Copy)]
+pub struct Question<'w> {
+    /// The path of the image.
+    pub path: &'w str,
+    pub topic: Topic,
+}
