@@ -4,7 +4,7 @@ import re
 from pathlib import Path
 
 TOP = Path(__file__).resolve().parent.parent
-PROGRAMS = ("blz_tool", "blz_fold", "blz_rows", "blz_cover", "blz_lines")
+PROGRAMS = ("blz_tool", "blz_fold", "blz_rows", "blz_cover", "blz_lines", "blz_find")
 
 
 def read_crates(top=TOP):

@@ -38,10 +38,14 @@ def lines(path, addresses, pick):
     return {}, [*pick.choice([[], ["--rows"]]), path]
 
 
+def find(path, addresses, pick):
+    return {}, [*pick.choice([[], ["--file-offset"]]), path, *pick.choice([[], ["main", "f"]])]
+
+
 # by program: how it is asked, and the statuses that it may end with beside want of memory
-ASKED = {"blz_tool": tool, "blz_fold": fold, "blz_rows": rows, "blz_cover": cover, "blz_lines": lines}
+ASKED = {"blz_tool": tool, "blz_fold": fold, "blz_rows": rows, "blz_cover": cover, "blz_lines": lines, "blz_find": find}
 STATUSES = {"blz_tool": {0, 1, 2}, "blz_fold": {0, 1, 2, 5}, "blz_rows": {0, 1, 2}, "blz_cover": {0, 1, 2, 5},
-            "blz_lines": {0, 1, 2}}
+            "blz_lines": {0, 1, 2}, "blz_find": {0, 1, 2}}
 
 
 def asked_of(program, path, files, addresses, pick):

@@ -7,3 +7,8 @@ pub mod RowSteps
 pub mod GatherSteps
 pub mod Answered
 pub mod FoundCauses
+pub mod InfoSteps
+pub mod NameSteps
+pub mod ToldNames
+pub mod PlaceSteps
+pub mod FindMarks

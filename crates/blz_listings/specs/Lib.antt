@@ -4,4 +4,7 @@ pub mod ListingViews
 pub mod Shown
 pub mod Questions
 pub mod LineTexts
+pub mod KeptLists
+pub mod FindTexts
+pub mod FindLaws
 pub mod QuestionViews

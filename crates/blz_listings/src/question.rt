@@ -1,11 +1,14 @@
 //! What is asked of an image.
+use crate::sought::Sought;
 use crate::wanted::Wanted;
 
 /// What is listed.
 #[derive(Clone, Copy)]
-pub enum Topic {
+pub enum Topic<'w> {
     /// The lines that have code.
     Lines(Wanted),
+    /// The addresses of names.
+    Addresses(Sought<'w>),
 }
 
 /// What is listed, and of which image.
@@ -13,5 +16,5 @@ pub enum Topic {
 pub struct Question<'w> {
     /// The path of the image.
     pub path: &'w str,
-    pub topic: Topic,
+    pub topic: Topic<'w>,
 }

@@ -10,6 +10,7 @@ ghost use Rattle.blz_listings.specs.QuestionViews.{question_view, topic_text};
 ghost use Rattle.blz_listings.specs.Questions as asking;
 ghost use Rattle.blz_listings.specs.Questions.{Finds, Prints, found_for};
 
+use crate::addresses::find_text;
 use crate::gather::lines_text;
 use crate::question::{Question, Topic};
 use blz_bytes::Orders;
@@ -110,7 +111,7 @@ fn topic_text<O: Orders>(
     alloc: Global,
     orders: &mut O,
     bundle: &OwnedBundle,
-    topic: &Topic,
+    topic: &Topic<'_>,
 ) -> blz_error::Result<Vec<u8>>
     ensures value { Gives (λ v. v.items) result (topic_text topic.now bundle.now) }
     ensures kinds { IfErr result (λ e. IsMemoryOrFormat e.kind) }
@@ -118,5 +119,6 @@ fn topic_text<O: Orders>(
     let bundle = bundle.bundle();
     match topic {
         Topic::Lines(wanted) => lines_text(alloc, orders, &bundle, *wanted),
+        Topic::Addresses(sought) => find_text(alloc, orders, &bundle, sought),
     }
 }
