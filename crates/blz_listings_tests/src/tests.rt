@@ -1,4 +1,5 @@
 //! Listings that are asked of whole images.
 
+mod find;
 mod images;
 mod lines;
